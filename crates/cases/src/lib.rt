@@ -1,0 +1,1 @@
+// The P cases are theorems about the rules: see specs/.

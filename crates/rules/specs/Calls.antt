@@ -1,0 +1,82 @@
+-- "The seventeen calls": a call, its number, and its form.
+use Prim.Native.Nat.{ℕ}
+use mathlib.Core.Bool.{Bool, true, false, cond, not}
+use mathlib.Core.List.{List, [], _∷_}
+use lib.Dec.{eqb, leb}
+use Rattle.rules.specs.Choice.{every}
+use Rattle.rules.specs.Layout.{BLOCK}
+use Rattle.rules.specs.Rights.{bitsKnown, modeOf, modeKnown}
+use Rattle.rules.specs.Paths.{pathOk, isRoot}
+use Rattle.rules.specs.declared.ids.Pid.{Pid}
+use Rattle.rules.specs.declared.ids.Fd.{Fd}
+use Rattle.rules.specs.declared.request.Operation.{Operation}
+use Rattle.rules.specs.declared.request.Operation.the-variants as op
+
+-- "its numbers, paths and bytes with the reader's buffer as lent". The number is a mode, bits, an index or a position; `bytes` are a write's
+-- bytes or a second path. A read's size is the buffer's. Parts that a call does not use are not looked at.
+pub record Call : Type 0 where
+  pub process : Pid
+  pub call : ℕ
+  pub fd : Fd
+  pub number : ℕ
+  pub path : List ℕ
+  pub bytes : List ℕ
+  pub buffer : List ℕ
+
+-- the calls by their numbers
+unfoldable pub operationOf : ℕ → Operation
+operationOf n =
+    cond (eqb n 1) op.Open
+    (cond (eqb n 2) op.Create
+    (cond (eqb n 3) op.MakeDirectory
+    (cond (eqb n 4) op.Unlink
+    (cond (eqb n 5) op.RemoveDirectory
+    (cond (eqb n 6) op.Link
+    (cond (eqb n 7) op.List
+    (cond (eqb n 8) op.ChangeBits
+    (cond (eqb n 9) op.Stat
+    (cond (eqb n 10) op.Close
+    (cond (eqb n 11) op.Read
+    (cond (eqb n 12) op.Write
+    (cond (eqb n 13) op.Seek
+    (cond (eqb n 14) op.Duplicate
+    (cond (eqb n 15) op.Fork
+    (cond (eqb n 16) op.Exit
+    (cond (eqb n 17) op.Execute
+    op.Unknown))))))))))))))))
+
+abbrev pub operation : Call → Operation
+operation c = operationOf (c .call)
+
+-- ---- the form (3): "unknown call or mode, bits over 7, bad path, position over 512, root given where barred"
+
+-- a path that may not be the root: "The root is barred (3) from 2 to 5 and as link's new path"
+unfoldable pub pathBelowRoot : List ℕ → Bool
+pathBelowRoot p = every (pathOk p ∷ not (isRoot p) ∷ [])
+
+-- a file to be made: bits and a path
+unfoldable pub newFileOk : ℕ → List ℕ → Bool
+newFileOk n p = every (bitsKnown n ∷ pathBelowRoot p ∷ [])
+
+unfoldable pub formOk : Operation → (number : ℕ) (path bytes : List ℕ) → Bool
+formOk op.Open n p b = every (modeKnown (modeOf n) ∷ pathOk p ∷ [])
+formOk op.Create n p b = newFileOk n p
+formOk op.MakeDirectory n p b = newFileOk n p
+formOk op.Unlink n p b = pathBelowRoot p
+formOk op.RemoveDirectory n p b = pathBelowRoot p
+formOk op.Link n p b = every (pathOk p ∷ pathBelowRoot b ∷ [])
+formOk op.List n p b = pathOk p
+formOk op.ChangeBits n p b = every (bitsKnown n ∷ pathOk p ∷ [])
+formOk op.Stat n p b = pathOk p
+formOk op.Close n p b = true
+formOk op.Read n p b = true
+formOk op.Write n p b = true
+formOk op.Seek n p b = leb n BLOCK
+formOk op.Duplicate n p b = true
+formOk op.Fork n p b = true
+formOk op.Exit n p b = true
+formOk op.Execute n p b = pathOk p
+formOk op.Unknown n p b = false
+
+abbrev pub wellFormed : Call → Bool
+wellFormed c = formOk (operation c) (c .number) (c .path) (c .bytes)

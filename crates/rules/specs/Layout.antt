@@ -1,0 +1,156 @@
+-- Every size, width, column and limit of the paper, named once. 64 slots to 128 is one line here.
+use Prim.Native.Nat.{ℕ, _+_, _*_}
+
+-- ---- "The store": how many there are of each
+
+abbrev pub SLOTS : ℕ
+SLOTS = 64
+
+-- bytes of a slot
+abbrev pub BLOCK : ℕ
+BLOCK = 512
+
+-- directory entries (the paper's places), and the bytes of one
+abbrev pub DIRENTS : ℕ
+DIRENTS = 16
+
+abbrev pub DIRENT : ℕ
+DIRENT = 16
+
+-- open files (the paper's open entries)
+abbrev pub OPENS : ℕ
+OPENS = 32
+
+abbrev pub PROCESSES : ℕ
+PROCESSES = 8
+
+abbrev pub DESCRIPTORS : ℕ
+DESCRIPTORS = 8
+
+abbrev pub LABELS : ℕ
+LABELS = 16
+
+-- bytes of a name, names and bytes of a path
+abbrev pub NAME : ℕ
+NAME = 14
+
+abbrev pub NAMES : ℕ
+NAMES = 8
+
+abbrev pub PATH : ℕ
+PATH = 64
+
+-- ---- a file's record
+
+abbrev pub FILE : ℕ
+FILE = 7
+
+abbrev pub KIND : ℕ
+KIND = 0
+
+abbrev pub OWNER : ℕ
+OWNER = 1
+
+abbrev pub BITS : ℕ
+BITS = 2
+
+abbrev pub LABEL : ℕ
+LABEL = 3
+
+abbrev pub LENGTH : ℕ
+LENGTH = 4
+
+-- how many directory entries name it (the paper's names)
+abbrev pub LINKS : ℕ
+LINKS = 5
+
+-- the paper's stamp
+abbrev pub VERSION : ℕ
+VERSION = 6
+
+-- kinds
+abbrev pub FREE : ℕ
+FREE = 0
+
+abbrev pub PLAIN : ℕ
+PLAIN = 1
+
+abbrev pub DIRECTORY : ℕ
+DIRECTORY = 2
+
+-- ---- an open file
+
+abbrev pub OPEN : ℕ
+OPEN = 4
+
+abbrev pub SLOT : ℕ
+SLOT = 0
+
+abbrev pub MODE : ℕ
+MODE = 1
+
+-- the paper's position
+abbrev pub OFFSET : ℕ
+OFFSET = 2
+
+abbrev pub REFERENCES : ℕ
+REFERENCES = 3
+
+-- ---- a process: three words of its own, then its descriptors (0 nothing, e + 1 open file e)
+
+abbrev pub PROCESS : ℕ
+PROCESS = 11
+
+abbrev pub OWN : ℕ
+OWN = 3
+
+abbrev pub USED : ℕ
+USED = 0
+
+abbrev pub USER : ℕ
+USER = 1
+
+-- a process's label
+abbrev pub DOMAIN : ℕ
+DOMAIN = 2
+
+-- ---- the policy: rights, then transitions
+
+abbrev pub RIGHTS : ℕ
+RIGHTS = LABELS * LABELS
+
+-- no transition
+abbrev pub NONE : ℕ
+NONE = 255
+
+-- ---- largest values
+
+abbrev pub KIND-MAX : ℕ
+KIND-MAX = 2
+
+abbrev pub USER-MAX : ℕ
+USER-MAX = 65535
+
+abbrev pub BITS-MAX : ℕ
+BITS-MAX = 7
+
+abbrev pub LABEL-MAX : ℕ
+LABEL-MAX = 15
+
+abbrev pub MODE-MAX : ℕ
+MODE-MAX = 4
+
+abbrev pub WORD-MAX : ℕ
+WORD-MAX = 4294967295
+
+-- a number as a call is written down
+abbrev pub NUMBER-MAX : ℕ
+NUMBER-MAX = 65535
+
+-- ---- bytes
+
+abbrev pub SLASH : ℕ
+SLASH = 47
+
+abbrev pub POINT : ℕ
+POINT = 46

@@ -1,0 +1,19 @@
+-- What the store does, in the order of the paper.
+pub mod Choice
+pub mod Scan
+pub mod Layout
+pub mod Refusals
+pub mod Rights
+pub mod Store
+pub mod Paths
+pub mod Directories
+pub mod Walk
+pub mod Sound
+pub mod Calls
+pub mod Checks
+pub mod DecidePaths
+pub mod Decide
+pub mod Effects
+pub mod Step
+pub mod Console
+pub mod Computing

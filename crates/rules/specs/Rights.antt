@@ -1,0 +1,125 @@
+-- Rights, permission bits and open modes: their numbers, and when the bits and the labels grant a right.
+use Prim.Native.Nat.{ℕ, _+_, _-_, _*_, _/_, _%_}
+use mathlib.Core.Bool.{Bool, true, false, cond}
+use mathlib.Core.List.{List, [], _∷_}
+use lib.Dec.{eqb, ltb, leb}
+use lib.ListN.{getD}
+use Rattle.rules.specs.Choice.{every, some, implies}
+use Rattle.rules.specs.Layout.{LABELS, RIGHTS, NONE, BITS-MAX, MODE-MAX}
+use Rattle.rules.specs.declared.rights.Rights.{Rights}
+use Rattle.rules.specs.declared.rights.RightsNumber.{RightsNumber}
+use Rattle.rules.specs.declared.rights.RightsNumber.the-variants as rights
+use Rattle.rules.specs.declared.rights.Bits.{Bits}
+use Rattle.rules.specs.declared.rights.BitsNumber.{BitsNumber}
+use Rattle.rules.specs.declared.rights.BitsNumber.the-variants as bits
+use Rattle.rules.specs.declared.rights.OpenMode.{OpenMode}
+use Rattle.rules.specs.declared.rights.ModeNumber.{ModeNumber}
+use Rattle.rules.specs.declared.rights.ModeNumber.the-variants.{Keep, Truncate, OutOfRange}
+use Rattle.rules.specs.declared.request.Subject.{Subject}
+
+-- ---- "Rights are read 4, write 2, search or execute 1"
+
+abbrev pub READ : Rights
+READ = record { 0 = 4 }
+
+abbrev pub WRITE : Rights
+WRITE = record { 0 = 2 }
+
+abbrev pub READ-WRITE : Rights
+READ-WRITE = record { 0 = 6 }
+
+abbrev pub SEARCH : Rights
+SEARCH = record { 0 = 1 }
+
+abbrev pub EXECUTE : Rights
+EXECUTE = record { 0 = 1 }
+
+abbrev pub rightsKnown : ℕ → Bool
+rightsKnown n = leb n BITS-MAX
+
+unfoldable pub rightsOf : ℕ → RightsNumber
+rightsOf n = cond (rightsKnown n) (rights.Valid (record { 0 = n })) rights.OutOfRange
+
+-- permission bits, 0 to 7
+abbrev pub bitsKnown : ℕ → Bool
+bitsKnown n = leb n BITS-MAX
+
+unfoldable pub bitsOf : ℕ → BitsNumber
+bitsOf n = cond (bitsKnown n) (bits.Valid (record { 0 = n })) bits.OutOfRange
+
+-- ---- "mode 1 read, 2 write, 3 both, 4 append, plus 8 to cut to empty (not with 1)"
+
+abbrev pub MODE-READ : OpenMode
+MODE-READ = record { 0 = 1 }
+
+abbrev pub MODE-WRITE : OpenMode
+MODE-WRITE = record { 0 = 2 }
+
+abbrev pub MODE-BOTH : OpenMode
+MODE-BOTH = record { 0 = 3 }
+
+abbrev pub MODE-APPEND : OpenMode
+MODE-APPEND = record { 0 = 4 }
+
+-- what is added to a mode's number to cut the file
+abbrev pub TRUNCATE : ℕ
+TRUNCATE = 8
+
+unfoldable pub modeOf : ℕ → ModeNumber
+modeOf n =
+    cond (every (leb 1 n ∷ leb n MODE-MAX ∷ [])) (Keep (record { 0 = n }))
+    (cond (every (leb (TRUNCATE + 2) n ∷ leb n (TRUNCATE + MODE-MAX) ∷ [])) (Truncate (record { 0 = n - TRUNCATE }))
+    OutOfRange)
+
+unfoldable pub modeKnown : ModeNumber → Bool
+modeKnown (Keep m) = true
+modeKnown (Truncate m) = true
+modeKnown OutOfRange = false
+
+-- the rights that an open asks: "write for append too"
+unfoldable pub modeRights : OpenMode → Rights
+modeRights m = cond (eqb (m .0) (MODE-READ .0)) READ (cond (eqb (m .0) (MODE-BOTH .0)) READ-WRITE WRITE)
+
+-- a file is open for reading in modes 1 and 3, for writing in all but 1
+unfoldable pub reads : ℕ → Bool
+reads mode = some (eqb mode (MODE-READ .0) ∷ eqb mode (MODE-BOTH .0) ∷ [])
+
+unfoldable pub writes : ℕ → Bool
+writes mode = cond (eqb mode (MODE-READ .0)) false true
+
+unfoldable pub appends : ℕ → Bool
+appends mode = eqb mode (MODE-APPEND .0)
+
+-- ---- who may
+
+-- the lowest right of want, if wanted, stands in held
+unfoldable pub stands : ℕ → ℕ → Bool
+stands held want = implies (eqb (want % 2) 1) (eqb (held % 2) 1)
+
+-- all wanted rights, each its own bit, stand in those held: right 4, right 2, right 1
+unfoldable pub covers : ℕ → ℕ → Bool
+covers held want = every (stands (held / 4) (want / 4) ∷ stands (held / 2) (want / 2) ∷ stands held want ∷ [])
+
+-- "The bits grant a right to user 0, to the owner, or if all wanted rights stand in the bits"
+unfoldable pub bitsGrant : Subject → (owner bits : ℕ) → Rights → Bool
+bitsGrant who owner b want = some (eqb (who .user) 0 ∷ eqb (who .user) owner ∷ covers b (want .0) ∷ [])
+
+-- "owner or user 0"
+unfoldable pub owns : Subject → (owner : ℕ) → Bool
+owns who owner = some (eqb (who .user) 0 ∷ eqb (who .user) owner ∷ [])
+
+-- the policy's rights of process label l over file label m
+unfoldable pub policyRights : List ℕ → ℕ → ℕ → ℕ
+policyRights Q l m = getD Q (LABELS * l + m) 0
+
+-- "The labels grant it if the policy row holds all wanted rights; this binds user 0 too"
+unfoldable pub labelGrants : List ℕ → Subject → (label : ℕ) → Rights → Bool
+labelGrants Q who label want = covers (policyRights Q (who .label) label) (want .0)
+
+-- the transition from process label l by program label m: a label, or 255 for none
+unfoldable pub transition : List ℕ → ℕ → ℕ → ℕ
+transition Q l m = getD Q (RIGHTS + (LABELS * l + m)) 0
+
+-- "The label moves by the transition, if any"
+unfoldable pub moved : List ℕ → ℕ → ℕ → ℕ
+moved Q l m = cond (eqb (transition Q l m) NONE) l (transition Q l m)

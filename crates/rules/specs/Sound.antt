@@ -1,0 +1,203 @@
+-- "Sound means": one test for each sentence, over the view. Sizes, the policy, the files, the tree, the open files, the processes.
+use Prim.Native.Nat.{ℕ, zero, suc, _+_, _*_}
+use mathlib.Core.Bool.{Bool, true, false, cond, not}
+use mathlib.Core.List.{List, [], _∷_}
+use lib.Dec.{eqb, ltb, leb}
+use lib.ListN.{length, getD, drop}
+use Rattle.rules.specs.Choice.{every, some, implies}
+use Rattle.rules.specs.Scan.{all, any, count, total, first}
+use Rattle.rules.specs.Layout.{SLOTS, BLOCK, DIRENT, DIRENTS, NAME, NAMES, OPENS, PROCESSES, DESCRIPTORS, FILE, OPEN, PROCESS, RIGHTS, NONE, SLASH}
+use Rattle.rules.specs.Layout.{KIND, OWNER, BITS, LABEL, LENGTH, LINKS, VERSION, FREE, PLAIN, DIRECTORY, SLOT, MODE, OFFSET, REFERENCES, USED, USER, DOMAIN}
+use Rattle.rules.specs.Layout.{KIND-MAX, USER-MAX, BITS-MAX, LABEL-MAX, MODE-MAX, WORD-MAX}
+use Rattle.rules.specs.Store.{Store, Tree, View, view, slot}
+use Rattle.rules.specs.Paths.{Name, isDots, sameName}
+use Rattle.rules.specs.Directories.{direntAt, direntSlot, isEmpty, isPadding}
+use Rattle.rules.specs.Walk.{isDirectory, isPlain}
+
+-- ---- sizes: "Lent tables of another size are 1"
+
+unfoldable pub sizesSound : Store → Bool
+sizesSound s =
+    every (eqb (length (s .files)) (SLOTS * FILE) ∷ eqb (length (s .contents)) (SLOTS * BLOCK)
+    ∷ eqb (length (s .opens)) (OPENS * OPEN) ∷ eqb (length (s .processes)) (PROCESSES * PROCESS) ∷ [])
+
+-- ---- the policy: rights 0 to 7; transitions to a label, or 255
+
+unfoldable pub rightSound : List ℕ → ℕ → Bool
+rightSound Q i = leb (getD Q i 0) BITS-MAX
+
+unfoldable pub transitionSound : List ℕ → ℕ → Bool
+transitionSound Q i = some (leb (getD Q i 0) LABEL-MAX ∷ eqb (getD Q i 0) NONE ∷ [])
+
+unfoldable pub policySound : List ℕ → Bool
+policySound Q = every (eqb (length Q) (RIGHTS + RIGHTS) ∷ all (rightSound Q) 0 RIGHTS ∷ all (transitionSound Q) RIGHTS (RIGHTS + RIGHTS) ∷ [])
+
+-- ---- a file's record: "all fields in range"; "A free record is zero but for its stamp"
+
+unfoldable pub recordFree : Tree → ℕ → Bool
+recordFree t s =
+    every (eqb (t .file s OWNER) 0 ∷ eqb (t .file s BITS) 0 ∷ eqb (t .file s LABEL) 0 ∷ eqb (t .file s LENGTH) 0 ∷ eqb (t .file s LINKS) 0 ∷ [])
+
+unfoldable pub recordSound : Tree → ℕ → Bool
+recordSound t s =
+    every (leb (t .file s KIND) KIND-MAX ∷ leb (t .file s OWNER) USER-MAX ∷ leb (t .file s BITS) BITS-MAX ∷ leb (t .file s LABEL) LABEL-MAX
+    ∷ leb (t .file s VERSION) WORD-MAX ∷ implies (eqb (t .file s KIND) FREE) (recordFree t s) ∷ [])
+
+-- ---- a directory's entries
+
+-- all bytes are 0
+unfoldable pub allZero : List ℕ → Bool
+allZero [] = true
+allZero (b ∷ bs) = cond (eqb b 0) (allZero bs) false
+
+-- byte k of a name is no slash, and after a 0 comes 0
+unfoldable pub nameByteSound : Name → ℕ → Bool
+nameByteSound n k = every (not (eqb (getD n k 0) SLASH) ∷ implies (isPadding n k) (some (eqb (k + 1) NAME ∷ isPadding n (k + 1) ∷ [])) ∷ [])
+
+-- "names valid"
+unfoldable pub nameSound : Name → Bool
+nameSound n = every (not (isPadding n 0) ∷ all (nameByteSound n) 0 NAME ∷ not (isDots n) ∷ [])
+
+-- "each place naming a slot in use other than 0"
+unfoldable pub usedSound : Tree → Name → (target : ℕ) → Bool
+usedSound t n target = every (nameSound n ∷ ltb target SLOTS ∷ not (eqb (t .file target KIND) FREE) ∷ [])
+
+-- "An empty place is all 0"; any other has a name, a slot, then 0
+unfoldable pub direntSound : Tree → List ℕ → ℕ → Bool
+direntSound t D i =
+    every (eqb (getD (direntAt D i) (NAME + 1) 0) 0
+    ∷ cond (isEmpty D i) (all (isPadding (direntAt D i)) 0 NAME) (usedSound t (direntAt D i) (direntSlot D i)) ∷ [])
+
+-- entries i and j do not have the same name
+unfoldable pub differs : List ℕ → ℕ → ℕ → Bool
+differs D i j = some (isEmpty D i ∷ isEmpty D j ∷ not (sameName (direntAt D i) (direntAt D j)) ∷ [])
+
+-- "names .. different within a directory": each from those before it
+unfoldable pub isNew : List ℕ → ℕ → Bool
+isNew D i = all (differs D i) 0 i
+
+unfoldable pub isUsed : List ℕ → ℕ → Bool
+isUsed D i = not (isEmpty D i)
+
+-- "a directory's [length] equal to its number of names"; "the last 256 bytes of the slot are 0"
+unfoldable pub direntsSound : Tree → List ℕ → (length : ℕ) → Bool
+direntsSound t D n =
+    every (all (direntSound t D) 0 DIRENTS ∷ all (isNew D) 0 DIRENTS ∷ eqb n (count (isUsed D) 0 DIRENTS) ∷ allZero (drop (DIRENTS * DIRENT) D) ∷ [])
+
+-- ---- the tree
+
+-- entry i names slot s
+unfoldable pub linksAt : List ℕ → ℕ → ℕ → Bool
+linksAt D s i = eqb (direntSlot D i) s
+
+-- how many entries of directory d name slot s; none where d is no directory
+unfoldable pub linksFrom : Tree → ℕ → ℕ → ℕ
+linksFrom t s d = cond (isDirectory t (slot d)) (count (linksAt (t .shown d) s) 0 DIRENTS) 0
+
+unfoldable pub linksTo : Tree → ℕ → ℕ
+linksTo t s = total (linksFrom t s) 0 SLOTS
+
+-- "names equal to the places counted"; "root a directory with no name"
+unfoldable pub linksSound : Tree → ℕ → Bool
+linksSound t s = cond (eqb s 0) (eqb (t .file s LINKS) 0) (eqb (t .file s LINKS) (linksTo t s))
+
+unfoldable pub isParent : Tree → ℕ → ℕ → Bool
+isParent t d u = every (isDirectory t (slot u) ∷ any (linksAt (t .shown u) d) 0 DIRENTS ∷ [])
+
+-- the lowest directory that names d, 64 where none does
+abbrev pub parentOf : Tree → ℕ → ℕ
+parentOf t d = first (isParent t d) 0 SLOTS
+
+-- the root is reached from d by at most n steps to the parent
+unfoldable pub climbs : Tree → ℕ → ℕ → Bool
+climbs t zero d = eqb d 0
+climbs t (suc n) d = cond (eqb d 0) true (climbs t n (parentOf t d))
+
+-- "every other directory named exactly once and at most 8 names deep; every directory reached from the root"
+unfoldable pub directorySound : Tree → ℕ → Bool
+directorySound t d =
+    every (direntsSound t (t .shown d) (t .file d LENGTH) ∷ some (eqb d 0 ∷ eqb (t .file d LINKS) 1 ∷ []) ∷ climbs t NAMES d ∷ [])
+
+-- ---- open files
+
+-- open file e, another than x, is on slot s
+unfoldable pub isOn : (ℕ → ℕ → ℕ) → ℕ → ℕ → ℕ → Bool
+isOn opened x s e = every (not (eqb e x) ∷ not (eqb (opened e REFERENCES) 0) ∷ eqb (opened e SLOT) s ∷ [])
+
+-- slot s is open, but for open file x
+unfoldable pub openBut : (ℕ → ℕ → ℕ) → ℕ → ℕ → Bool
+openBut opened x s = any (isOn opened x s) 0 OPENS
+
+-- slot s is open: there is no open file 32
+abbrev pub isOpen : (ℕ → ℕ → ℕ) → ℕ → Bool
+isOpen opened s = openBut opened OPENS s
+
+-- "a plain file's length at most 512"; "each plain file named or open"; "A plain file's bytes past its length are 0"
+unfoldable pub plainSound : View → ℕ → Bool
+plainSound v s =
+    every (leb (v .tree .file s LENGTH) BLOCK ∷ some (ltb 0 (v .tree .file s LINKS) ∷ isOpen (v .opened) s ∷ []) ∷ allZero (v .tree .shown s) ∷ [])
+
+-- what is owed by kind; a free slot's bytes are 0
+unfoldable pub kindSound : View → ℕ → Bool
+kindSound v s =
+    cond (isDirectory (v .tree) (slot s)) (directorySound (v .tree) s)
+    (cond (isPlain (v .tree) (slot s)) (plainSound v s) (allZero (v .tree .shown s)))
+
+unfoldable pub slotSound : View → ℕ → Bool
+slotSound v s = every (recordSound (v .tree) s ∷ linksSound (v .tree) s ∷ kindSound v s ∷ [])
+
+-- descriptor i of process p holds open file e
+unfoldable pub holdsAt : (ℕ → ℕ → ℕ) → ℕ → ℕ → ℕ → Bool
+holdsAt desc e p i = eqb (desc p i) (e + 1)
+
+unfoldable pub holdersIn : (ℕ → ℕ → ℕ) → ℕ → ℕ → ℕ
+holdersIn desc e p = count (holdsAt desc e p) 0 DESCRIPTORS
+
+unfoldable pub holders : (ℕ → ℕ → ℕ) → ℕ → ℕ
+holders desc e = total (holdersIn desc e) 0 PROCESSES
+
+-- a free open file is all zero
+unfoldable pub openFree : (ℕ → ℕ → ℕ) → ℕ → Bool
+openFree opened e = every (eqb (opened e SLOT) 0 ∷ eqb (opened e MODE) 0 ∷ eqb (opened e OFFSET) 0 ∷ [])
+
+-- "open entries only on plain files", the mode and the position in range
+unfoldable pub openUsed : View → ℕ → Bool
+openUsed v e =
+    every (ltb (v .opened e SLOT) SLOTS ∷ isPlain (v .tree) (slot (v .opened e SLOT)) ∷ leb 1 (v .opened e MODE) ∷ leb (v .opened e MODE) MODE-MAX
+    ∷ leb (v .opened e OFFSET) BLOCK ∷ [])
+
+-- "references equal to the descriptors counted, at least 1"
+unfoldable pub openSound : View → ℕ → Bool
+openSound v e =
+    every (eqb (v .opened e REFERENCES) (holders (v .desc) e) ∷ cond (eqb (v .opened e REFERENCES) 0) (openFree (v .opened) e) (openUsed v e) ∷ [])
+
+-- ---- processes
+
+-- a descriptor names an open entry or nothing
+unfoldable pub descSound : (ℕ → ℕ → ℕ) → ℕ → ℕ → Bool
+descSound desc p i = leb (desc p i) OPENS
+
+unfoldable pub descFree : (ℕ → ℕ → ℕ) → ℕ → ℕ → Bool
+descFree desc p i = eqb (desc p i) 0
+
+unfoldable pub procFree : View → ℕ → Bool
+procFree v p = every (eqb (v .proc p USER) 0 ∷ eqb (v .proc p DOMAIN) 0 ∷ all (descFree (v .desc) p) 0 DESCRIPTORS ∷ [])
+
+unfoldable pub procUsed : View → ℕ → Bool
+procUsed v p =
+    every (eqb (v .proc p USED) 1 ∷ leb (v .proc p USER) USER-MAX ∷ leb (v .proc p DOMAIN) LABEL-MAX ∷ all (descSound (v .desc) p) 0 DESCRIPTORS ∷ [])
+
+unfoldable pub procSound : View → ℕ → Bool
+procSound v p = cond (eqb (v .proc p USED) 0) (procFree v p) (procUsed v p)
+
+-- ---- all of it
+
+unfoldable pub tablesSound : View → Bool
+tablesSound v =
+    every (isDirectory (v .tree) (slot 0) ∷ all (slotSound v) 0 SLOTS ∷ all (openSound v) 0 OPENS ∷ all (procSound v) 0 PROCESSES ∷ [])
+
+unfoldable pub storeSound : Store → Bool
+storeSound s = cond (sizesSound s) (tablesSound (view s)) false
+
+unfoldable pub sound : List ℕ → Store → Bool
+sound Q s = every (policySound Q ∷ storeSound s ∷ [])

@@ -1,0 +1,135 @@
+-- The store as lent, four flat lists; what the rules may look at, the view; and the changes that a call makes.
+use Prim.Native.Nat.{ℕ, zero, suc, _+_, _*_, _%_, _^_}
+use mathlib.Core.Bool.{Bool, true, false, cond}
+use mathlib.Core.List.{List, [], _∷_, _++_}
+use lib.Dec.{eqb, ltb}
+use lib.ListN.{length, getD, take, drop, set, replicate}
+use lib.Seq.{sets}
+use Rattle.rules.specs.Layout.{BLOCK, FILE, KIND, OWNER, BITS, LABEL, LENGTH, LINKS, VERSION, PLAIN, OPEN, PROCESS, OWN, USER, DOMAIN, DESCRIPTORS}
+use Rattle.rules.specs.declared.decision.Record.{Record}
+use Rattle.rules.specs.declared.ids.Slot.{Slot}
+use Rattle.rules.specs.declared.ids.Pid.{Pid}
+use Rattle.rules.specs.declared.request.Subject.{Subject}
+
+-- "Files", "Contents", "Open entries", "Processes". No call changes the policy, so it stands beside the store.
+pub record Store : Type 0 where
+  pub files : List ℕ
+  pub contents : List ℕ
+  pub opens : List ℕ
+  pub processes : List ℕ
+
+abbrev pub store : (F C E P : List ℕ) → Store
+store F C E P = record { files = F; contents = C; opens = E; processes = P }
+
+abbrev pub slot : ℕ → Slot
+slot n = record { 0 = n }
+
+-- ---- the view: the tables as functions of a row and a named column, and of each slot the bytes that are not a plain file's own
+
+-- the files and directories: what the path rules look at
+pub record Tree : Type 0 where
+  pub file : ℕ → ℕ → ℕ
+  pub shown : ℕ → List ℕ
+
+-- Only the answer of a read looks at a plain file's bytes: every rule takes the view.
+pub record View : Type 0 where
+  pub tree : Tree
+  pub opened : ℕ → ℕ → ℕ
+  pub proc : ℕ → ℕ → ℕ
+  pub desc : ℕ → ℕ → ℕ
+
+-- a table of records of w words: word k of record i; 0 past the record's or the table's end
+abbrev pub tab : ℕ → List ℕ → ℕ → ℕ → ℕ
+tab w xs i k = cond (ltb k w) (getD xs (w * i + k) 0) 0
+
+-- a process's own words
+abbrev pub procOf : List ℕ → ℕ → ℕ → ℕ
+procOf P p k = cond (ltb k OWN) (getD P (PROCESS * p + k) 0) 0
+
+-- what descriptor i of process p holds; nothing for i over 7
+unfoldable pub descOf : List ℕ → ℕ → ℕ → ℕ
+descOf P p i = cond (ltb i DESCRIPTORS) (getD P (PROCESS * p + (OWN + i)) 0) 0
+
+-- the bytes of slot s
+abbrev pub block : List ℕ → ℕ → List ℕ
+block C s = take BLOCK (drop (BLOCK * s) C)
+
+-- how many bytes of slot s are a plain file's own
+unfoldable pub hidden : List ℕ → ℕ → ℕ
+hidden F s = cond (eqb (tab FILE F s KIND) PLAIN) (tab FILE F s LENGTH) 0
+
+-- of a directory or a free slot all its bytes, of a plain file those past its length
+unfoldable pub shownOf : List ℕ → List ℕ → ℕ → List ℕ
+shownOf F C s = drop (hidden F s) (block C s)
+
+abbrev pub tree : (F C : List ℕ) → Tree
+tree F C = record { file = tab FILE F; shown = shownOf F C }
+
+abbrev pub view : Store → View
+view s = record { tree = tree (s .files) (s .contents); opened = tab OPEN (s .opens); proc = procOf (s .processes); desc = descOf (s .processes) }
+
+-- who asks: process p
+abbrev pub subjectOf : View → Pid → Subject
+subjectOf v p = record { user = v .proc (p .0) USER; label = v .proc (p .0) DOMAIN }
+
+abbrev pub recordOf : Tree → Slot → Record
+recordOf t s = record {
+  kind = t .file (s .0) KIND;
+  owner = t .file (s .0) OWNER;
+  bits = t .file (s .0) BITS;
+  label = t .file (s .0) LABEL;
+  length = t .file (s .0) LENGTH;
+  links = t .file (s .0) LINKS;
+  version = t .file (s .0) VERSION;
+}
+
+-- ---- counters are words of 32 bits
+
+-- one more: "a stamp of 4,294,967,295 is followed by 0"
+unfoldable pub up : ℕ → ℕ
+up n = (n + 1) % 2 ^ 32
+
+unfoldable pub plus : ℕ → ℕ → ℕ
+plus a b = (a + b) % 2 ^ 32
+
+-- ---- changes
+
+-- n bytes 0
+unfoldable pub zeros : ℕ → List ℕ
+zeros n = replicate n 0
+
+-- the words vs from column k of record i on, in a table of records of w words
+abbrev pub puts : ℕ → List ℕ → ℕ → ℕ → List ℕ → List ℕ
+puts w xs i k [] = xs
+puts w xs i k (v ∷ vs) = puts w (set xs (w * i + k) v) i (suc k) vs
+
+-- One change of the store. What a call does is a list of these.
+pub data Change : Type 0 where
+  fileWord : ℕ → ℕ → ℕ → Change  -- slot, column, value
+  fileTo : ℕ → List ℕ → Change  -- a slot's record
+  clearTo : ℕ → List ℕ → Change  -- a slot's record and all its bytes 0, at once: no store has the one without the other
+  bytesTo : ℕ → ℕ → List ℕ → Change  -- slot, from, bytes
+  openWord : ℕ → ℕ → ℕ → Change  -- open file, column, value
+  openTo : ℕ → List ℕ → Change  -- an open file's record
+  openZero : ℕ → Change  -- an open file, all zero
+  descTo : ℕ → ℕ → ℕ → Change  -- process, descriptor, value
+  procWord : ℕ → ℕ → ℕ → Change  -- process, column, value
+  procTo : ℕ → List ℕ → Change  -- a process's own words
+  procZero : ℕ → Change  -- a process, all zero
+
+abbrev pub change : Change → Store → Store
+change (fileWord s k x) t = store (set (t .files) (FILE * s + k) x) (t .contents) (t .opens) (t .processes)
+change (fileTo s ws) t = store (puts FILE (t .files) s 0 ws) (t .contents) (t .opens) (t .processes)
+change (clearTo s ws) t = store (puts FILE (t .files) s 0 ws) (sets (t .contents) (BLOCK * s + 0) (zeros BLOCK)) (t .opens) (t .processes)
+change (bytesTo s at bs) t = store (t .files) (sets (t .contents) (BLOCK * s + at) bs) (t .opens) (t .processes)
+change (openWord e k x) t = store (t .files) (t .contents) (set (t .opens) (OPEN * e + k) x) (t .processes)
+change (openTo e ws) t = store (t .files) (t .contents) (puts OPEN (t .opens) e 0 ws) (t .processes)
+change (openZero e) t = store (t .files) (t .contents) (sets (t .opens) (OPEN * e + 0) (zeros OPEN)) (t .processes)
+change (descTo p i x) t = store (t .files) (t .contents) (t .opens) (set (t .processes) (PROCESS * p + (OWN + i)) x)
+change (procWord p k x) t = store (t .files) (t .contents) (t .opens) (set (t .processes) (PROCESS * p + k) x)
+change (procTo p ws) t = store (t .files) (t .contents) (t .opens) (puts PROCESS (t .processes) p 0 ws)
+change (procZero p) t = store (t .files) (t .contents) (t .opens) (sets (t .processes) (PROCESS * p + 0) (zeros PROCESS))
+
+unfoldable pub applyAll : List Change → Store → Store
+applyAll [] t = t
+applyAll (c ∷ cs) t = applyAll cs (change c t)

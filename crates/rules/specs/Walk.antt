@@ -1,0 +1,74 @@
+-- "A path is resolved one name at a time, from the root".
+use Prim.Native.Nat.{ℕ, _+_}
+use mathlib.Core.Bool.{Bool, true, false}
+use mathlib.Core.List.{List, [], _∷_}
+use lib.Dec.{eqb, ltb}
+use lib.ListN.{length}
+use Rattle.rules.specs.Layout.{KIND, OWNER, BITS, LABEL, DIRECTORY, PLAIN, DIRENTS}
+use Rattle.rules.specs.Store.{Tree, slot}
+use Rattle.rules.specs.Rights.{SEARCH, bitsGrant, labelGrants}
+use Rattle.rules.specs.Paths.{Name, names, parentNames}
+use Rattle.rules.specs.Directories.{direntOf, direntSlot}
+use Rattle.rules.specs.declared.ids.Slot.{Slot}
+use Rattle.rules.specs.declared.rights.Rights.{Rights}
+use Rattle.rules.specs.declared.request.Subject.{Subject}
+use Rattle.rules.specs.declared.refusal.Refusal.{Refusal}
+use Rattle.rules.specs.declared.refusal.Refusal.the-variants.{NameMissing, NotDirectory, BitsForbid, LabelForbids}
+use Rattle.rules.specs.declared.decision.Location.{Location}
+use Rattle.rules.specs.declared.decision.Walk.{Walk}
+use Rattle.rules.specs.declared.decision.Walk.the-variants.{Reached, Stopped}
+
+abbrev pub isDirectory : Tree → Slot → Bool
+isDirectory t s = eqb (t .file (s .0) KIND) DIRECTORY
+
+abbrev pub isPlain : Tree → Slot → Bool
+isPlain t s = eqb (t .file (s .0) KIND) PLAIN
+
+-- the subject has the rights over slot s, by its bits and by its label
+abbrev pub bitsAllow : Tree → Subject → Slot → Rights → Bool
+bitsAllow t who s want = bitsGrant who (t .file (s .0) OWNER) (t .file (s .0) BITS) want
+
+abbrev pub labelAllows : Tree → List ℕ → Subject → Slot → Rights → Bool
+labelAllows t Q who s want = labelGrants Q who (t .file (s .0) LABEL) want
+
+-- a check at the k-th name: what follows, or the refusal with the name's number
+unfoldable pub needAt : Bool → Refusal → ℕ → Walk → Walk
+needAt true r k w = w
+needAt false r k w = Stopped r k
+
+unfoldable pub onReached : Walk → (Location → Walk) → Walk
+onReached (Reached at) f = f at
+onReached (Stopped r k) f = Stopped r k
+
+-- "the directory at hand must be a directory (7), searchable by bits (9), by label (10)", and then what follows
+abbrev pub searched : Tree → List ℕ → Subject → Slot → ℕ → Walk → Walk
+searched t Q who d k rest =
+    needAt (isDirectory t d) NotDirectory k
+    (needAt (bitsAllow t who d SEARCH) BitsForbid k
+    (needAt (labelAllows t Q who d SEARCH) LabelForbids k rest))
+
+-- entry i of directory d, whose bytes are D; "and hold the name (6)"
+abbrev pub entered : List ℕ → Slot → ℕ → ℕ → Walk
+entered D d k i = needAt (ltb i DIRENTS) NameMissing k (Reached (record { dir = d; dirent = i; slot = slot (direntSlot D i) }))
+
+-- the k-th name is looked for in directory d
+unfoldable pub lookup : Tree → List ℕ → Subject → Slot → Name → ℕ → Walk
+lookup t Q who d name k = searched t Q who d k (entered (t .shown (d .0)) d k (direntOf (t .shown (d .0)) name))
+
+-- from a location along the names, of which the first is the k-th of the path
+unfoldable pub walk : Tree → List ℕ → Subject → Location → ℕ → List Name → Walk
+walk t Q who at k [] = Reached at
+walk t Q who at k (n ∷ ns) = onReached (lookup t Q who (at .slot) n k) (λ next. walk t Q who next (k + 1) ns)
+
+abbrev pub ROOT : Location
+ROOT = record { dir = slot 0; dirent = 0; slot = slot 0 }
+
+abbrev pub walkPath : Tree → List ℕ → Subject → List ℕ → Walk
+walkPath t Q who path = walk t Q who ROOT 1 (names path)
+
+-- "The three checks of a directory count at the name looked for in it, also where a call walks only to the parent"
+unfoldable pub enterParent : Tree → List ℕ → Subject → ℕ → Location → Walk
+enterParent t Q who k at = searched t Q who (at .slot) k (Reached at)
+
+abbrev pub walkParent : Tree → List ℕ → Subject → List ℕ → Walk
+walkParent t Q who path = onReached (walk t Q who ROOT 1 (parentNames (names path))) (enterParent t Q who (length (names path)))

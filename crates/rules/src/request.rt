@@ -1,0 +1,39 @@
+// What is asked of the store.
+use crate::ids::Fd;
+use crate::ids::Pid;
+
+// The numbers of a call. Its path, its bytes and the reader's buffer are lent beside it.
+pub struct Request {
+    pub process: Pid,
+    pub call: u8,
+    pub fd: Fd,
+    pub number: u16,
+}
+
+// Which call a number names.
+pub enum Operation {
+    Open,
+    Create,
+    MakeDirectory,
+    Unlink,
+    RemoveDirectory,
+    Link,
+    List,
+    ChangeBits,
+    Stat,
+    Close,
+    Read,
+    Write,
+    Seek,
+    Duplicate,
+    Fork,
+    Exit,
+    Execute,
+    Unknown,
+}
+
+// Who asks.
+pub struct Subject {
+    pub user: u32,
+    pub label: u32,
+}
