@@ -1,20 +1,22 @@
 -- The written form loses nothing of a call that can be kept, and no other bytes are taken for one.
 use Prim.Native.Nat.{ℕ, zero, suc, _+_, _*_, _/_, _%_, _≤_, _<_}
-use mathlib.Core.Path.{_≡_, refl, sym, _∙_, ap}
+use mathlib.Core.Path.{_≡_, refl, sym}
 use mathlib.Core.Bool.{Bool, true, false, cond, not, false≢true}
 use mathlib.Core.List.{List, [], _∷_, _++_}
 use native.Mathlib.Nat.{mod-add-div'}
 use native.Mathlib.Omega.{arith}
 use lib.Dec.{eqb, leb}
-use lib.ListN.{length, getD, take, drop, length-append, take-append-drop}
+use lib.ListN.{length, length-append, take-append-drop}
 use lib.Seq.{take-append-seam, drop-append-seam, length-take-le}
-use borrow.Author.Tests.{leb-true, leb-false, eqb-true, eqb-false, le-leb, lt-leb, eq-eqb}
-use Rattle.rules.specs.Choice.{every, implies}
-use Rattle.rules.specs.Layout.{BLOCK, PATH, NUMBER-MAX}
-use Rattle.rules.specs.Calls.{operationOf}
+use borrow.Author.Tests.{leb-true, eqb-true, le-leb}
+use Rattle.rules.specs.Choice.{every, some, implies}
+use Rattle.rules.specs.Layout.{PATH, NUMBER-MAX, SLASH}
+use Rattle.rules.specs.Store.{zeros}
+use Rattle.rules.specs.Calls.{Call, operationOf}
 use Rattle.rules.specs.declared.request.Operation.{Operation}
 use Rattle.rules.specs.declared.request.Operation.the-variants as op
-use Rattle.rules.specs.Written.{BYTE, Bytes, Written, Parts, uses, partsOf, numberIf, textIf, capped, normalBy, normal, textsFit, canKeep, layout, encode, Decoded, Kept, NotWritten, numbersFit, accepted, parsed, decode}
+use Rattle.rules.specs.Written.{BYTE, Bytes, Written, written, Parts, uses, partsOf, numberIf, textIf, capped, normalBy, normal, textsFit, canKeep, layout, encode, Kept, NotWritten, numbersFit, accepted, parsed, decode}
+use Rattle.rules.specs.Computing.{computing}
 
 -- ---- lists of tests
 
@@ -66,7 +68,7 @@ text-same most t e = by (eqb most 0) refl t e
 
 numbers-fit : (u : Parts) (w : Written) → numbersFit u (normalBy u w) ≡ true
 unfolding numbersFit normalBy every
-numbers-fit u w = rw (number-unused, number-unused)
+numbers-fit u w = rw (number-unused (u .fd) (w .fd .0), number-unused (u .number) (capped (w .number)))
 
 -- the test of `decode` accepts only calls in the normal form
 normal-same : (u : Parts) (w : Written) → w .number ≤ NUMBER-MAX → numbersFit u w ≡ true → textsFit u w ≡ true → normalBy u w ≡ w
@@ -92,12 +94,13 @@ high-byte low high h = omega arith
 parsed-back : (w : Written) → parsed (w .process .0) (w .call) (w .fd .0) (w .number % BYTE) (w .number / BYTE) (length (w .path)) (w .path ++ w .bytes) ≡ w
 parsed-back w = rw (number-back (w .number), take-append-seam (w .path) (w .bytes), drop-append-seam (w .path) (w .bytes))
 
-path-full : (w : Written) → leb (length (w .path)) (length (w .path ++ w .bytes)) ≡ true
-path-full w = le-leb (length (w .path)) _ (simp length-append (omega arith))
+accepted-same : (full : Bool) (v w : Written) → v ≡ w → full ≡ true → numbersFit (partsOf w) w ≡ true → textsFit (partsOf w) w ≡ true → accepted full v ≡ Kept w
+unfolding accepted every
+accepted-same full v w same f n t = rw (same, f, n, t)
 
 accepts : (w : Written) → numbersFit (partsOf w) w ≡ true → textsFit (partsOf w) w ≡ true → decode (layout w) ≡ Kept w
-unfolding decode layout accepted every
-accepts w n t = rw (parsed-back w, path-full w, n, t)
+unfolding decode layout
+accepts w n t = accepted-same _ _ w (parsed-back w) (le-leb (length (w .path)) _ (simp length-append (omega arith))) n t
 
 -- A call that can be kept is read back in its normal form.
 pub round-trip : (w : Written) → canKeep w ≡ true → decode (encode w) ≡ Kept (normal w)
@@ -216,3 +219,41 @@ exact (process ∷ call ∷ fd ∷ []) h w e = absurd (not-kept w e)
 exact (process ∷ call ∷ fd ∷ low ∷ []) h w e = absurd (not-kept w e)
 exact (process ∷ call ∷ fd ∷ low ∷ high ∷ []) h w e = absurd (not-kept w e)
 exact (process ∷ call ∷ fd ∷ low ∷ high ∷ n ∷ rest) h w e = read-written process call fd low high n rest (h 3) (h 4) w e
+
+-- ---- some calls as they are written, by computation
+
+asked : (process call fd number : ℕ) (path bytes buffer : List ℕ) → Call
+asked process call fd number path bytes buffer = record { process = record { 0 = process }; call = call; fd = record { 0 = fd }; number = number; path = path; bytes = bytes; buffer = buffer }
+
+-- process 2 opens "/a", mode 1: the descriptor, the bytes and the buffer are not used
+open-written : encode (written (asked 2 1 5 1 (SLASH ∷ 97 ∷ []) (9 ∷ []) (zeros 16))) ≡ 2 ∷ 1 ∷ 0 ∷ 1 ∷ 0 ∷ 2 ∷ SLASH ∷ 97 ∷ []
+unfolding computing asked
+open-written = refl
+
+-- a read from descriptor 3 into 600 bytes
+read-sized : encode (written (asked 2 11 3 1 (SLASH ∷ []) [] (zeros 600))) ≡ 2 ∷ 11 ∷ 3 ∷ 88 ∷ 2 ∷ 0 ∷ []
+unfolding computing asked
+read-sized = refl
+
+-- "larger ones as 65,535"
+seek-far : encode (written (asked 2 13 3 70000 [] [] [])) ≡ 2 ∷ 13 ∷ 3 ∷ 255 ∷ 255 ∷ 0 ∷ []
+unfolding computing asked
+seek-far = refl
+
+-- of an unknown call nothing is unused
+unknown-whole : encode (written (asked 2 99 3 258 (SLASH ∷ []) (7 ∷ 8 ∷ []) [])) ≡ 2 ∷ 99 ∷ 3 ∷ 2 ∷ 1 ∷ 1 ∷ SLASH ∷ 7 ∷ 8 ∷ []
+unfolding computing asked
+unknown-whole = refl
+
+-- calls by their number and the lengths of their texts. "paths of at most 64 bytes and data of at most 512": a second path is a path, what is
+-- unused does not count
+kept : (call path bytes : ℕ) → Bool
+kept call path bytes = canKeep (written (asked 2 call 3 0 (zeros path) (zeros bytes) []))
+
+longest-kept : every (kept 1 64 513 ∷ kept 6 64 64 ∷ kept 12 65 512 ∷ kept 99 64 512 ∷ []) ≡ true
+unfolding computing kept asked
+longest-kept = refl
+
+longer-not-kept : some (kept 1 65 0 ∷ kept 6 65 0 ∷ kept 6 0 65 ∷ kept 12 0 513 ∷ kept 99 65 0 ∷ kept 99 0 513 ∷ []) ≡ false
+unfolding computing kept asked
+longer-not-kept = refl
