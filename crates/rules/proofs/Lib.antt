@@ -2,4 +2,5 @@
 pub mod Choices
 pub mod Scans
 pub mod Lists
+pub mod Written
 pub mod Guards
