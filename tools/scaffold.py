@@ -38,6 +38,8 @@ def short(s, fn):
     tactic = 'search steps' if re.search(r'\bif\b', text) else 'cc'
     needs = re.findall(r'^(\S+) : tie\.(Need-\S+)\n\1 c( κs)? = (.*)$', s, re.M)
     m = re.search(r'\(tie\.spec\s+(.*)\)\s*$', s, re.S)
+    if not m:
+        return s.replace('= ?', '= ' + tactic)
     order = m.group(1).split()
     by = {n: (need, k, t) for n, need, k, t in needs}
     args, decls, used = [], [], set()
