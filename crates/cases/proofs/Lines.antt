@@ -1,17 +1,17 @@
 -- A line of the table holds if its rows hold of `act` and each store that a call finds is sound. A row that leaves the store as it is needs no
 -- second test, and neither do the policy and the console: each is tested once.
 use Prim.Native.Nat.{ℕ}
-use mathlib.Core.Path.{_≡_, refl, sym, ap, ap₂, _∙_, subst}
+use mathlib.Core.Path.{_≡_, refl, sym, ap₂, _∙_, subst}
 use mathlib.Core.Bool.{Bool, true, false, cond}
 use mathlib.Core.List.{List, [], _∷_}
 use lib.Dec.{T, eqb, eqb→eq}
 use Rattle.rules.specs.Choice.{every}
 use Rattle.rules.specs.Store.{Store, store}
 use Rattle.rules.specs.Calls.{Call}
-use Rattle.rules.specs.Sound.{sound, policySound, storeSound}
+use Rattle.rules.specs.Sound.{sound, policySound}
 use Rattle.rules.specs.Step.{Outcome, act, step}
 use Rattle.rules.specs.Console.{console, consolePolicy}
-use Rattle.cases.specs.Rows.{Now, Row, withAll, same, sameReply, sameStore, rowHolds, lineHolds, holds}
+use Rattle.cases.specs.Rows.{Now, Row, withAll, same, sameStore, rowHolds, lineHolds, holds}
 use Rattle.cases.proofs.Quick.{quickSound, quick-sound}
 use Rattle.cases.proofs.Tests.{first-passes, rest-passes, both-pass}
 
