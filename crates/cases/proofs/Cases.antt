@@ -7,12 +7,12 @@ use Rattle.rules.specs.Sound.{policySound}
 use Rattle.rules.specs.Console.{console, consolePolicy}
 use Rattle.cases.specs.Rows.{Row, withAll, same, sameReply, sameStore, rowHolds, holds}
 use Rattle.cases.specs.Table.{AllCases, table, line-1, line-1-slashes, line-2, line-3, line-4, line-5, line-6, line-7, line-8, line-9}
-use Rattle.cases.proofs.Quick.{cut, quickShown, quickSound}
+use Rattle.cases.proofs.Quick.{cut, quickShown, entries, named, tally, quickLinks, quickSlot, quickTables, quickSound}
 use Rattle.cases.proofs.Lines.{needed, onward, check, sound-of, more}
 
 -- opens all that a row computes with
 unfoldable computed : Bool
-unfolding computing console consolePolicy withAll same sameReply sameStore rowHolds cut quickShown quickSound needed onward check
+unfolding computing console consolePolicy withAll same sameReply sameStore rowHolds cut quickShown entries named tally quickLinks quickSlot quickTables quickSound needed onward check
 computed = true
 
 policy-sound : policySound consolePolicy ≡ true
