@@ -1,0 +1,2 @@
+-- The proof of demand 3.
+pub mod Agree
