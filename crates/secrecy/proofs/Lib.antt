@@ -1,2 +1,3 @@
 -- The proof of demand 3.
 pub mod Agree
+pub mod Tables
