@@ -1,3 +1,4 @@
 -- The proof of demand 3.
 pub mod Agree
 pub mod Tables
+pub mod Related
