@@ -2,3 +2,5 @@
 pub mod Agree
 pub mod Tables
 pub mod Related
+pub mod Tests
+pub mod Fit
