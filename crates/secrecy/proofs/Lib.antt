@@ -4,3 +4,4 @@ pub mod Tables
 pub mod Related
 pub mod Tests
 pub mod Fit
+pub mod Facts
