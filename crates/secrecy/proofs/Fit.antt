@@ -89,13 +89,13 @@ pub data EffectFit (Q : List ℕ) (v : View) (p : Pid) : Effect → Type 0 where
   stored : (w : Placement) → v .tree .file (w .slot .0) LENGTH ≤ w .length → EffectFit Q v p (effect.Stored w)
   shifted : (e offset : ℕ) → EffectFit Q v p (effect.Moved e offset)
   duplicated : (i : Fd) (e refs : ℕ) → i .0 < 8 → EffectFit Q v p (effect.Duplicated i e refs)
-  forked : (q : Pid) (user label : ℕ) → Caller v p → subjectOf v p .label ≡ label → EffectFit Q v p (effect.Forked q user label)
+  forked : (q : Pid) (user label : ℕ) → subjectOf v p .label ≡ label → EffectFit Q v p (effect.Forked q user label)
   exited : EffectFit Q v p effect.Exited
-  relabelled : (t label : ℕ) → Caller v p → moved Q (subjectOf v p .label) (v .tree .file t LABEL) ≡ label → EffectFit Q v p (effect.Relabelled label)
+  relabelled : (t label : ℕ) → moved Q (subjectOf v p .label) (v .tree .file t LABEL) ≡ label → EffectFit Q v p (effect.Relabelled label)
 
 pub data Fit (Q : List ℕ) (v : View) (p : Pid) : Decision → Type 0 where
   refused : (r : Refusal) (k : ℕ) → Fit Q v p (Refused r k)
-  granted : (n : ℕ) (o : Output) (e : Effect) → OutputFit v o → EffectFit Q v p e → Fit Q v p (Granted n o e)
+  granted : (n : ℕ) (o : Output) (e : Effect) → Caller v p → OutputFit v o → EffectFit Q v p e → Fit Q v p (Granted n o e)
 
 -- ---- walks
 
@@ -144,11 +144,14 @@ module _ (Q : List ℕ) (t : Tree) (who : Subject) where
 
 -- ---- decisions
 
-module _ (Q : List ℕ) (v : View) (b : Based v) (p : Pid) where
+checked : (Q : List ℕ) (v : View) (p : Pid) (t : Bool) (r : Refusal) (d : Decision) → (t ≡ true → Fit Q v p d) → Fit Q v p (need t r d)
+unfolding need
+checked Q v p true r d h = h refl
+checked Q v p false r d h = refused r 0
+
+module _ (Q : List ℕ) (v : View) (b : Based v) (p : Pid) (u : Caller v p) where
   need-fit : (t : Bool) (r : Refusal) (d : Decision) → (t ≡ true → Fit Q v p d) → Fit Q v p (need t r d)
-  unfolding need
-  need-fit true r d h = h refl
-  need-fit false r d h = refused r 0
+  need-fit t r d h = checked Q v p t r d h
 
   after-fit : (P : Location → Type 0) (w : Walk) (g : Location → Decision) → WalkFit P w → ((at : Location) → P at → Fit Q v p (g at)) → Fit Q v p (after w g)
   unfolding after
@@ -159,7 +162,7 @@ module _ (Q : List ℕ) (v : View) (b : Based v) (p : Pid) where
   after-any w g h = after-fit (λ _. Unit {0}) w g (any-fit w) (λ at _. h at)
 
   quiet : (n : ℕ) (e : Effect) → EffectFit Q v p e → Fit Q v p (Granted n output.Nothing e)
-  quiet n e h = granted n output.Nothing e silent h
+  quiet n e h = granted n output.Nothing e u silent h
 
   opening-fit : (s : Slot) (m : OpenMode) (c : Bool) (i e : ℕ) → OpenFit Q v p (newOpen s m i e) → EffectFit Q v p (opening (v .tree) s m c i e)
   unfolding opening
@@ -221,7 +224,7 @@ module _ (Q : List ℕ) (v : View) (b : Based v) (p : Pid) where
   listEntry-fit d i = go (ltb i DIRENTS)
     where
       go : (t : Bool) → Fit Q v p (cond t (Granted 1 (output.Name d i) effect.Nothing) (Granted 0 output.Nothing effect.Nothing))
-      go true = granted _ _ _ (listed d i) nothing
+      go true = granted _ _ _ u (listed d i) nothing
       go false = quiet _ _ nothing
 
   list-fit : (k : ℕ) (path : List ℕ) → Fit Q v p (decideList Q v p k path)
@@ -234,11 +237,11 @@ module _ (Q : List ℕ) (v : View) (b : Based v) (p : Pid) where
 
   stat-fit : (path : List ℕ) → Fit Q v p (decideStat Q v p path)
   unfolding decideStat
-  stat-fit path = after-any _ _ (λ at. granted _ _ _ (described _) nothing)
+  stat-fit path = after-any _ _ (λ at. granted _ _ _ u (described _) nothing)
 
-  execute-fit : (path : List ℕ) → Caller v p → Fit Q v p (decideExecute Q v p path)
+  execute-fit : (path : List ℕ) → Fit Q v p (decideExecute Q v p path)
   unfolding decideExecute executeAt
-  execute-fit path u = after-any _ _ (λ at. need-fit _ _ _ (λ _. need-fit _ _ _ (λ _. need-fit _ _ _ (λ _. quiet _ _ (relabelled (at .slot .0) _ u refl)))))
+  execute-fit path = after-any _ _ (λ at. need-fit _ _ _ (λ _. need-fit _ _ _ (λ _. need-fit _ _ _ (λ _. quiet _ _ (relabelled (at .slot .0) _ refl)))))
 
   held-small : (i : Fd) → held v p i ≡ true → i .0 < 8
   unfolding held
@@ -250,7 +253,7 @@ module _ (Q : List ℕ) (v : View) (b : Based v) (p : Pid) where
 
   read-fit : (i : Fd) (size : ℕ) → Fit Q v p (decideRead v p i size)
   unfolding decideRead readOpen
-  read-fit i size = need-fit _ _ _ (λ _. need-fit _ _ _ (λ m. granted _ _ _ (fetched _ _ _ (record { entry = _; mode = m; names = refl })) (shifted _ _)))
+  read-fit i size = need-fit _ _ _ (λ _. need-fit _ _ _ (λ m. granted _ _ _ u (fetched _ _ _ (record { entry = _; mode = m; names = refl })) (shifted _ _)))
 
   writeFile-fit : (e at n : ℕ) → Fit Q v p (writeFile v e at n)
   unfolding writeFile
@@ -276,35 +279,35 @@ module _ (Q : List ℕ) (v : View) (b : Based v) (p : Pid) where
   unfolding decideDuplicate duplicateTo
   duplicate-fit i = need-fit _ _ _ (λ _. need-fit _ _ _ (λ d. quiet _ _ (duplicated _ _ _ (ltb-true _ _ d))))
 
-  fork-fit : (q : ℕ) → Caller v p → Fit Q v p (forkTo v p q)
+  fork-fit : (q : ℕ) → Fit Q v p (forkTo v p q)
   unfolding forkTo
-  fork-fit q u = need-fit _ _ _ (λ _. quiet _ _ (forked _ _ _ u refl))
+  fork-fit q = need-fit _ _ _ (λ _. quiet _ _ (forked _ _ _ refl))
 
 -- ---- a call
 
 own-fit : (Q : List ℕ) (v : View) → Based v → (c : Call) → Caller v (c .process) → (o : Operation) → Fit Q v (c .process) (decideOwn Q v c o)
 unfolding decideOwn
-own-fit Q v b c u op.Open = open-fit Q v b (c .process) (c .number) (c .path)
-own-fit Q v b c u op.Create = create-fit Q v b (c .process) PLAIN (c .number) (c .path)
-own-fit Q v b c u op.MakeDirectory = create-fit Q v b (c .process) DIRECTORY (c .number) (c .path)
-own-fit Q v b c u op.Unlink = unlink-fit Q v b (c .process) (c .path)
-own-fit Q v b c u op.RemoveDirectory = remove-fit Q v b (c .process) (c .path)
-own-fit Q v b c u op.Link = link-fit Q v b (c .process) (c .path) (c .bytes)
-own-fit Q v b c u op.List = list-fit Q v b (c .process) (c .number) (c .path)
-own-fit Q v b c u op.ChangeBits = changeBits-fit Q v b (c .process) (c .number) (c .path)
-own-fit Q v b c u op.Stat = stat-fit Q v b (c .process) (c .path)
-own-fit Q v b c u op.Close = close-fit Q v b (c .process) (c .fd)
-own-fit Q v b c u op.Read = read-fit Q v b (c .process) (c .fd) (length (c .buffer))
-own-fit Q v b c u op.Write = write-fit Q v b (c .process) (c .fd) (length (c .bytes))
-own-fit Q v b c u op.Seek = seek-fit Q v b (c .process) (c .fd) (c .number)
-own-fit Q v b c u op.Duplicate = duplicate-fit Q v b (c .process) (c .fd)
-own-fit Q v b c u op.Fork = fork-fit Q v b (c .process) _ u
-own-fit Q v b c u op.Exit = quiet Q v b (c .process) 0 effect.Exited exited
-own-fit Q v b c u op.Execute = execute-fit Q v b (c .process) (c .path) u
+own-fit Q v b c u op.Open = open-fit Q v b (c .process) u (c .number) (c .path)
+own-fit Q v b c u op.Create = create-fit Q v b (c .process) u PLAIN (c .number) (c .path)
+own-fit Q v b c u op.MakeDirectory = create-fit Q v b (c .process) u DIRECTORY (c .number) (c .path)
+own-fit Q v b c u op.Unlink = unlink-fit Q v b (c .process) u (c .path)
+own-fit Q v b c u op.RemoveDirectory = remove-fit Q v b (c .process) u (c .path)
+own-fit Q v b c u op.Link = link-fit Q v b (c .process) u (c .path) (c .bytes)
+own-fit Q v b c u op.List = list-fit Q v b (c .process) u (c .number) (c .path)
+own-fit Q v b c u op.ChangeBits = changeBits-fit Q v b (c .process) u (c .number) (c .path)
+own-fit Q v b c u op.Stat = stat-fit Q v b (c .process) u (c .path)
+own-fit Q v b c u op.Close = close-fit Q v b (c .process) u (c .fd)
+own-fit Q v b c u op.Read = read-fit Q v b (c .process) u (c .fd) (length (c .buffer))
+own-fit Q v b c u op.Write = write-fit Q v b (c .process) u (c .fd) (length (c .bytes))
+own-fit Q v b c u op.Seek = seek-fit Q v b (c .process) u (c .fd) (c .number)
+own-fit Q v b c u op.Duplicate = duplicate-fit Q v b (c .process) u (c .fd)
+own-fit Q v b c u op.Fork = fork-fit Q v b (c .process) u _
+own-fit Q v b c u op.Exit = quiet Q v b (c .process) u 0 effect.Exited exited
+own-fit Q v b c u op.Execute = execute-fit Q v b (c .process) u (c .path)
 own-fit Q v b c u op.Unknown = refused _ _
 
 pub decide-fit : (Q : List ℕ) (v : View) → Based v → (c : Call) → Fit Q v (c .process) (decide Q v c)
 unfolding decide inUse
 decide-fit Q v b c =
-    need-fit Q v b (c .process) _ _ _ (λ h. need-fit Q v b (c .process) _ _ _ (λ _.
+    checked Q v (c .process) _ _ _ (λ h. checked Q v (c .process) _ _ _ (λ _.
     own-fit Q v b c (record { small = ltb-true _ _ (test 0 _ h); used = eqb-true _ _ (test 1 _ h) }) (operation c)))

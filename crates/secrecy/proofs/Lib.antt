@@ -5,3 +5,6 @@ pub mod Related
 pub mod Tests
 pub mod Fit
 pub mod Facts
+pub mod Kept
+pub mod Alike
+pub mod Secrecy

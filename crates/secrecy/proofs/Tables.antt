@@ -74,7 +74,7 @@ unread-word f E e k x lo hi old y r q =
     let s : getD (set E (4 * e + k) x) (4 * y + 0) 0 ≡ getD E (4 * y + 0) 0 = getD-set-other E (4 * e + k) (4 * y + 0) x 0 (λ z. omega arith) in
     old y (rw m at r) (rw s at q)
 
-no-mode : reads 0 ≡ true → ⊥
+pub no-mode : reads 0 ≡ true → ⊥
 unfolding reads some
 no-mode e = false≢true e
 
