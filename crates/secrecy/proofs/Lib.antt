@@ -8,3 +8,5 @@ pub mod Facts
 pub mod Kept
 pub mod Alike
 pub mod Secrecy
+pub mod Quick
+pub mod Needed

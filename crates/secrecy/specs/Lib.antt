@@ -1,2 +1,3 @@
 -- Demand 3, stated.
 pub mod Claim
+pub mod Needed

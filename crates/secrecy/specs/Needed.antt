@@ -1,0 +1,67 @@
+-- That each supposition is needed: runs that leave one out and tell the file's bytes. The file is /key of the test console, slot 3, label 3.
+use Prim.Native.Nat.{ℕ, _*_}
+use mathlib.Core.List.{List, [], _∷_, _++_}
+use lib.ListN.{getD, set, replicate}
+use Rattle.rules.specs.Layout.{RIGHTS, LABELS, NONE, OPEN, OPENS, PROCESS}
+use Rattle.rules.specs.Rights.{MODE-READ}
+use Rattle.rules.specs.Store.{Store, store}
+use Rattle.rules.specs.Calls.{Call}
+use Rattle.rules.specs.Step.{Reply}
+use Rattle.rules.specs.Console.{FARES, NOW, KEY, filled, consoleWith, consolePolicy}
+
+-- two keys
+abbrev pub KEY-ONE : List ℕ
+KEY-ONE = 1 ∷ 2 ∷ 3 ∷ 4 ∷ []
+
+abbrev pub KEY-OTHER : List ℕ
+KEY-OTHER = 5 ∷ 6 ∷ 7 ∷ 8 ∷ []
+
+-- ---- calls of process 1 and 2
+
+abbrev pub keyPath : List ℕ
+keyPath = 47 ∷ KEY
+
+abbrev pub nowPath : List ℕ
+nowPath = (47 ∷ FARES) ++ (47 ∷ NOW)
+
+-- open /key for reading, execute /fares/now, read one byte by descriptor 0
+abbrev pub opensKey : ℕ → Call
+opensKey p = record { process = record { 0 = p }; call = 1; fd = record { 0 = 0 }; number = MODE-READ .0; path = keyPath; bytes = []; buffer = [] }
+
+abbrev pub executesNow : ℕ → Call
+executesNow p = record { process = record { 0 = p }; call = 17; fd = record { 0 = 0 }; number = 0; path = nowPath; bytes = []; buffer = [] }
+
+abbrev pub readsByte : ℕ → Call
+readsByte p = record { process = record { 0 = p }; call = 11; fd = record { 0 = 0 }; number = 0; path = []; bytes = []; buffer = 0 ∷ [] }
+
+-- what the calls tell: the first byte of each buffer afterwards, 0 where it is empty
+unfoldable pub told : List Reply → List ℕ
+told [] = []
+told (r ∷ rs) = getD (r .buffer) 0 0 ∷ told rs
+
+-- ---- a held label may read: label 1 of process 1 has right 4 over label 3
+
+unfoldable pub heldPolicy : List ℕ
+heldPolicy = set consolePolicy 19 4
+
+abbrev pub heldCalls : List Call
+heldCalls = opensKey 1 ∷ readsByte 1 ∷ []
+
+-- ---- a label that two transitions give may read, and no held label or label that one transition gives: executing /fares/now, of label 0, takes
+-- label 1 to label 4 and that to label 5, which has right 4 over label 3
+
+unfoldable pub reachedPolicy : List ℕ
+reachedPolicy = set (set (set (set (set consolePolicy 64 7) 80 7) 83 4) 272 4) 320 5
+
+abbrev pub reachedCalls : List Call
+reachedCalls = executesNow 1 ∷ executesNow 1 ∷ opensKey 1 ∷ readsByte 1 ∷ []
+
+-- ---- /key is open in a mode, by descriptor 0 of process 2, whose label may not read it
+
+unfoldable pub opened : (mode : ℕ) → (key : List ℕ) → Store
+opened mode key =
+    store (consoleWith key .files) (consoleWith key .contents) (filled (OPENS * OPEN) (3 ∷ mode ∷ 0 ∷ 1 ∷ []))
+    (set (consoleWith key .processes) 25 1)
+
+abbrev pub openedCalls : List Call
+openedCalls = readsByte 2 ∷ []
