@@ -10,3 +10,4 @@ pub mod Alike
 pub mod Secrecy
 pub mod Quick
 pub mod Needed
+pub mod Console

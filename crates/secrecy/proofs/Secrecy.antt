@@ -36,7 +36,7 @@ reach-closed Q s l m h r = go (eqb (transition Q l m) NONE) refl
 
 -- ---- from the stores apart to those that differ in the file's bytes, and back
 
-differ-of : (f n L : ℕ) (s s′ : Store) → Apart f n s s′ → Own f n L (s .files) → DifferInBytes f s s′
+pub differ-of : (f n L : ℕ) (s s′ : Store) → Apart f n s s′ → Own f n L (s .files) → DifferInBytes f s s′
 differ-of f n L s s′ a o = record {
   plain = o .plain;
   files = a .files;
