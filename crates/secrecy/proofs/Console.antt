@@ -28,7 +28,7 @@ use Rattle.secrecy.proofs.Tables.{Own, no-mode}
 use Rattle.secrecy.proofs.Related.{Apart}
 use Rattle.secrecy.proofs.Tests.{test}
 use Rattle.secrecy.proofs.Alike.{sound-same}
-use Rattle.secrecy.proofs.Quick.{cut, quickShown, quickSound, sound-quick}
+use Rattle.secrecy.proofs.Needed.{key-one-sound}
 use Rattle.secrecy.proofs.Secrecy.{differ-of}
 
 -- ---- two lists that have different middles of one length
@@ -95,14 +95,10 @@ console-own : (k : List ℕ) → Own 3 4 3 (consoleWith k .files)
 unfolding computing
 console-own k = record { plain = refl; label = refl; within = omega arith; room = omega arith }
 
-key-one-sound : quickSound consolePolicy (consoleWith KEY-ONE) ≡ true
-unfolding computing quickSound quickShown cut
-key-one-sound = refl
-
 console-sound : (k : List ℕ) → length k ≡ 4 → sound consolePolicy (consoleWith k) ≡ true
 console-sound k e =
     sym (sound-same consolePolicy 3 4 3 (consoleWith KEY-ONE) (consoleWith k) (console-apart KEY-ONE k refl e) (console-own KEY-ONE))
-    ∙ sym (sound-quick consolePolicy (consoleWith KEY-ONE)) ∙ key-one-sound
+    ∙ key-one-sound
 
 -- ---- who may read: the labels in use are 0, 1 and 2, there are no transitions, and none of the three has right 4 over label 3
 

@@ -15,12 +15,8 @@ use Rattle.rules.specs.Store.{Store, View, view, tab, slot, descOf}
 use Rattle.rules.specs.Walk.{isDirectory}
 use Rattle.rules.specs.Sound.{sound, storeSound, sizesSound, tablesSound, slotSound, recordSound, kindSound, plainSound}
 use Rattle.rules.proofs.Scans.{all-at}
-use Rattle.secrecy.proofs.Tests.{test}
+use Rattle.secrecy.proofs.Tests.{test, both}
 use Rattle.secrecy.proofs.Fit.{Based}
-
-both : (a b : Bool) → cond a b false ≡ true → (a ≡ true) × (b ≡ true)
-both true b e = (refl, e)
-both false b e = absurd (false≢true e)
 
 -- no descriptor over 7 holds anything
 desc-eight : (P : List ℕ) (p i : ℕ) → descOf P p i ≢ 0 → i < 8

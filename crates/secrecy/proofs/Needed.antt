@@ -1,37 +1,31 @@
 -- Each of these runs leaves one supposition out and gets different answers, so what demand 3 claims does not hold of it.
 use Prim.Native.Nat.{ℕ}
 use mathlib.Core.Path.{_≡_, refl, sym, ap, _∙_}
-use mathlib.Core.Bool.{Bool, true, false, false≢true, cond}
-use lib.Dec.{eqb}
-use borrow.Author.Tests.{eqb-true}
+use mathlib.Core.Bool.{Bool, true, false, cond}
 use mathlib.Core.List.{List, [], _∷_}
-use lib.ListN.{getD}
 use native.Mathlib.Omega.{arith}
+use borrow.Author.Tests.{eqb-true}
+use lib.Dec.{eqb}
+use lib.ListN.{getD}
+use Rattle.rules.specs.Choice.{every}
 use Rattle.rules.specs.Computing.{computing}
 use Rattle.rules.specs.Store.{Store}
 use Rattle.rules.specs.Calls.{Call}
-use Rattle.rules.specs.Step.{Reply, Outcome, act, step, answers, refusedReply}
 use Rattle.rules.specs.Sound.{sound}
 use Rattle.rules.specs.Refusals.{GRANTED, refusalNumber}
-use Rattle.rules.specs.declared.refusal.Refusal.the-variants.{Unsound}
+use Rattle.rules.specs.Step.{Reply, Outcome, act, step, answers, refusedReply}
 use Rattle.rules.specs.Console.{consoleWith, consolePolicy}
+use Rattle.rules.specs.declared.refusal.Refusal.the-variants.{Unsound}
 use Rattle.secrecy.specs.Claim.{Claimed}
 use Rattle.secrecy.specs.Needed.{KEY-ONE, KEY-OTHER, told, heldPolicy, heldCalls, reachedPolicy, reachedCalls, opened, openedCalls}
-use Rattle.secrecy.proofs.Quick.{cut, quickShown, quickSound, quickStep, quickAnswers, answers-quick}
+use Rattle.secrecy.proofs.Tests.{test, both}
+use Rattle.secrecy.proofs.Quick.{cut, quickShown, closedSlots, quickSound, soundAlong, actAnswers, answers-act, sound-quick}
 
 -- ---- a run whose calls are all granted needs no soundness test: an unsound store refuses
 
 unfoldable allGranted : List Reply → Bool
 allGranted [] = true
 allGranted (r ∷ rs) = cond (eqb (r .refusal) GRANTED) (allGranted rs) false
-
-unfoldable actAnswers : List ℕ → Store → List Call → List Reply
-actAnswers Q s [] = []
-actAnswers Q s (c ∷ cs) = let x = act Q s c in x .reply ∷ actAnswers Q (x .store) cs
-
-both : (a b : Bool) → cond a b false ≡ true → (a ≡ true) × (b ≡ true)
-both true b e = (refl, e)
-both false b e = absurd (false≢true e)
 
 granted-act : (Q : List ℕ) (s : Store) (c : Call) → step Q s c .reply .refusal ≡ GRANTED → step Q s c ≡ act Q s c
 unfolding step refusalNumber
@@ -53,37 +47,43 @@ granted-answers Q (c ∷ cs) s h =
     ap (λ (rs : List Reply). step Q s c .reply ∷ rs) (granted-answers Q cs (step Q s c .store) (g .1))
     ∙ ap (λ (x : Outcome). x .reply ∷ actAnswers Q (x .store) cs) e
 
--- ---- so the claim does not hold where one run tells byte a and the other, computed without the test, byte b
+-- ---- so the claim does not hold where one run, sound at each of its stores and granted, tells a byte and the other another
 
--- what a run tells, where all its calls are granted
-unfoldable granted : List Reply → List ℕ
-granted rs = cond (allGranted rs) (told rs) []
+different : (Q : List ℕ) (f : ℕ) (s s′ : Store) (cs : List Call) (k : ℕ) (xs ys : List ℕ) → soundAlong Q s cs ≡ true → allGranted (actAnswers Q s cs) ≡ true
+    → told (actAnswers Q s cs) ≡ xs → told (actAnswers Q s′ cs) ≡ ys → (getD xs k 0 ≡ getD ys k 0 → ⊥) → Claimed Q f s s′ cs → ⊥
+different Q f s s′ cs k xs ys along all p q ne c =
+    let one : answers Q s cs ≡ actAnswers Q s cs = answers-act Q cs s along in
+    let other : answers Q s′ cs ≡ actAnswers Q s′ cs = granted-answers Q cs s′ (ap allGranted (sym (c .same-answers) ∙ one) ∙ all) in
+    ne (ap (λ (l : List ℕ). getD l k 0) (sym p ∙ ap told (sym one ∙ c .same-answers ∙ other) ∙ q))
 
-granted-all : (rs : List Reply) (x : ℕ) (xs : List ℕ) → granted rs ≡ x ∷ xs → allGranted rs ≡ true
-unfolding granted
-granted-all rs x xs e = go (allGranted rs) e
-  where
-    go : (b : Bool) → cond b (told rs) [] ≡ x ∷ xs → b ≡ true
-    go true e = refl
-    go false e = absurd (let z : _≡_ {A = ℕ} 0 1 = cc in omega arith)
+-- ---- the stores of the runs are sound; the first is the test console's
 
-granted-told : (rs : List Reply) → allGranted rs ≡ true → granted rs ≡ told rs
-unfolding granted
-granted-told rs e = rw e
+runsSound : List Bool
+runsSound =
+    quickSound consolePolicy (consoleWith KEY-ONE)
+    ∷ soundAlong heldPolicy (consoleWith KEY-ONE) heldCalls
+    ∷ soundAlong reachedPolicy (consoleWith KEY-ONE) reachedCalls
+    ∷ soundAlong consolePolicy (opened 1 KEY-ONE) openedCalls
+    ∷ soundAlong consolePolicy (opened 3 KEY-ONE) openedCalls
+    ∷ []
 
-different : (Q : List ℕ) (f : ℕ) (s s′ : Store) (cs : List Call) (k x : ℕ) (xs ys : List ℕ) → granted (quickAnswers Q s cs) ≡ x ∷ xs → told (actAnswers Q s′ cs) ≡ ys
-    → (getD (x ∷ xs) k 0 ≡ getD ys k 0 → ⊥) → Claimed Q f s s′ cs → ⊥
-different Q f s s′ cs k x xs ys p q ne c =
-    let one : granted (answers Q s cs) ≡ x ∷ xs = ap granted (sym (answers-quick Q s cs)) ∙ p in
-    let all : allGranted (answers Q s cs) ≡ true = granted-all (answers Q s cs) x xs one in
-    let other : answers Q s′ cs ≡ actAnswers Q s′ cs = granted-answers Q cs s′ (ap allGranted (sym (c .same-answers)) ∙ all) in
-    ne (ap (λ (l : List ℕ). getD l k 0) (sym one ∙ granted-told (answers Q s cs) all ∙ ap told (c .same-answers ∙ other) ∙ q))
+runs-sound : every runsSound ≡ true
+unfolding computing runsSound soundAlong quickSound closedSlots quickShown cut heldPolicy reachedPolicy opened
+runs-sound = refl
 
--- ---- the runs: each tells the first byte of the key
+pub key-one-sound : sound consolePolicy (consoleWith KEY-ONE) ≡ true
+unfolding runsSound
+key-one-sound = sound-quick consolePolicy (consoleWith KEY-ONE) (test 0 _ runs-sound)
+
+-- ---- each run tells the first byte of the key
 
 -- a held label may read
-held-one : granted (quickAnswers heldPolicy (consoleWith KEY-ONE) heldCalls) ≡ 0 ∷ 1 ∷ []
-unfolding computing quickAnswers quickStep quickSound quickShown cut told granted allGranted heldPolicy
+held-granted : allGranted (actAnswers heldPolicy (consoleWith KEY-ONE) heldCalls) ≡ true
+unfolding computing actAnswers allGranted heldPolicy
+held-granted = refl
+
+held-one : told (actAnswers heldPolicy (consoleWith KEY-ONE) heldCalls) ≡ 0 ∷ 1 ∷ []
+unfolding computing actAnswers told heldPolicy
 held-one = refl
 
 held-other : told (actAnswers heldPolicy (consoleWith KEY-OTHER) heldCalls) ≡ 0 ∷ 5 ∷ []
@@ -91,11 +91,16 @@ unfolding computing actAnswers told heldPolicy
 held-other = refl
 
 pub held-needed : Claimed heldPolicy 3 (consoleWith KEY-ONE) (consoleWith KEY-OTHER) heldCalls → ⊥
-held-needed = different heldPolicy 3 (consoleWith KEY-ONE) (consoleWith KEY-OTHER) heldCalls 1 _ _ _ held-one held-other (λ e. omega arith)
+unfolding runsSound
+held-needed = different heldPolicy 3 (consoleWith KEY-ONE) (consoleWith KEY-OTHER) heldCalls 1 _ _ (test 1 _ runs-sound) held-granted held-one held-other (λ e. omega arith)
 
 -- a label that two transitions give may read
-reached-one : granted (quickAnswers reachedPolicy (consoleWith KEY-ONE) reachedCalls) ≡ 0 ∷ 0 ∷ 0 ∷ 1 ∷ []
-unfolding computing quickAnswers quickStep quickSound quickShown cut told granted allGranted reachedPolicy
+reached-granted : allGranted (actAnswers reachedPolicy (consoleWith KEY-ONE) reachedCalls) ≡ true
+unfolding computing actAnswers allGranted reachedPolicy
+reached-granted = refl
+
+reached-one : told (actAnswers reachedPolicy (consoleWith KEY-ONE) reachedCalls) ≡ 0 ∷ 0 ∷ 0 ∷ 1 ∷ []
+unfolding computing actAnswers told reachedPolicy
 reached-one = refl
 
 reached-other : told (actAnswers reachedPolicy (consoleWith KEY-OTHER) reachedCalls) ≡ 0 ∷ 0 ∷ 0 ∷ 5 ∷ []
@@ -103,11 +108,16 @@ unfolding computing actAnswers told reachedPolicy
 reached-other = refl
 
 pub reached-needed : Claimed reachedPolicy 3 (consoleWith KEY-ONE) (consoleWith KEY-OTHER) reachedCalls → ⊥
-reached-needed = different reachedPolicy 3 (consoleWith KEY-ONE) (consoleWith KEY-OTHER) reachedCalls 3 _ _ _ reached-one reached-other (λ e. omega arith)
+unfolding runsSound
+reached-needed = different reachedPolicy 3 (consoleWith KEY-ONE) (consoleWith KEY-OTHER) reachedCalls 3 _ _ (test 2 _ runs-sound) reached-granted reached-one reached-other (λ e. omega arith)
 
 -- the file is open in mode 1
-opened-one : granted (quickAnswers consolePolicy (opened 1 KEY-ONE) openedCalls) ≡ 1 ∷ []
-unfolding computing quickAnswers quickStep quickSound quickShown cut told granted allGranted opened
+opened-granted : allGranted (actAnswers consolePolicy (opened 1 KEY-ONE) openedCalls) ≡ true
+unfolding computing actAnswers allGranted opened
+opened-granted = refl
+
+opened-one : told (actAnswers consolePolicy (opened 1 KEY-ONE) openedCalls) ≡ 1 ∷ []
+unfolding computing actAnswers told opened
 opened-one = refl
 
 opened-other : told (actAnswers consolePolicy (opened 1 KEY-OTHER) openedCalls) ≡ 5 ∷ []
@@ -115,16 +125,22 @@ unfolding computing actAnswers told opened
 opened-other = refl
 
 pub opened-needed : Claimed consolePolicy 3 (opened 1 KEY-ONE) (opened 1 KEY-OTHER) openedCalls → ⊥
-opened-needed = different consolePolicy 3 (opened 1 KEY-ONE) (opened 1 KEY-OTHER) openedCalls 0 _ _ _ opened-one opened-other (λ e. omega arith)
+unfolding runsSound
+opened-needed = different consolePolicy 3 (opened 1 KEY-ONE) (opened 1 KEY-OTHER) openedCalls 0 _ _ (test 3 _ runs-sound) opened-granted opened-one opened-other (λ e. omega arith)
 
 -- and in mode 3
-both-one : granted (quickAnswers consolePolicy (opened 3 KEY-ONE) openedCalls) ≡ 1 ∷ []
-unfolding computing quickAnswers quickStep quickSound quickShown cut told granted allGranted opened
-both-one = refl
+mode-3-granted : allGranted (actAnswers consolePolicy (opened 3 KEY-ONE) openedCalls) ≡ true
+unfolding computing actAnswers allGranted opened
+mode-3-granted = refl
 
-both-other : told (actAnswers consolePolicy (opened 3 KEY-OTHER) openedCalls) ≡ 5 ∷ []
+mode-3-one : told (actAnswers consolePolicy (opened 3 KEY-ONE) openedCalls) ≡ 1 ∷ []
 unfolding computing actAnswers told opened
-both-other = refl
+mode-3-one = refl
 
-pub both-needed : Claimed consolePolicy 3 (opened 3 KEY-ONE) (opened 3 KEY-OTHER) openedCalls → ⊥
-both-needed = different consolePolicy 3 (opened 3 KEY-ONE) (opened 3 KEY-OTHER) openedCalls 0 _ _ _ both-one both-other (λ e. omega arith)
+mode-3-other : told (actAnswers consolePolicy (opened 3 KEY-OTHER) openedCalls) ≡ 5 ∷ []
+unfolding computing actAnswers told opened
+mode-3-other = refl
+
+pub mode-3-needed : Claimed consolePolicy 3 (opened 3 KEY-ONE) (opened 3 KEY-OTHER) openedCalls → ⊥
+unfolding runsSound
+mode-3-needed = different consolePolicy 3 (opened 3 KEY-ONE) (opened 3 KEY-OTHER) openedCalls 0 _ _ (test 4 _ runs-sound) mode-3-granted mode-3-one mode-3-other (λ e. omega arith)

@@ -11,20 +11,25 @@ use Rattle.rules.specs.Choice.{every}
 use Rattle.rules.specs.Scan.{first}
 use Rattle.rules.proofs.Scans.{first-yes, first-no, first-done}
 
-head : (t b : Bool) → cond t b false ≡ true → t ≡ true
-head true b e = refl
-head false b e = e
-
-tail : (t b : Bool) → cond t b false ≡ true → b ≡ true
-tail true b e = e
-tail false b e = absurd (false≢true e)
+pub both : (a b : Bool) → cond a b false ≡ true → (a ≡ true) × (b ≡ true)
+both true b e = (refl, e)
+both false b e = absurd (false≢true e)
 
 -- the i-th test of a list that passes
 pub test : (i : ℕ) (ts : List Bool) → every ts ≡ true → getD ts i true ≡ true
 unfolding every
 test i [] e = refl
-test zero (t ∷ ts) e = head t (every ts) e
-test (suc i) (t ∷ ts) e = test i ts (tail t (every ts) e)
+test zero (t ∷ ts) e = both t (every ts) e .0
+test (suc i) (t ∷ ts) e = test i ts (both t (every ts) e .1)
+
+-- a list of tests that pass, one after the other
+pub also : (t : Bool) (ts : List Bool) → t ≡ true → every ts ≡ true → every (t ∷ ts) ≡ true
+unfolding every
+also t ts h hs = rw (h, hs)
+
+pub none-left : every [] ≡ true
+unfolding every
+none-left = refl
 
 first-from : (p : ℕ → Bool) (k i n : ℕ) → n - i ≡ k → first p i n < n → p (first p i n) ≡ true
 first-from p zero i n e h = absurd (out (first-done p i n refl (omega arith)))
