@@ -11,7 +11,7 @@ use Rattle.rules.specs.Choice.{every}
 use Rattle.rules.specs.Computing.{computing}
 use Rattle.rules.specs.Store.{Store}
 use Rattle.rules.specs.Calls.{Call}
-use Rattle.rules.specs.Sound.{sound}
+use Rattle.rules.specs.Sound.{sound, policySound}
 use Rattle.rules.specs.Refusals.{GRANTED, refusalNumber}
 use Rattle.rules.specs.Step.{Reply, Outcome, act, step, answers, refusedReply}
 use Rattle.rules.specs.Console.{consoleWith, consolePolicy}
@@ -19,7 +19,7 @@ use Rattle.rules.specs.declared.refusal.Refusal.the-variants.{Unsound}
 use Rattle.secrecy.specs.Claim.{Claimed}
 use Rattle.secrecy.specs.Needed.{KEY-ONE, KEY-OTHER, told, heldPolicy, heldCalls, reachedPolicy, reachedCalls, opened, openedCalls}
 use Rattle.secrecy.proofs.Tests.{test, both}
-use Rattle.secrecy.proofs.Quick.{cut, quickShown, closedSlots, quickSound, soundAlong, actAnswers, answers-act, sound-quick}
+use Rattle.secrecy.proofs.Quick.{cut, quickShown, filesSound, restSound, quietEffect, quiet, soundAlong, actAnswers, answers-act, sound-quick}
 
 -- ---- a run whose calls are all granted needs no soundness test: an unsound store refuses
 
@@ -49,35 +49,42 @@ granted-answers Q (c ∷ cs) s h =
 
 -- ---- so the claim does not hold where one run, sound at each of its stores and granted, tells a byte and the other another
 
-different : (Q : List ℕ) (f : ℕ) (s s′ : Store) (cs : List Call) (k : ℕ) (xs ys : List ℕ) → soundAlong Q s cs ≡ true → allGranted (actAnswers Q s cs) ≡ true
+different : (Q : List ℕ) (f : ℕ) (s s′ : Store) (cs : List Call) (k : ℕ) (xs ys : List ℕ)
+    → policySound Q ≡ true → filesSound (s .files) (s .contents) ≡ true → soundAlong Q s cs ≡ true → allGranted (actAnswers Q s cs) ≡ true
     → told (actAnswers Q s cs) ≡ xs → told (actAnswers Q s′ cs) ≡ ys → (getD xs k 0 ≡ getD ys k 0 → ⊥) → Claimed Q f s s′ cs → ⊥
-different Q f s s′ cs k xs ys along all p q ne c =
-    let one : answers Q s cs ≡ actAnswers Q s cs = answers-act Q cs s along in
+different Q f s s′ cs k xs ys policy files along all p q ne c =
+    let one : answers Q s cs ≡ actAnswers Q s cs = answers-act Q policy cs s files along in
     let other : answers Q s′ cs ≡ actAnswers Q s′ cs = granted-answers Q cs s′ (ap allGranted (sym (c .same-answers) ∙ one) ∙ all) in
     ne (ap (λ (l : List ℕ). getD l k 0) (sym p ∙ ap told (sym one ∙ c .same-answers ∙ other) ∙ q))
 
--- ---- the stores of the runs are sound; the first is the test console's
+-- ---- the stores and the policies of the runs are sound
 
-runsSound : List Bool
-runsSound =
-    quickSound consolePolicy (consoleWith KEY-ONE)
-    ∷ soundAlong heldPolicy (consoleWith KEY-ONE) heldCalls
-    ∷ soundAlong reachedPolicy (consoleWith KEY-ONE) reachedCalls
-    ∷ soundAlong consolePolicy (opened 1 KEY-ONE) openedCalls
-    ∷ soundAlong consolePolicy (opened 3 KEY-ONE) openedCalls
-    ∷ []
+files-sound : filesSound (consoleWith KEY-ONE .files) (consoleWith KEY-ONE .contents) ≡ true
+unfolding computing filesSound quickShown cut
+files-sound = refl
 
-runs-sound : every runsSound ≡ true
-unfolding computing runsSound soundAlong quickSound closedSlots quickShown cut heldPolicy reachedPolicy opened
-runs-sound = refl
+opened-files : (mode : ℕ) → filesSound (opened mode KEY-ONE .files) (opened mode KEY-ONE .contents) ≡ true
+unfolding opened
+opened-files mode = files-sound
+
+console-rest : restSound (consoleWith KEY-ONE) ≡ true
+unfolding computing restSound
+console-rest = refl
+
+policies-sound : every (policySound consolePolicy ∷ policySound heldPolicy ∷ policySound reachedPolicy ∷ []) ≡ true
+unfolding computing heldPolicy reachedPolicy
+policies-sound = refl
 
 pub key-one-sound : sound consolePolicy (consoleWith KEY-ONE) ≡ true
-unfolding runsSound
-key-one-sound = sound-quick consolePolicy (consoleWith KEY-ONE) (test 0 _ runs-sound)
+key-one-sound = sound-quick (consoleWith KEY-ONE) files-sound console-rest consolePolicy (test 0 _ policies-sound)
 
 -- ---- each run tells the first byte of the key
 
 -- a held label may read
+held-along : soundAlong heldPolicy (consoleWith KEY-ONE) heldCalls ≡ true
+unfolding computing soundAlong restSound quiet quietEffect heldPolicy
+held-along = refl
+
 held-granted : allGranted (actAnswers heldPolicy (consoleWith KEY-ONE) heldCalls) ≡ true
 unfolding computing actAnswers allGranted heldPolicy
 held-granted = refl
@@ -91,10 +98,13 @@ unfolding computing actAnswers told heldPolicy
 held-other = refl
 
 pub held-needed : Claimed heldPolicy 3 (consoleWith KEY-ONE) (consoleWith KEY-OTHER) heldCalls → ⊥
-unfolding runsSound
-held-needed = different heldPolicy 3 (consoleWith KEY-ONE) (consoleWith KEY-OTHER) heldCalls 1 _ _ (test 1 _ runs-sound) held-granted held-one held-other (λ e. omega arith)
+held-needed = different heldPolicy 3 (consoleWith KEY-ONE) (consoleWith KEY-OTHER) heldCalls 1 _ _ (test 1 _ policies-sound) files-sound held-along held-granted held-one held-other (λ e. omega arith)
 
 -- a label that two transitions give may read
+reached-along : soundAlong reachedPolicy (consoleWith KEY-ONE) reachedCalls ≡ true
+unfolding computing soundAlong restSound quiet quietEffect reachedPolicy
+reached-along = refl
+
 reached-granted : allGranted (actAnswers reachedPolicy (consoleWith KEY-ONE) reachedCalls) ≡ true
 unfolding computing actAnswers allGranted reachedPolicy
 reached-granted = refl
@@ -108,10 +118,13 @@ unfolding computing actAnswers told reachedPolicy
 reached-other = refl
 
 pub reached-needed : Claimed reachedPolicy 3 (consoleWith KEY-ONE) (consoleWith KEY-OTHER) reachedCalls → ⊥
-unfolding runsSound
-reached-needed = different reachedPolicy 3 (consoleWith KEY-ONE) (consoleWith KEY-OTHER) reachedCalls 3 _ _ (test 2 _ runs-sound) reached-granted reached-one reached-other (λ e. omega arith)
+reached-needed = different reachedPolicy 3 (consoleWith KEY-ONE) (consoleWith KEY-OTHER) reachedCalls 3 _ _ (test 2 _ policies-sound) files-sound reached-along reached-granted reached-one reached-other (λ e. omega arith)
 
 -- the file is open in mode 1
+opened-along : soundAlong consolePolicy (opened 1 KEY-ONE) openedCalls ≡ true
+unfolding computing soundAlong restSound quiet quietEffect opened
+opened-along = refl
+
 opened-granted : allGranted (actAnswers consolePolicy (opened 1 KEY-ONE) openedCalls) ≡ true
 unfolding computing actAnswers allGranted opened
 opened-granted = refl
@@ -125,10 +138,13 @@ unfolding computing actAnswers told opened
 opened-other = refl
 
 pub opened-needed : Claimed consolePolicy 3 (opened 1 KEY-ONE) (opened 1 KEY-OTHER) openedCalls → ⊥
-unfolding runsSound
-opened-needed = different consolePolicy 3 (opened 1 KEY-ONE) (opened 1 KEY-OTHER) openedCalls 0 _ _ (test 3 _ runs-sound) opened-granted opened-one opened-other (λ e. omega arith)
+opened-needed = different consolePolicy 3 (opened 1 KEY-ONE) (opened 1 KEY-OTHER) openedCalls 0 _ _ (test 0 _ policies-sound) (opened-files 1) opened-along opened-granted opened-one opened-other (λ e. omega arith)
 
 -- and in mode 3
+mode-3-along : soundAlong consolePolicy (opened 3 KEY-ONE) openedCalls ≡ true
+unfolding computing soundAlong restSound quiet quietEffect opened
+mode-3-along = refl
+
 mode-3-granted : allGranted (actAnswers consolePolicy (opened 3 KEY-ONE) openedCalls) ≡ true
 unfolding computing actAnswers allGranted opened
 mode-3-granted = refl
@@ -142,5 +158,4 @@ unfolding computing actAnswers told opened
 mode-3-other = refl
 
 pub mode-3-needed : Claimed consolePolicy 3 (opened 3 KEY-ONE) (opened 3 KEY-OTHER) openedCalls → ⊥
-unfolding runsSound
-mode-3-needed = different consolePolicy 3 (opened 3 KEY-ONE) (opened 3 KEY-OTHER) openedCalls 0 _ _ (test 4 _ runs-sound) mode-3-granted mode-3-one mode-3-other (λ e. omega arith)
+mode-3-needed = different consolePolicy 3 (opened 3 KEY-ONE) (opened 3 KEY-OTHER) openedCalls 0 _ _ (test 0 _ policies-sound) (opened-files 3) mode-3-along mode-3-granted mode-3-one mode-3-other (λ e. omega arith)

@@ -1,23 +1,30 @@
 -- Runs that are quick to compute: the soundness test looks at the contents cut into blocks once. They are the runs of the rules.
 use Prim.Native.Nat.{ℕ, zero, suc, _+_, _*_, _<_, _≤_}
-use mathlib.Core.Path.{_≡_, refl, sym, ap, _∙_, subst, fun-ext}
+use mathlib.Core.Path.{_≡_, refl, sym, ap, ap₂, _∙_, subst, fun-ext}
 use mathlib.Core.Bool.{Bool, true, false, false≢true, cond}
 use mathlib.Core.List.{List, [], _∷_}
 use native.Mathlib.Nat.{not-suc-le-zero, le-of-suc-le-suc}
 use native.Mathlib.Omega.{arith}
 use native.Mathlib.Decide.{decLt}
 use borrow.Author.Tests.{eqb-true}
+use lib.Dec.{eqb}
 use lib.ListN.{length, getD, take, drop, List·getD-eq-default, drop-of-length-le}
 use lib.Seq.{drop-drop}
 use Rattle.rules.specs.Choice.{every, some}
 use Rattle.rules.specs.Scan.{all}
 use Rattle.rules.specs.Computing.{computing}
-use Rattle.rules.specs.Layout.{SLOTS, OPENS, PROCESSES, BLOCK, OPEN, FILE}
-use Rattle.rules.specs.Store.{Store, Tree, View, slot, view, block, tab, procOf, descOf, hidden, shownOf}
+use Rattle.rules.specs.Layout.{SLOTS, OPENS, PROCESSES, BLOCK, OPEN, FILE, PROCESS}
+use Rattle.rules.specs.Store.{Store, Tree, View, slot, view, block, tab, procOf, descOf, hidden, shownOf, applyAll}
 use Rattle.rules.specs.Calls.{Call}
 use Rattle.rules.specs.Sound.{sound, storeSound, sizesSound, tablesSound, policySound, slotSound, kindSound, plainSound, directorySound, allZero, openSound, procSound, isOpen}
 use Rattle.rules.specs.Walk.{isDirectory, isPlain}
-use Rattle.rules.specs.Step.{Reply, Outcome, step, act, answers}
+use Rattle.rules.specs.Decide.{decide}
+use Rattle.rules.specs.Effects.{openChanges, duplicateChanges, carryOut}
+use Rattle.rules.specs.Step.{Reply, Outcome, step, act, storeAfter, outcomeOf, answers}
+use Rattle.rules.specs.declared.decision.Effect.{Effect}
+use Rattle.rules.specs.declared.decision.Effect.the-variants as effect
+use Rattle.rules.specs.declared.decision.Decision.{Decision}
+use Rattle.rules.specs.declared.decision.Decision.the-variants.{Refused, Granted}
 use Rattle.rules.proofs.Scans.{all-at, all-of}
 use Rattle.secrecy.proofs.Tests.{test, also, none-left, both}
 
@@ -37,18 +44,41 @@ quickView s = record {
   desc = descOf (s .processes);
 }
 
--- The slots are tested as if nothing were open, by a call on the files and the contents alone: antt computes it once for all the stores of the
--- runs, which differ in their open files and processes.
+-- The calls of the runs leave the files and the contents as they are. So these are tested once, as if nothing were open, and the open files and the
+-- processes at each store.
 abbrev closedView : (F C : List ℕ) → View
 closedView F C = record { tree = record { file = tab FILE F; shown = quickShown F C }; opened = λ _ _. 0; proc = λ _ _. 0; desc = λ _ _. 0 }
 
-unfoldable pub closedSlots : (F C : List ℕ) → Bool
-closedSlots F C = all (slotSound (closedView F C)) 0 SLOTS
+unfoldable pub filesSound : (F C : List ℕ) → Bool
+filesSound F C =
+    every (eqb (length F) (SLOTS * FILE) ∷ eqb (length C) (SLOTS * BLOCK) ∷ isDirectory (closedView F C .tree) (slot 0) ∷ all (slotSound (closedView F C)) 0 SLOTS ∷ [])
 
-unfoldable pub quickSound : List ℕ → Store → Bool
-quickSound Q s =
-    every (policySound Q ∷ sizesSound s ∷ isDirectory (quickView s .tree) (slot 0) ∷ closedSlots (s .files) (s .contents)
-    ∷ all (openSound (quickView s)) 0 OPENS ∷ all (procSound (quickView s)) 0 PROCESSES ∷ [])
+unfoldable pub restSound : Store → Bool
+restSound s =
+    every (eqb (length (s .opens)) (OPENS * OPEN) ∷ eqb (length (s .processes)) (PROCESSES * PROCESS) ∷ all (openSound (quickView s)) 0 OPENS
+    ∷ all (procSound (quickView s)) 0 PROCESSES ∷ [])
+
+-- a call that changes neither files nor contents
+unfoldable pub quietEffect : Effect → Bool
+quietEffect effect.Nothing = true
+quietEffect (effect.Opened n) = true
+quietEffect (effect.Truncated n r) = false
+quietEffect (effect.Created d s r) = false
+quietEffect (effect.Unlinked d u) = false
+quietEffect (effect.Removed d s r) = false
+quietEffect (effect.Linked d s links) = false
+quietEffect (effect.BitsChanged s bits) = false
+quietEffect (effect.Closed i r) = false
+quietEffect (effect.Stored w) = false
+quietEffect (effect.Moved e offset) = true
+quietEffect (effect.Duplicated i e refs) = true
+quietEffect (effect.Forked q user label) = false
+quietEffect effect.Exited = false
+quietEffect (effect.Relabelled label) = true
+
+unfoldable pub quiet : Decision → Bool
+quiet (Refused r k) = true
+quiet (Granted n o e) = quietEffect e
 
 -- a run without the soundness test, and that test at each of its stores
 unfoldable pub actAnswers : List ℕ → Store → List Call → List Reply
@@ -57,7 +87,7 @@ actAnswers Q s (c ∷ cs) = let x = act Q s c in x .reply ∷ actAnswers Q (x .s
 
 unfoldable pub soundAlong : List ℕ → Store → List Call → Bool
 soundAlong Q s [] = true
-soundAlong Q s (c ∷ cs) = cond (quickSound Q s) (soundAlong Q (act Q s c .store) cs) false
+soundAlong Q s (c ∷ cs) = cond (restSound s) (cond (quiet (decide Q (view s) c)) (soundAlong Q (act Q s c .store) cs) false) false
 
 -- ---- they are the rules'
 
@@ -84,10 +114,6 @@ shown-quick F C size = fun-ext (λ d. ap (λ (l : List ℕ). drop (hidden F d) l
         let m : length C ≤ 512 * d = omega arith in
         let z : drop (512 * d) C ≡ [] = drop-of-length-le C m in
         List·getD-eq-default (cut SLOTS C) [] n ∙ rw z refl
-
-contents-size : (s : Store) → sizesSound s ≡ true → length (s .contents) ≡ 32768
-unfolding sizesSound
-contents-size s h = eqb-true _ _ (test 1 _ h)
 
 -- a slot that is sound though nothing is open is sound whatever is open
 nothing-open : (s : ℕ) → isOpen (λ _ _. 0) s ≡ false
@@ -124,33 +150,76 @@ module _ (t : Tree) (E P D : ℕ → ℕ → ℕ) where
   unfolding slotSound closed opened
   slot-opened s h = also _ _ (test 0 _ h) (also _ _ (test 1 _ h) (also _ _ (kind-opened s (test 2 _ h)) none-left))
 
-slots-quick : (s : Store) → closedSlots (s .files) (s .contents) ≡ true → all (slotSound (quickView s)) 0 SLOTS ≡ true
-unfolding closedSlots closed opened
-slots-quick s h =
-    all-of (slotSound (quickView s)) 0 SLOTS (λ d lo hi. slot-opened (quickView s .tree) (tab OPEN (s .opens)) (procOf (s .processes)) (descOf (s .processes)) d
-    (all-at (slotSound (closedView (s .files) (s .contents))) 0 SLOTS h d lo hi))
+module _ (s : Store) (h : filesSound (s .files) (s .contents) ≡ true) (g : restSound s ≡ true) where
+  slots-quick : all (slotSound (quickView s)) 0 SLOTS ≡ true
+  unfolding filesSound closed opened
+  slots-quick =
+      all-of (slotSound (quickView s)) 0 SLOTS (λ d lo hi. slot-opened (quickView s .tree) (tab OPEN (s .opens)) (procOf (s .processes)) (descOf (s .processes)) d
+      (all-at (slotSound (closedView (s .files) (s .contents))) 0 SLOTS (test 3 _ h) d lo hi))
 
-tables-quick : (Q : List ℕ) (s : Store) → quickSound Q s ≡ true → tablesSound (quickView s) ≡ true
-unfolding quickSound tablesSound
-tables-quick Q s h = also _ _ (test 2 _ h) (also _ _ (slots-quick s (test 3 _ h)) (also _ _ (test 4 _ h) (also _ _ (test 5 _ h) none-left)))
+  tables-quick : tablesSound (quickView s) ≡ true
+  unfolding filesSound restSound tablesSound
+  tables-quick = also _ _ (test 2 _ h) (also _ _ slots-quick (also _ _ (test 2 _ g) (also _ _ (test 3 _ g) none-left)))
 
-pub sound-quick : (Q : List ℕ) (s : Store) → quickSound Q s ≡ true → sound Q s ≡ true
-unfolding sound storeSound quickSound
-sound-quick Q s h =
-    let z : sizesSound s ≡ true = test 1 _ h in
-    let q : quickShown (s .files) (s .contents) ≡ shownOf (s .files) (s .contents) = shown-quick (s .files) (s .contents) (contents-size s z) in
-    let v : tablesSound (view s) ≡ true
-    = subst (λ (g : ℕ → List ℕ). tablesSound (record { tree = record { file = tab FILE (s .files); shown = g }; opened = tab OPEN (s .opens); proc = procOf (s .processes); desc = descOf (s .processes) }) ≡ true) q (tables-quick Q s h) in
-    also _ _ (test 0 _ h) (also _ _ (simp (z, v)) none-left)
+  sizes-quick : sizesSound s ≡ true
+  unfolding filesSound restSound sizesSound
+  sizes-quick = also _ _ (test 0 _ h) (also _ _ (test 1 _ h) (also _ _ (test 0 _ g) (also _ _ (test 1 _ g) none-left)))
+
+  contents-size : length (s .contents) ≡ 32768
+  unfolding filesSound
+  contents-size = eqb-true _ _ (test 1 _ h)
+
+  tables-sound : tablesSound (view s) ≡ true
+  tables-sound = subst
+      (λ (f : ℕ → List ℕ). tablesSound (record { tree = record { file = tab FILE (s .files); shown = f }; opened = tab OPEN (s .opens); proc = procOf (s .processes); desc = descOf (s .processes) }) ≡ true)
+      (shown-quick (s .files) (s .contents) contents-size) tables-quick
+
+  pub sound-quick : (Q : List ℕ) → policySound Q ≡ true → sound Q s ≡ true
+  unfolding sound storeSound
+  sound-quick Q q = also _ _ q (also _ _ (simp (sizes-quick, tables-sound)) none-left)
+
+-- ---- runs
+
+effect-quiet : (c : Call) (e : Effect) (s : Store) → quietEffect e ≡ true → (carryOut c e s .files ≡ s .files) × (carryOut c e s .contents ≡ s .contents)
+unfolding quietEffect carryOut applyAll openChanges duplicateChanges
+effect-quiet c effect.Nothing s h = (refl, refl)
+effect-quiet c (effect.Opened n) s h = (refl, refl)
+effect-quiet c (effect.Truncated n r) s h = absurd (false≢true h)
+effect-quiet c (effect.Created d t r) s h = absurd (false≢true h)
+effect-quiet c (effect.Unlinked d u) s h = absurd (false≢true h)
+effect-quiet c (effect.Removed d t r) s h = absurd (false≢true h)
+effect-quiet c (effect.Linked d t links) s h = absurd (false≢true h)
+effect-quiet c (effect.BitsChanged t bits) s h = absurd (false≢true h)
+effect-quiet c (effect.Closed i r) s h = absurd (false≢true h)
+effect-quiet c (effect.Stored w) s h = absurd (false≢true h)
+effect-quiet c (effect.Moved e offset) s h = (refl, refl)
+effect-quiet c (effect.Duplicated i e refs) s h = (refl, refl)
+effect-quiet c (effect.Forked q user label) s h = absurd (false≢true h)
+effect-quiet c effect.Exited s h = absurd (false≢true h)
+effect-quiet c (effect.Relabelled label) s h = (refl, refl)
+
+decision-quiet : (s : Store) (c : Call) (d : Decision) → quiet d ≡ true → (storeAfter s c d .files ≡ s .files) × (storeAfter s c d .contents ≡ s .contents)
+unfolding quiet storeAfter
+decision-quiet s c (Refused r k) h = (refl, refl)
+decision-quiet s c (Granted n o e) h = effect-quiet c e s h
+
+act-quiet : (Q : List ℕ) (s : Store) (c : Call) → quiet (decide Q (view s) c) ≡ true → filesSound (s .files) (s .contents) ≡ true
+    → filesSound (act Q s c .store .files) (act Q s c .store .contents) ≡ true
+unfolding act outcomeOf
+act-quiet Q s c h g =
+    let e : (storeAfter s c (decide Q (view s) c) .files ≡ s .files) × (storeAfter s c (decide Q (view s) c) .contents ≡ s .contents) = decision-quiet s c (decide Q (view s) c) h in
+    ap₂ filesSound (e .0) (e .1) ∙ g
 
 step-act : (Q : List ℕ) (s : Store) (c : Call) → sound Q s ≡ true → step Q s c ≡ act Q s c
 unfolding step
 step-act Q s c h = rw h
 
-pub answers-act : (Q : List ℕ) (cs : List Call) (s : Store) → soundAlong Q s cs ≡ true → answers Q s cs ≡ actAnswers Q s cs
+pub answers-act : (Q : List ℕ) → policySound Q ≡ true → (cs : List Call) (s : Store) → filesSound (s .files) (s .contents) ≡ true → soundAlong Q s cs ≡ true
+    → answers Q s cs ≡ actAnswers Q s cs
 unfolding answers actAnswers soundAlong
-answers-act Q [] s h = refl
-answers-act Q (c ∷ cs) s h =
-    let g : (quickSound Q s ≡ true) × (soundAlong Q (act Q s c .store) cs ≡ true) = both _ _ h in
-    ap (λ (x : Outcome). x .reply ∷ answers Q (x .store) cs) (step-act Q s c (sound-quick Q s (g .0)))
-    ∙ ap (λ (rs : List Reply). act Q s c .reply ∷ rs) (answers-act Q cs (act Q s c .store) (g .1))
+answers-act Q p [] s f h = refl
+answers-act Q p (c ∷ cs) s f h =
+    let g : (restSound s ≡ true) × (cond (quiet (decide Q (view s) c)) (soundAlong Q (act Q s c .store) cs) false ≡ true) = both _ _ h in
+    let k : (quiet (decide Q (view s) c) ≡ true) × (soundAlong Q (act Q s c .store) cs ≡ true) = both _ _ (g .1) in
+    ap (λ (x : Outcome). x .reply ∷ answers Q (x .store) cs) (step-act Q s c (sound-quick s f (g .0) Q p))
+    ∙ ap (λ (rs : List Reply). act Q s c .reply ∷ rs) (answers-act Q p cs (act Q s c .store) (act-quiet Q s c (k .0) f) (k .1))
