@@ -1,13 +1,16 @@
 -- Each of these runs leaves one supposition out and gets different answers, so what demand 3 claims does not hold of it.
 use Prim.Native.Nat.{ℕ}
 use mathlib.Core.Path.{_≡_, refl, sym, ap, _∙_}
-use mathlib.Core.Bool.{Bool, true, false, cond}
+use mathlib.Core.Bool.{Bool, true, false, not, cond}
 use mathlib.Core.List.{List, [], _∷_}
 use native.Mathlib.Omega.{arith}
 use borrow.Author.Tests.{eqb-true}
 use lib.Dec.{eqb}
 use lib.ListN.{getD}
 use Rattle.rules.specs.Choice.{every}
+use Rattle.rules.specs.Scan.{all}
+use Rattle.rules.specs.Layout.{LABELS}
+use Rattle.rules.specs.Rights.{moved}
 use Rattle.rules.specs.Computing.{computing}
 use Rattle.rules.specs.Store.{Store}
 use Rattle.rules.specs.Calls.{Call}
@@ -16,7 +19,7 @@ use Rattle.rules.specs.Refusals.{GRANTED, refusalNumber}
 use Rattle.rules.specs.Step.{Reply, Outcome, act, step, answers, refusedReply}
 use Rattle.rules.specs.Console.{consoleWith, consolePolicy}
 use Rattle.rules.specs.declared.refusal.Refusal.the-variants.{Unsound}
-use Rattle.secrecy.specs.Claim.{Claimed}
+use Rattle.secrecy.specs.Claim.{mayRead, Claimed}
 use Rattle.secrecy.specs.Needed.{KEY-ONE, KEY-OTHER, told, heldPolicy, heldCalls, reachedPolicy, reachedCalls, opened, openedCalls}
 use Rattle.secrecy.proofs.Tests.{test, both}
 use Rattle.secrecy.proofs.Quick.{cut, quickShown, filesSound, restSound, quietEffect, quiet, soundAlong, actAnswers, answers-act, sound-quick}
@@ -100,7 +103,11 @@ held-other = refl
 pub held-needed : Claimed heldPolicy 3 (consoleWith KEY-ONE) (consoleWith KEY-OTHER) heldCalls → ⊥
 held-needed = different heldPolicy 3 (consoleWith KEY-ONE) (consoleWith KEY-OTHER) heldCalls 1 _ _ (test 1 _ policies-sound) files-sound held-along held-granted held-one held-other (λ e. omega arith)
 
--- a label that two transitions give may read
+-- a label that two transitions give may read, and none that is held (0, 1, 2) or that one transition gives
+pub one-step-blind : all (λ l. all (λ m. not (mayRead reachedPolicy (moved reachedPolicy l m) 3)) 0 LABELS) 0 3 ≡ true
+unfolding computing reachedPolicy
+one-step-blind = refl
+
 reached-along : soundAlong reachedPolicy (consoleWith KEY-ONE) reachedCalls ≡ true
 unfolding computing soundAlong restSound quiet quietEffect reachedPolicy
 reached-along = refl

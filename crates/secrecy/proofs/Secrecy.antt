@@ -24,28 +24,7 @@ use Rattle.secrecy.proofs.Related.{Apart, Secret, Related, apart, same}
 use Rattle.secrecy.proofs.Facts.{files-size, opens-size, processes-size, plain-slot, plain-length}
 use Rattle.secrecy.proofs.Alike.{Alike, step-alike}
 
--- ---- the labels reached are closed under execute
-
-reach-closed : (Q : List ℕ) (s : Store) (l m : ℕ) → m < 16 → Reached Q s l → Reached Q s (moved Q l m)
-unfolding moved
-reach-closed Q s l m h r = go (eqb (transition Q l m) NONE) refl
-  where
-    go : (b : Bool) → eqb (transition Q l m) NONE ≡ b → Reached Q s (cond b l (transition Q l m))
-    go true e = r
-    go false e = given l m h (eqb-false _ _ e) r
-
--- ---- from the stores apart to those that differ in the file's bytes, and back
-
-pub differ-of : (f n L : ℕ) (s s′ : Store) → Apart f n s s′ → Own f n L (s .files) → DifferInBytes f s s′
-differ-of f n L s s′ a o = record {
-  plain = o .plain;
-  files = a .files;
-  opens = a .opens;
-  processes = a .processes;
-  size = a .contents .size;
-  others = agree-block f n (s .contents) (s′ .contents) (a .contents) (a .small);
-  rest = agree-rest f n (s .contents) (s′ .contents) (a .contents) (a .small) (tab FILE (s .files) f LENGTH) (o .within);
-}
+-- ---- from what is supposed to the relation that the calls keep
 
 apart-of : (f : ℕ) (s s′ : Store) → tab FILE (s .files) f LENGTH ≤ 512 → DifferInBytes f s s′ → Apart f (tab FILE (s .files) f LENGTH) s s′
 apart-of f s s′ small d = record {
@@ -56,7 +35,53 @@ apart-of f s s′ small d = record {
   small = small;
 }
 
+-- no open file, of whatever number, reads the slot
+unread-of : (Q : List ℕ) (s : Store) (f : ℕ) → sound Q s ≡ true → (OpenForReading s f → ⊥) → Unread f (s .opens)
+unread-of Q s f h none e r q = go (decLt e 32)
+  where
+    go : Dec (e < 32) → ⊥
+    go (yes lt) = none (record { entry = e; number = lt; mode = r; names = q })
+    go (no ge) =
+        let z : tab OPEN (s .opens) e MODE ≡ 0 = List·getD-eq-default (s .opens) 0 (omega (arith, opens-size Q s h)) in
+        no-mode (rw z at r)
+
+labels-of : (Q : List ℕ) (s : Store) → sound Q s ≡ true → Labels (Reached Q s) (s .processes)
+unfolding inUse every
+labels-of Q s h = record { room = processes-size Q s h; used = λ p lt u. held _ (record { process = record { 0 = p }; used = simp (lt-ltb p 8 lt, eq-eqb _ _ u); has = refl }) }
+
+start : (Q : List ℕ) (f : ℕ) (s s′ : Store) → Supposed Q f s s′ → Related (Reached Q s) f (tab FILE (s .files) f LENGTH) (tab FILE (s .files) f LABEL) s s′
+start Q f s s′ h =
+    let plain : tab FILE (s .files) f KIND ≡ PLAIN = h .differ .plain in
+    let slot : f < 64 = plain-slot Q s (h .sound-one) f plain in
+    apart (apart-of f s s′ (plain-length Q s (h .sound-one) f plain) (h .differ))
+    (record {
+      own = record { plain = plain; label = refl; within = omega arith; room = omega (arith, files-size Q s (h .sound-one)) };
+      unread = unread-of Q s f (h .sound-one) (h .not-open);
+      labels = labels-of Q s (h .sound-one);
+    })
+
+-- the labels reached are closed under execute
+reach-closed : (Q : List ℕ) (s : Store) (l m : ℕ) → m < 16 → Reached Q s l → Reached Q s (moved Q l m)
+unfolding moved
+reach-closed Q s l m h r = go (eqb (transition Q l m) NONE) refl
+  where
+    go : (b : Bool) → eqb (transition Q l m) NONE ≡ b → Reached Q s (cond b l (transition Q l m))
+    go true e = r
+    go false e = given l m h (eqb-false _ _ e) r
+
 -- ---- a list of calls
+
+-- two stores that are apart differ in the file's bytes only
+pub differ-of : (f n L : ℕ) (s s′ : Store) → Apart f n s s′ → Own f n L (s .files) → DifferInBytes f s s′
+differ-of f n L s s′ a o = record {
+  plain = o .plain;
+  files = a .files;
+  opens = a .opens;
+  processes = a .processes;
+  size = a .contents .size;
+  others = agree-block f n (s .contents) (s′ .contents) (a .contents) (a .small);
+  rest = agree-rest f n (s .contents) (s′ .contents) (a .contents) (a .small) (tab FILE (s .files) f LENGTH) (o .within);
+}
 
 -- a plain file's slot is not free
 not-freed : (f n L : ℕ) (s : Store) → Own f n L (s .files) → slotFree (view s .tree) f ≡ false
@@ -95,28 +120,5 @@ module _ (Q : List ℕ) (reach : ℕ → Type 0) (f n L : ℕ) (blind : (l : ℕ
 
 -- ---- demand 3
 
--- no open file, of whatever number, reads the slot
-unread-of : (Q : List ℕ) (s : Store) (f : ℕ) → sound Q s ≡ true → (OpenForReading s f → ⊥) → Unread f (s .opens)
-unread-of Q s f h none e r q = go (decLt e 32)
-  where
-    go : Dec (e < 32) → ⊥
-    go (yes lt) = none (record { entry = e; number = lt; mode = r; names = q })
-    go (no ge) =
-        let z : tab OPEN (s .opens) e MODE ≡ 0 = List·getD-eq-default (s .opens) 0 (omega (arith, opens-size Q s h)) in
-        no-mode (rw z at r)
-
-labels-of : (Q : List ℕ) (s : Store) → sound Q s ≡ true → Labels (Reached Q s) (s .processes)
-unfolding inUse every
-labels-of Q s h = record { room = processes-size Q s h; used = λ p lt u. held _ (record { process = record { 0 = p }; used = simp (lt-ltb p 8 lt, eq-eqb _ _ u); has = refl }) }
-
 pub secrecy : Secrecy
-secrecy Q f s s′ h cs =
-    let plain : tab FILE (s .files) f KIND ≡ PLAIN = h .differ .plain in
-    let slot : f < 64 = plain-slot Q s (h .sound-one) f plain in
-    run-alike Q (Reached Q s) f (tab FILE (s .files) f LENGTH) (tab FILE (s .files) f LABEL) (h .no-reader) (reach-closed Q s) cs s s′
-    (apart (apart-of f s s′ (plain-length Q s (h .sound-one) f plain) (h .differ))
-    (record {
-      own = record { plain = plain; label = refl; within = omega arith; room = omega (arith, files-size Q s (h .sound-one)) };
-      unread = unread-of Q s f (h .sound-one) (h .not-open);
-      labels = labels-of Q s (h .sound-one);
-    }))
+secrecy Q f s s′ h cs = run-alike Q (Reached Q s) f (tab FILE (s .files) f LENGTH) (tab FILE (s .files) f LABEL) (h .no-reader) (reach-closed Q s) cs s s′ (start Q f s s′ h)
