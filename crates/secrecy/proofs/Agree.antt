@@ -3,11 +3,11 @@ use mathlib.Core.Path.{_≡_, refl, sym, ap, _∙_, subst}
 use mathlib.Core.List.{List, [], _∷_}
 use mathlib.Core.Logic.{_≢_}
 use Prim.Native.Nat.{ℕ, zero, suc, _+_, _-_, _*_, _/_, _%_, _≤_, _<_, min}
-use native.Mathlib.Nat.{add-suc, suc-add, div-add-mod', mod-lt}
+use native.Mathlib.Nat.{add-suc, div-add-mod', mod-lt}
 use native.Mathlib.Omega.{arith}
 use native.Mathlib.Decide.{decLt, decLe, ℕ-discrete}
-use lib.ListN.{length, getD, take, drop, set, length-set, length-take, length-drop, List·getD-eq-default}
-use lib.Seq.{sets, length-sets, getD-set-same, getD-set-other, getD-take, getD-drop, ext-getD}
+use lib.ListN.{length, getD, drop, set, length-set, length-take, length-drop, List·getD-eq-default}
+use lib.Seq.{sets, getD-set-same, getD-set-other, getD-take, getD-drop, ext-getD}
 use Rattle.rules.specs.Store.{block, puts}
 
 -- ---- one element, or some in a row, put anew

@@ -1,9 +1,8 @@
 -- One call: two related stores answer alike and stay related.
-use mathlib.Core.Path.{_≡_, refl, sym, ap, ap₂, _∙_, subst}
+use mathlib.Core.Path.{_≡_, refl, ap₂, subst}
 use mathlib.Core.Bool.{Bool, true, false, cond}
 use mathlib.Core.List.{List, [], _∷_}
 use Prim.Native.Nat.{ℕ, _<_}
-use lib.ListN.{length}
 use Rattle.rules.specs.Choice.{every}
 use Rattle.rules.specs.Layout.{FILE, LABEL}
 use Rattle.rules.specs.Rights.{moved}
@@ -12,13 +11,13 @@ use Rattle.rules.specs.Calls.{Call}
 use Rattle.rules.specs.Decide.{decide}
 use Rattle.rules.specs.Refusals.{GRANTED}
 use Rattle.rules.specs.Sound.{sound, storeSound, sizesSound, tablesSound, policySound}
-use Rattle.rules.specs.Step.{Reply, Outcome, fieldsOut, refusedReply, replyTo, storeAfter, outcomeOf, act, step}
+use Rattle.rules.specs.Step.{Outcome, fieldsOut, refusedReply, replyTo, storeAfter, outcomeOf, act, step}
 use Rattle.rules.specs.declared.refusal.Refusal.the-variants.{Unsound}
 use Rattle.rules.specs.declared.decision.Decision.{Decision}
 use Rattle.secrecy.specs.Claim.{mayRead}
-use Rattle.secrecy.proofs.Tables.{Own, Labels}
+use Rattle.secrecy.proofs.Tables.{Own}
 use Rattle.secrecy.proofs.Related.{Apart, Secret, Related, apart, same, view-same}
-use Rattle.secrecy.proofs.Fit.{Caller, Fit, refused, granted, decide-fit}
+use Rattle.secrecy.proofs.Fit.{Fit, refused, granted, decide-fit}
 use Rattle.secrecy.proofs.Facts.{based, small-label}
 use Rattle.secrecy.proofs.Kept.{effect-keep, buffer-same, name-same}
 

@@ -1,9 +1,8 @@
 -- Demand 3 is not empty: the fresh test console satisfies all that is supposed, slot 3 being /key, whatever its four bytes are.
 use Prim.Native.Nat.{ℕ, zero, suc, _+_, _-_, _*_, _≤_, _<_}
 use mathlib.Core.Path.{_≡_, refl, sym, ap, _∙_, subst}
-use mathlib.Core.Bool.{Bool, true, false, false≢true, cond}
+use mathlib.Core.Bool.{Bool, true, false, false≢true}
 use mathlib.Core.List.{List, [], _∷_, _++_, append-assoc}
-use mathlib.Core.Logic.{_≢_}
 use native.Mathlib.Omega.{arith}
 use native.Mathlib.Decide.{decLt}
 use borrow.Author.Tests.{eqb-true, ltb-true}
@@ -12,16 +11,16 @@ use lib.ListN.{length, getD, length-append, replicate, getD-replicate, length-re
 use Rattle.rules.specs.Computing.{computing}
 use Rattle.rules.specs.Choice.{every, implies}
 use Rattle.rules.specs.Scan.{all}
-use Rattle.rules.specs.Layout.{SLOTS, BLOCK, FILE, KIND, LABEL, LENGTH, NONE, USED, DOMAIN, MODE, SLOT, OPEN}
+use Rattle.rules.specs.Layout.{SLOTS, BLOCK, FILE, LABEL, NONE, DOMAIN}
 use Rattle.rules.specs.Rights.{transition}
-use Rattle.rules.specs.Store.{Store, store, view, tab, procOf, zeros, slot}
+use Rattle.rules.specs.Store.{view, tab, procOf, zeros, slot}
 use Rattle.rules.specs.Directories.{dirent}
 use Rattle.rules.specs.Checks.{inUse}
 use Rattle.rules.specs.Sound.{sound}
-use Rattle.rules.specs.Console.{FARES, NOW, KEY, filled, consoleContents, consoleFiles, consoleProcesses, consoleWith, consolePolicy}
+use Rattle.rules.specs.Console.{FARES, NOW, KEY, filled, consoleContents, consoleWith, consolePolicy}
 use Rattle.rules.specs.declared.ids.Pid.{Pid}
 use Rattle.rules.proofs.Scans.{all-at}
-use Rattle.secrecy.specs.Claim.{DifferInBytes, Held, Reached, held, given, mayRead, OpenForReading, Supposed}
+use Rattle.secrecy.specs.Claim.{Reached, held, given, mayRead, OpenForReading, Supposed}
 use Rattle.secrecy.specs.Needed.{KEY-ONE, KEY-OTHER}
 use Rattle.secrecy.proofs.Agree.{Agree}
 use Rattle.secrecy.proofs.Tables.{Own, no-mode}

@@ -1,18 +1,17 @@
 -- What the soundness test says of a store, as facts.
-use mathlib.Core.Path.{_≡_, refl, sym, ap, _∙_, subst}
-use mathlib.Core.Bool.{Bool, true, false, false≢true, cond}
-use mathlib.Core.List.{List, [], _∷_}
+use mathlib.Core.Path.{_≡_, refl}
+use mathlib.Core.Bool.{Bool, true, false, cond}
+use mathlib.Core.List.{List}
 use mathlib.Core.Logic.{_≢_}
-use Prim.Native.Nat.{ℕ, zero, suc, _+_, _*_, _≤_, _<_}
+use Prim.Native.Nat.{ℕ, _+_, _*_, _≤_, _<_}
 use native.Mathlib.Omega.{arith}
 use native.Mathlib.Decide.{decLt}
 use borrow.Author.Tests.{eqb-true, leb-true, ltb-true}
-use lib.Dec.{eqb, ltb, leb}
+use lib.Dec.{ltb}
 use lib.ListN.{length, getD, List·getD-eq-default}
 use Rattle.rules.specs.Choice.{every}
 use Rattle.rules.specs.Layout.{SLOTS, FILE, KIND, LABEL, LENGTH, PLAIN, DESCRIPTORS}
-use Rattle.rules.specs.Store.{Store, View, view, tab, slot, descOf}
-use Rattle.rules.specs.Walk.{isDirectory}
+use Rattle.rules.specs.Store.{Store, view, tab, descOf}
 use Rattle.rules.specs.Sound.{sound, storeSound, sizesSound, tablesSound, slotSound, recordSound, kindSound, plainSound}
 use Rattle.rules.proofs.Scans.{all-at}
 use Rattle.secrecy.proofs.Tests.{test, both}

@@ -1,21 +1,20 @@
 -- What a granted decision's numbers are known to satisfy: the checks that it has passed.
-use mathlib.Core.Path.{_≡_, refl, sym, _∙_, subst}
-use mathlib.Core.Bool.{Bool, true, false, false≢true, not, cond}
+use mathlib.Core.Path.{_≡_, refl}
+use mathlib.Core.Bool.{Bool, true, false, cond}
 use mathlib.Core.List.{List, [], _∷_}
 use mathlib.Core.Logic.{_≢_}
-use Prim.Native.Nat.{ℕ, zero, suc, _+_, _-_, _≤_, _<_, max}
+use Prim.Native.Nat.{ℕ, _+_, _≤_, _<_}
 use native.Mathlib.Omega.{arith}
 use borrow.Author.Tests.{ltb-true, eqb-true, eqb-false, not-true}
 use lib.Dec.{eqb, ltb}
-use lib.ListN.{length, getD}
+use lib.ListN.{length}
 use Rattle.rules.specs.Choice.{every}
-use Rattle.rules.specs.Scan.{first}
 use Rattle.rules.specs.Layout.{SLOTS, DIRENTS, LABEL, LENGTH, PLAIN, DIRECTORY, SLOT, MODE, USED}
 use Rattle.rules.specs.Store.{Tree, View, slot, subjectOf}
 use Rattle.rules.specs.Rights.{reads, labelGrants, moved, modeOf, modeRights}
 use Rattle.rules.specs.Paths.{Name, names, parentNames}
 use Rattle.rules.specs.Walk.{isDirectory, needAt, onReached, lookup, walk, walkPath, walkParent, enterParent, ROOT}
-use Rattle.rules.specs.Checks.{need, after, inUse, held, slotFree, freeSlot, freeFd}
+use Rattle.rules.specs.Checks.{need, after, inUse, held, slotFree}
 use Rattle.rules.specs.DecidePaths.{opening, openRoom, openFile, openMode, decideOpen, createRoom, createIn, decideCreate, unlinkAt, decideUnlink, removeAt, decideRemove, linkRoom, linkIn, linkTo, decideLink, listEntry, listAt, decideList, changeBitsAt, decideChangeBits, decideStat, executeAt, decideExecute, newOpen, truncated}
 use Rattle.rules.specs.Calls.{Call, operation}
 use Rattle.rules.specs.Decide.{decideClose, readOpen, decideRead, writeAt, writeFile, writeSome, writeOpen, decideWrite, decideSeek, duplicateTo, decideDuplicate, forkTo, decideOwn, decide}

@@ -1,32 +1,28 @@
 -- What a granted call does keeps two stores related, and its answer is the same from both.
-use mathlib.Core.Path.{_≡_, refl, sym, ap, ap₂, _∙_, subst}
+use mathlib.Core.Path.{_≡_, refl, sym, ap, _∙_, subst}
 use mathlib.Core.Bool.{Bool, true, false, false≢true, cond}
-use mathlib.Core.List.{List, [], _∷_, _++_}
+use mathlib.Core.List.{List, [], _∷_}
 use mathlib.Core.Logic.{_≢_}
-use Prim.Native.Nat.{ℕ, zero, suc, _+_, _*_, _/_, _%_, _≤_, _<_}
+use Prim.Native.Nat.{ℕ, _/_, _%_, _≤_, _<_}
 use native.Mathlib.Omega.{arith}
 use borrow.Author.Tests.{eqb-true}
 use lib.Dec.{eqb}
-use lib.ListN.{length, getD, take, drop}
+use lib.ListN.{length, take, drop}
 use lib.Seq.{sets}
 use Rattle.rules.specs.Choice.{every, some, implies}
-use Rattle.rules.specs.Layout.{FILE, KIND, LABEL, LENGTH, PLAIN, DIRECTORY, FREE}
-use Rattle.rules.specs.Rights.{READ, READ-WRITE, WRITE, reads, stands, covers, policyRights, labelGrants, modeRights, moved}
-use Rattle.rules.specs.Store.{Store, View, view, tab, block, slot, Change, clearTo, applyAll}
+use Rattle.rules.specs.Layout.{FILE, KIND, LABEL, LENGTH}
+use Rattle.rules.specs.Rights.{READ, READ-WRITE, WRITE, reads, stands, covers, labelGrants, modeRights, moved}
+use Rattle.rules.specs.Store.{Store, View, view, tab, slot, clearTo}
 use Rattle.rules.specs.Paths.{Name}
 use Rattle.rules.specs.Walk.{isDirectory}
 use Rattle.rules.specs.Calls.{Call}
 use Rattle.rules.specs.Checks.{slotFree, releasing, shareOf}
-use Rattle.rules.specs.Decide.{decide}
 use Rattle.rules.specs.Effects.{nameChanges, unnameChanges, createChanges, linkChanges, unnamedChanges, unlinkChanges, removeChanges, openChanges, truncateChanges, releaseChanges, closeChanges, storeChanges, duplicateChanges, shareChanges, fdOf, shared, sharedAll, released, releasedAll, forkChanges, carryOut, dirWords, words}
-use Rattle.rules.specs.Sound.{sound, storeSound, sizesSound, tablesSound, policySound}
-use Rattle.rules.specs.Step.{Reply, Outcome, nameOut, fieldsOut, bufferOut, refusedReply, replyTo, storeAfter, outcomeOf, act, step}
-use Rattle.rules.specs.Refusals.{GRANTED}
+use Rattle.rules.specs.Step.{nameOut, bufferOut}
 use Rattle.rules.specs.declared.ids.Slot.{Slot}
 use Rattle.rules.specs.declared.ids.Pid.{Pid}
 use Rattle.rules.specs.declared.ids.Fd.{Fd}
 use Rattle.rules.specs.declared.rights.OpenMode.{OpenMode}
-use Rattle.rules.specs.declared.refusal.Refusal.the-variants.{Unsound}
 use Rattle.rules.specs.declared.decision.DirChange.{DirChange}
 use Rattle.rules.specs.declared.decision.NewOpen.{NewOpen}
 use Rattle.rules.specs.declared.decision.Record.{Record}
@@ -38,18 +34,12 @@ use Rattle.rules.specs.declared.decision.Release.the-variants as release
 use Rattle.rules.specs.declared.decision.Share.{Share}
 use Rattle.rules.specs.declared.decision.Share.the-variants as share
 use Rattle.rules.specs.declared.decision.Output.{Output}
-use Rattle.rules.specs.declared.decision.Output.the-variants as output
 use Rattle.rules.specs.declared.decision.Effect.{Effect}
-use Rattle.rules.specs.declared.decision.Effect.the-variants as effect
-use Rattle.rules.specs.declared.decision.Decision.{Decision}
-use Rattle.rules.specs.declared.decision.Decision.the-variants.{Refused, Granted}
 use Rattle.secrecy.specs.Claim.{mayRead}
-use Rattle.secrecy.proofs.Tests.{test}
-use Rattle.secrecy.proofs.Tables.{Own, OwnWord}
+use Rattle.secrecy.proofs.Tables.{OwnWord}
 use Rattle.secrecy.proofs.Agree.{agree-block}
 use Rattle.secrecy.proofs.Related.{Apart, Secret, Related, apart, same, view-same, Keeps, KeepsAll, all-keep, append-keep, repeat-keep, alike-keep}
-use Rattle.secrecy.proofs.Fit.{OutputFit, silent, listed, described, fetched, OpenFit, EffectFit, nothing, opened, cut, created, unlinked, removed, linked, rebitted, closed, stored, shifted, duplicated, forked, exited, relabelled, Fit, refused, granted, decide-fit}
-use Rattle.secrecy.proofs.Facts.{based, small-label}
+use Rattle.secrecy.proofs.Fit.{OutputFit, silent, listed, described, fetched, OpenFit, EffectFit, nothing, opened, cut, created, unlinked, removed, linked, rebitted, closed, stored, shifted, duplicated, forked, exited, relabelled, granted}
 
 -- ---- an open that reads has asked for the right to read
 

@@ -1,17 +1,17 @@
 -- Two stores during a run: apart in the first n bytes of a plain file that nobody may read, or equal. n is the file's length where the list
 -- starts: calls put the same bytes into both, so the difference never grows. The rules see none of it, and every form of change keeps it.
-use mathlib.Core.Path.{_≡_, refl, sym, ap, _∙_, subst, fun-ext}
-use mathlib.Core.Bool.{Bool, true, false, cond}
+use mathlib.Core.Path.{_≡_, sym, ap, _∙_, subst, fun-ext}
+use mathlib.Core.Bool.{true}
 use mathlib.Core.List.{List, [], _∷_, _++_}
 use mathlib.Core.Logic.{_≢_}
-use Prim.Native.Nat.{ℕ, zero, suc, _+_, _-_, _*_, _≤_, _<_}
+use Prim.Native.Nat.{ℕ, zero, suc, _+_, _*_, _≤_, _<_}
 use native.Mathlib.Omega.{arith}
 use native.Mathlib.Nat.{add-zero}
-use native.Mathlib.Decide.{decLt, ℕ-discrete}
-use lib.ListN.{length, getD, drop, set, replicate, length-replicate}
+use native.Mathlib.Decide.{ℕ-discrete}
+use lib.ListN.{length, getD, drop, set, length-replicate}
 use lib.Seq.{sets}
 use Rattle.rules.specs.Scan.{iterate, repeat}
-use Rattle.rules.specs.Layout.{BLOCK, FILE, KIND, LENGTH, PLAIN, OPEN, DESCRIPTORS, DOMAIN}
+use Rattle.rules.specs.Layout.{FILE, KIND, LENGTH, PLAIN, OPEN, DESCRIPTORS, DOMAIN}
 use Rattle.rules.specs.Rights.{reads}
 use Rattle.rules.specs.Store.{Store, View, store, tab, procOf, descOf, view, block, hidden, shownOf, puts, zeros, Change, fileWord, fileTo, clearTo, bytesTo, openWord, openTo, openZero, descTo, procWord, procTo, procZero, change, applyAll}
 use Rattle.secrecy.proofs.Agree.{Agree, agree-sets, agree-clear, agree-block, agree-rest}

@@ -1,26 +1,26 @@
 -- Demand 3, proved.
-use mathlib.Core.Path.{_≡_, refl, sym, ap, ap₂, _∙_, subst}
+use mathlib.Core.Path.{_≡_, refl, ap, ap₂, subst}
 use mathlib.Core.Bool.{Bool, true, false, false≢true, cond}
 use mathlib.Core.List.{List, [], _∷_}
-use mathlib.Core.Logic.{_⊎_, inl, inr, _≢_}
-use Prim.Native.Nat.{ℕ, _+_, _*_, _≤_, _<_}
+use mathlib.Core.Logic.{inl, inr}
+use Prim.Native.Nat.{ℕ, _≤_, _<_}
 use native.Mathlib.Omega.{arith}
 use native.Mathlib.Decide.{decLt}
 use borrow.Author.Tests.{eqb-false, lt-ltb, eq-eqb}
 use lib.Dec.{eqb}
-use lib.ListN.{length, getD, drop, List·getD-eq-default}
+use lib.ListN.{List·getD-eq-default}
 use Rattle.rules.specs.Choice.{every, some}
-use Rattle.rules.specs.Layout.{FILE, OPEN, KIND, LABEL, LENGTH, PLAIN, NONE, SLOT, MODE, USED, DOMAIN}
+use Rattle.rules.specs.Layout.{FILE, OPEN, KIND, LABEL, LENGTH, PLAIN, NONE, MODE}
 use Rattle.rules.specs.Rights.{reads, transition, moved}
-use Rattle.rules.specs.Store.{Store, view, tab, procOf, block}
+use Rattle.rules.specs.Store.{Store, view, tab}
 use Rattle.rules.specs.Calls.{Call}
 use Rattle.rules.specs.Checks.{inUse, slotFree}
 use Rattle.rules.specs.Sound.{sound}
 use Rattle.rules.specs.Step.{Reply, step, answers, final}
-use Rattle.secrecy.specs.Claim.{DifferInBytes, Held, Reached, held, given, mayRead, OpenForReading, Supposed, freed, Claimed, Secrecy}
+use Rattle.secrecy.specs.Claim.{DifferInBytes, Reached, held, given, mayRead, OpenForReading, Supposed, freed, Claimed, Secrecy}
 use Rattle.secrecy.proofs.Agree.{agree-block, agree-rest, agree-of-blocks}
 use Rattle.secrecy.proofs.Tables.{Own, Unread, no-mode, Labels}
-use Rattle.secrecy.proofs.Related.{Apart, Secret, Related, apart, same}
+use Rattle.secrecy.proofs.Related.{Apart, Related, apart, same}
 use Rattle.secrecy.proofs.Facts.{files-size, opens-size, processes-size, plain-slot, plain-length}
 use Rattle.secrecy.proofs.Alike.{Alike, step-alike}
 
