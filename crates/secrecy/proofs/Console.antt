@@ -15,12 +15,13 @@ use Rattle.rules.specs.Layout.{SLOTS, BLOCK, FILE, LABEL, NONE, DOMAIN}
 use Rattle.rules.specs.Rights.{transition}
 use Rattle.rules.specs.Store.{view, tab, procOf, zeros, slot}
 use Rattle.rules.specs.Directories.{dirent}
+use Rattle.rules.specs.Calls.{Call}
 use Rattle.rules.specs.Checks.{inUse}
 use Rattle.rules.specs.Sound.{sound}
 use Rattle.rules.specs.Console.{FARES, NOW, KEY, filled, consoleContents, consoleWith, consolePolicy}
 use Rattle.rules.specs.declared.ids.Pid.{Pid}
 use Rattle.rules.proofs.Scans.{all-at}
-use Rattle.secrecy.specs.Claim.{Reached, held, given, mayRead, OpenForReading, Supposed}
+use Rattle.secrecy.specs.Claim.{Reached, held, given, mayRead, OpenForReading, Supposed, Claimed}
 use Rattle.secrecy.specs.Needed.{KEY-ONE, KEY-OTHER}
 use Rattle.secrecy.proofs.Agree.{Agree}
 use Rattle.secrecy.proofs.Tables.{Own, no-mode}
@@ -28,7 +29,7 @@ use Rattle.secrecy.proofs.Related.{Apart}
 use Rattle.secrecy.proofs.Tests.{test}
 use Rattle.secrecy.proofs.Alike.{sound-same}
 use Rattle.secrecy.proofs.Needed.{key-one-sound}
-use Rattle.secrecy.proofs.Secrecy.{differ-of}
+use Rattle.secrecy.proofs.Secrecy.{differ-of, secrecy}
 
 -- ---- two lists that have different middles of one length
 
@@ -173,6 +174,10 @@ console-supposed k k′ e e′ = record {
   no-reader = λ l r. rw (key-label k) (blind l (reached-few k l r));
   not-open = nothing-open k;
 }
+
+-- so no list of calls tells anything of the key
+pub console-secrecy : (k k′ : List ℕ) → length k ≡ 4 → length k′ ≡ 4 → (cs : List Call) → Claimed consolePolicy 3 (consoleWith k) (consoleWith k′) cs
+console-secrecy k k′ e e′ cs = secrecy consolePolicy 3 (consoleWith k) (consoleWith k′) (console-supposed k k′ e e′) cs
 
 -- two keys that differ in every byte
 pub keys-supposed : Supposed consolePolicy 3 (consoleWith KEY-ONE) (consoleWith KEY-OTHER)

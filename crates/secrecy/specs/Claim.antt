@@ -23,7 +23,7 @@ abbrev pub recordField : Store → ℕ → ℕ → ℕ
 recordField s f k = view s .tree .file f k
 
 -- "Two stores differ only in a file's bytes if its slot has the same plain record in both, and everything else, policy included, is equal
--- except the slot's bytes before the record's length"
+-- except the slot's bytes before the record's length". `others` speaks of the other slots' bytes, `rest` of the slot's own from that length on
 pub record DifferInBytes (f : ℕ) (s s′ : Store) : Type 0 where
   pub plain : recordField s f KIND ≡ PLAIN
   pub files : s .files ≡ s′ .files
@@ -58,8 +58,10 @@ pub record OpenForReading (s : Store) (f : ℕ) : Type 0 where
   pub mode : reads (view s .opened entry MODE) ≡ true
   pub names : view s .opened entry SLOT ≡ f
 
--- ---- what is supposed where the list starts
+-- ---- "What the demand supposes is supposed where the list starts"
 
+-- two sound stores that differ only in the file's bytes; no label that is held or can be reached may read the file's label; the file is not open for
+-- reading. The records are equal, so what is said of labels and open files of the one store holds of the other
 pub record Supposed (Q : List ℕ) (f : ℕ) (s s′ : Store) : Type 0 where
   pub sound-one : sound Q s ≡ true
   pub sound-other : sound Q s′ ≡ true
