@@ -34,7 +34,7 @@ pub record Alike (reach : ℕ → Type 0) (f n L : ℕ) (x x′ : Outcome) : Typ
   pub replies : x .reply ≡ x′ .reply
   pub stores : Related reach f n L (x .store) (x′ .store)
 
-module _ (Q : List ℕ) (reach : ℕ → Type 0) (f n L : ℕ) (blind : (l : ℕ) → reach l → mayRead Q l L ≡ false)
+module _ (Q : List ℕ) (reach : ℕ → Type 0) (f n L : ℕ) (no-right : (l : ℕ) → reach l → mayRead Q l L ≡ false)
     (closed-under : (l m : ℕ) → m < 16 → reach l → reach (moved Q l m)) where
   outcome-alike : (s s′ : Store) → Apart f n s s′ → Secret reach f n L s → ((t : ℕ) → tab FILE (s .files) t LABEL < 16) → (c : Call) (d : Decision) → Fit Q (view s) (c .process) d
       → Alike reach f n L (outcomeOf s c d) (outcomeOf s′ c d)
@@ -42,8 +42,8 @@ module _ (Q : List ℕ) (reach : ℕ → Type 0) (f n L : ℕ) (blind : (l : ℕ
   outcome-alike s s′ a z small c _ (refused r k) = record { replies = refl; stores = apart a z }
   outcome-alike s s′ a z small c _ (granted value o e u h g) = record {
     replies = ap₂ (λ (x y : List ℕ). record { refusal = GRANTED; stop = 0; value = value; name = x; fields = fieldsOut o; buffer = y })
-        (name-same Q reach f n L blind closed-under s s′ a z small o) (buffer-same Q reach f n L blind closed-under s s′ a z small o h (c .buffer));
-    stores = effect-keep Q reach f n L blind closed-under s s′ a z small c e (z .labels .used (c .process .0) (u .small) (u .used)) g;
+        (name-same Q reach f n L no-right closed-under s s′ a z small o) (buffer-same Q reach f n L no-right closed-under s s′ a z small o h (c .buffer));
+    stores = effect-keep Q reach f n L no-right closed-under s s′ a z small c e (z .labels .used (c .process .0) (u .small) (u .used)) g;
   }
 
   act-alike : (s s′ : Store) → Apart f n s s′ → Secret reach f n L s → sound Q s ≡ true → (c : Call) → Alike reach f n L (act Q s c) (act Q s′ c)

@@ -137,12 +137,12 @@ reached-few k _ (given l m small some r) =
     let none : getD consolePolicy (256 + (16 * l + m)) 0 ≡ 255 = eqb-true _ _ (all-at noTransition 256 512 no-transitions (256 + (16 * l + m)) (omega arith) (omega arith)) in
     absurd (some none)
 
-blind : (l : ℕ) → l < 3 → mayRead consolePolicy l 3 ≡ false
+no-right : (l : ℕ) → l < 3 → mayRead consolePolicy l 3 ≡ false
 unfolding computing
-blind zero h = refl
-blind (suc zero) h = refl
-blind (suc (suc zero)) h = refl
-blind (suc (suc (suc l))) h = absurd (omega arith)
+no-right zero h = refl
+no-right (suc zero) h = refl
+no-right (suc (suc zero)) h = refl
+no-right (suc (suc (suc l))) h = absurd (omega arith)
 
 key-label : (k : List ℕ) → tab FILE (consoleWith k .files) 3 LABEL ≡ 3
 unfolding computing
@@ -171,11 +171,11 @@ console-supposed k k′ e e′ = record {
   sound-one = console-sound k e;
   sound-other = console-sound k′ e′;
   differ = differ-of 3 4 3 (consoleWith k) (consoleWith k′) (console-apart k k′ e e′) (console-own k);
-  no-reader = λ l r. rw (key-label k) (blind l (reached-few k l r));
+  no-reader = λ l r. rw (key-label k) (no-right l (reached-few k l r));
   not-open = nothing-open k;
 }
 
--- so no list of calls tells anything of the key
+-- so the answers to no list of calls depend on the key
 pub console-secrecy : (k k′ : List ℕ) → length k ≡ 4 → length k′ ≡ 4 → (cs : List Call) → Claimed consolePolicy 3 (consoleWith k) (consoleWith k′) cs
 console-secrecy k k′ e e′ cs = secrecy consolePolicy 3 (consoleWith k) (consoleWith k′) (console-supposed k k′ e e′) cs
 

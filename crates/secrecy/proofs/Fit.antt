@@ -160,8 +160,8 @@ module _ (Q : List ℕ) (v : View) (b : Based v) (p : Pid) (u : Caller v p) wher
   after-any : (w : Walk) (g : Location → Decision) → ((at : Location) → Fit Q v p (g at)) → Fit Q v p (after w g)
   after-any w g h = after-fit (λ _. Unit {0}) w g (any-fit w) (λ at _. h at)
 
-  quiet : (n : ℕ) (e : Effect) → EffectFit Q v p e → Fit Q v p (Granted n output.Nothing e)
-  quiet n e h = granted n output.Nothing e u silent h
+  granted-fit : (n : ℕ) (e : Effect) → EffectFit Q v p e → Fit Q v p (Granted n output.Nothing e)
+  granted-fit n e h = granted n output.Nothing e u silent h
 
   opening-fit : (s : Slot) (m : OpenMode) (c : Bool) (i e : ℕ) → OpenFit Q v p (newOpen s m i e) → EffectFit Q v p (opening (v .tree) s m c i e)
   unfolding opening
@@ -175,7 +175,7 @@ module _ (Q : List ℕ) (v : View) (b : Based v) (p : Pid) (u : Caller v p) wher
   unfolding openFile openRoom
   openFile-fit m c s =
       need-fit _ _ _ (λ _. need-fit _ _ _ (λ _. need-fit _ _ _ (λ l. need-fit _ _ _ (λ d. need-fit _ _ _ (λ _.
-      quiet _ _ (opening-fit s m c _ _ (record { eight = ltb-true _ _ d; rights = l })))))))
+      granted-fit _ _ (opening-fit s m c _ _ (record { eight = ltb-true _ _ d; rights = l })))))))
 
   openMode-fit : (m : ModeNumber) (s : Slot) → Fit Q v p (openMode Q v p m s)
   unfolding openMode
@@ -191,7 +191,7 @@ module _ (Q : List ℕ) (v : View) (b : Based v) (p : Pid) (u : Caller v p) wher
   unfolding createIn createRoom
   createIn-fit kind bits name d h =
       need-fit _ _ _ (λ _. need-fit _ _ _ (λ _. need-fit _ _ _ (λ _. need-fit _ _ _ (λ l. need-fit _ _ _ (λ _.
-      quiet _ _ (created _ _ _ h (first-passes (slotFree (v .tree)) SLOTS l)))))))
+      granted-fit _ _ (created _ _ _ h (first-passes (slotFree (v .tree)) SLOTS l)))))))
 
   create-fit : (kind bits : ℕ) (path : List ℕ) → Fit Q v p (decideCreate Q v p kind bits path)
   unfolding decideCreate
@@ -202,16 +202,16 @@ module _ (Q : List ℕ) (v : View) (b : Based v) (p : Pid) (u : Caller v p) wher
 
   unlink-fit : (path : List ℕ) → Fit Q v p (decideUnlink Q v p path)
   unfolding decideUnlink unlinkAt
-  unlink-fit path = after-fit (InDirectory (v .tree)) _ _ (path-fit path) (λ at h. need-fit _ _ _ (λ _. need-fit _ _ _ (λ _. need-fit _ _ _ (λ _. quiet _ _ (unlinked _ _ h)))))
+  unlink-fit path = after-fit (InDirectory (v .tree)) _ _ (path-fit path) (λ at h. need-fit _ _ _ (λ _. need-fit _ _ _ (λ _. need-fit _ _ _ (λ _. granted-fit _ _ (unlinked _ _ h)))))
 
   remove-fit : (path : List ℕ) → Fit Q v p (decideRemove Q v p path)
   unfolding decideRemove removeAt
   remove-fit path = after-fit (InDirectory (v .tree)) _ _ (path-fit path)
-      (λ at h. need-fit _ _ _ (λ _. need-fit _ _ _ (λ _. need-fit _ _ _ (λ _. need-fit _ _ _ (λ _. quiet _ _ (removed _ _ _ h))))))
+      (λ at h. need-fit _ _ _ (λ _. need-fit _ _ _ (λ _. need-fit _ _ _ (λ _. need-fit _ _ _ (λ _. granted-fit _ _ (removed _ _ _ h))))))
 
   linkIn-fit : (old : Slot) (name : Name) (d : Slot) → isDirectory (v .tree) d ≡ true → Fit Q v p (linkIn Q (v .tree) (subjectOf v p) old name d)
   unfolding linkIn linkRoom
-  linkIn-fit old name d h = need-fit _ _ _ (λ _. need-fit _ _ _ (λ _. need-fit _ _ _ (λ _. need-fit _ _ _ (λ _. quiet _ _ (linked _ _ _ h)))))
+  linkIn-fit old name d h = need-fit _ _ _ (λ _. need-fit _ _ _ (λ _. need-fit _ _ _ (λ _. need-fit _ _ _ (λ _. granted-fit _ _ (linked _ _ _ h)))))
 
   link-fit : (old new : List ℕ) → Fit Q v p (decideLink Q v p old new)
   unfolding decideLink linkTo
@@ -224,7 +224,7 @@ module _ (Q : List ℕ) (v : View) (b : Based v) (p : Pid) (u : Caller v p) wher
     where
       go : (t : Bool) → Fit Q v p (cond t (Granted 1 (output.Name d i) effect.Nothing) (Granted 0 output.Nothing effect.Nothing))
       go true = granted _ _ _ u (listed d i) nothing
-      go false = quiet _ _ nothing
+      go false = granted-fit _ _ nothing
 
   list-fit : (k : ℕ) (path : List ℕ) → Fit Q v p (decideList Q v p k path)
   unfolding decideList listAt
@@ -232,7 +232,7 @@ module _ (Q : List ℕ) (v : View) (b : Based v) (p : Pid) (u : Caller v p) wher
 
   changeBits-fit : (n : ℕ) (path : List ℕ) → Fit Q v p (decideChangeBits Q v p n path)
   unfolding decideChangeBits changeBitsAt
-  changeBits-fit n path = after-any _ _ (λ at. need-fit _ _ _ (λ _. need-fit _ _ _ (λ _. quiet _ _ (rebitted _ _))))
+  changeBits-fit n path = after-any _ _ (λ at. need-fit _ _ _ (λ _. need-fit _ _ _ (λ _. granted-fit _ _ (rebitted _ _))))
 
   stat-fit : (path : List ℕ) → Fit Q v p (decideStat Q v p path)
   unfolding decideStat
@@ -240,7 +240,7 @@ module _ (Q : List ℕ) (v : View) (b : Based v) (p : Pid) (u : Caller v p) wher
 
   execute-fit : (path : List ℕ) → Fit Q v p (decideExecute Q v p path)
   unfolding decideExecute executeAt
-  execute-fit path = after-any _ _ (λ at. need-fit _ _ _ (λ _. need-fit _ _ _ (λ _. need-fit _ _ _ (λ _. quiet _ _ (relabelled (at .slot .0) _ refl)))))
+  execute-fit path = after-any _ _ (λ at. need-fit _ _ _ (λ _. need-fit _ _ _ (λ _. need-fit _ _ _ (λ _. granted-fit _ _ (relabelled (at .slot .0) _ refl)))))
 
   held-small : (i : Fd) → held v p i ≡ true → i .0 < 8
   unfolding held
@@ -248,7 +248,7 @@ module _ (Q : List ℕ) (v : View) (b : Based v) (p : Pid) (u : Caller v p) wher
 
   close-fit : (i : Fd) → Fit Q v p (decideClose v p i)
   unfolding decideClose
-  close-fit i = need-fit _ _ _ (λ h. quiet _ _ (closed _ _ (held-small i h)))
+  close-fit i = need-fit _ _ _ (λ h. granted-fit _ _ (closed _ _ (held-small i h)))
 
   read-fit : (i : Fd) (size : ℕ) → Fit Q v p (decideRead v p i size)
   unfolding decideRead readOpen
@@ -256,14 +256,14 @@ module _ (Q : List ℕ) (v : View) (b : Based v) (p : Pid) (u : Caller v p) wher
 
   writeFile-fit : (e at n : ℕ) → Fit Q v p (writeFile v e at n)
   unfolding writeFile
-  writeFile-fit e at n = need-fit _ _ _ (λ _. quiet _ _ (stored _ (omega arith)))
+  writeFile-fit e at n = need-fit _ _ _ (λ _. granted-fit _ _ (stored _ (omega arith)))
 
   writeSome-fit : (e n : ℕ) → Fit Q v p (writeSome v e n)
   unfolding writeSome
   writeSome-fit e n = go (eqb n 0)
     where
       go : (t : Bool) → Fit Q v p (cond t (Granted 0 output.Nothing effect.Nothing) (writeFile v e (writeAt v e) n))
-      go true = quiet _ _ nothing
+      go true = granted-fit _ _ nothing
       go false = writeFile-fit e (writeAt v e) n
 
   write-fit : (i : Fd) (n : ℕ) → Fit Q v p (decideWrite v p i n)
@@ -272,15 +272,15 @@ module _ (Q : List ℕ) (v : View) (b : Based v) (p : Pid) (u : Caller v p) wher
 
   seek-fit : (i : Fd) (n : ℕ) → Fit Q v p (decideSeek v p i n)
   unfolding decideSeek
-  seek-fit i n = need-fit _ _ _ (λ _. quiet _ _ (shifted _ _))
+  seek-fit i n = need-fit _ _ _ (λ _. granted-fit _ _ (shifted _ _))
 
   duplicate-fit : (i : Fd) → Fit Q v p (decideDuplicate v p i)
   unfolding decideDuplicate duplicateTo
-  duplicate-fit i = need-fit _ _ _ (λ _. need-fit _ _ _ (λ d. quiet _ _ (duplicated _ _ _ (ltb-true _ _ d))))
+  duplicate-fit i = need-fit _ _ _ (λ _. need-fit _ _ _ (λ d. granted-fit _ _ (duplicated _ _ _ (ltb-true _ _ d))))
 
   fork-fit : (q : ℕ) → Fit Q v p (forkTo v p q)
   unfolding forkTo
-  fork-fit q = need-fit _ _ _ (λ _. quiet _ _ (forked _ _ _ refl))
+  fork-fit q = need-fit _ _ _ (λ _. granted-fit _ _ (forked _ _ _ refl))
 
 -- ---- a call
 
@@ -301,7 +301,7 @@ own-fit Q v b c u op.Write = write-fit Q v b (c .process) u (c .fd) (length (c .
 own-fit Q v b c u op.Seek = seek-fit Q v b (c .process) u (c .fd) (c .number)
 own-fit Q v b c u op.Duplicate = duplicate-fit Q v b (c .process) u (c .fd)
 own-fit Q v b c u op.Fork = fork-fit Q v b (c .process) u _
-own-fit Q v b c u op.Exit = quiet Q v b (c .process) u 0 effect.Exited exited
+own-fit Q v b c u op.Exit = granted-fit Q v b (c .process) u 0 effect.Exited exited
 own-fit Q v b c u op.Execute = execute-fit Q v b (c .process) u (c .path)
 own-fit Q v b c u op.Unknown = refused _ _
 

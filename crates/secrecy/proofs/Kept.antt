@@ -109,7 +109,7 @@ module _ (reach : ℕ → Type 0) (f n : ℕ) where
 
 -- ---- what a granted call does keeps two stores related
 
-module _ (Q : List ℕ) (reach : ℕ → Type 0) (f n L : ℕ) (blind : (l : ℕ) → reach l → mayRead Q l L ≡ false)
+module _ (Q : List ℕ) (reach : ℕ → Type 0) (f n L : ℕ) (no-right : (l : ℕ) → reach l → mayRead Q l L ≡ false)
     (closed-under : (l m : ℕ) → m < 16 → reach l → reach (moved Q l m)) where
   module _ (s s′ : Store) (a : Apart f n s s′) (z : Secret reach f n L s) (small : (t : ℕ) → tab FILE (s .files) t LABEL < 16) where
     -- a directory or a free slot is not f
@@ -143,7 +143,7 @@ module _ (Q : List ℕ) (reach : ℕ → Type 0) (f n L : ℕ) (blind : (l : ℕ
     unfolding labelGrants
     unreadable p w r o rd e =
         let l : tab FILE (s .files) (w .slot .0) LABEL ≡ L = ap (λ (x : ℕ). tab FILE (s .files) x LABEL) e ∙ z .own .label in
-        false≢true (sym (blind _ r) ∙ mode-asked (w .mode) _ rd (rw l at (o .rights)))
+        false≢true (sym (no-right _ r) ∙ mode-asked (w .mode) _ rd (rw l at (o .rights)))
 
     open-keep : (p : Pid) (w : NewOpen) → reach (view s .proc (p .0) 2) → OpenFit Q (view s) p w → KeepsAll reach f n L (openChanges p w)
     unfolding openChanges KeepsAll Keeps

@@ -1,4 +1,4 @@
--- The proof of demand 3.
+-- The proof of demand 3, `secrecy` of Secrecy; that it is not empty, Console; and that each supposition is needed, Needed.
 pub mod Agree
 pub mod Tables
 pub mod Related

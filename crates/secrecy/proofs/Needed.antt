@@ -20,9 +20,9 @@ use Rattle.rules.specs.Step.{Reply, Outcome, act, step, answers, refusedReply}
 use Rattle.rules.specs.Console.{consoleWith, consolePolicy}
 use Rattle.rules.specs.declared.refusal.Refusal.the-variants.{Unsound}
 use Rattle.secrecy.specs.Claim.{mayRead, Claimed}
-use Rattle.secrecy.specs.Needed.{KEY-ONE, KEY-OTHER, told, heldPolicy, heldCalls, reachedPolicy, reachedCalls, opened, openedCalls}
+use Rattle.secrecy.specs.Needed.{KEY-ONE, KEY-OTHER, firstBytes, heldPolicy, heldCalls, reachedPolicy, reachedCalls, opened, openedCalls}
 use Rattle.secrecy.proofs.Tests.{test, both}
-use Rattle.secrecy.proofs.Quick.{cut, quickShown, filesSound, restSound, quietEffect, quiet, soundAlong, actAnswers, answers-act, sound-quick}
+use Rattle.secrecy.proofs.Quick.{cut, quickShown, filesSound, restSound, effectKeepsFiles, keepsFiles, soundAlong, actAnswers, answers-act, sound-quick}
 
 -- ---- a run whose calls are all granted needs no soundness test: an unsound store refuses
 
@@ -50,15 +50,15 @@ granted-answers Q (c ∷ cs) s h =
     ap (λ (rs : List Reply). step Q s c .reply ∷ rs) (granted-answers Q cs (step Q s c .store) (g .1))
     ∙ ap (λ (x : Outcome). x .reply ∷ actAnswers Q (x .store) cs) e
 
--- ---- so the claim does not hold where one run, sound at each of its stores and granted, tells a byte and the other another
+-- ---- so the claim does not hold where one run, sound at each of its stores and granted, gives a byte and the other another
 
 different : (Q : List ℕ) (f : ℕ) (s s′ : Store) (cs : List Call) (k : ℕ) (xs ys : List ℕ)
     → policySound Q ≡ true → filesSound (s .files) (s .contents) ≡ true → soundAlong Q s cs ≡ true → allGranted (actAnswers Q s cs) ≡ true
-    → told (actAnswers Q s cs) ≡ xs → told (actAnswers Q s′ cs) ≡ ys → (getD xs k 0 ≡ getD ys k 0 → ⊥) → Claimed Q f s s′ cs → ⊥
+    → firstBytes (actAnswers Q s cs) ≡ xs → firstBytes (actAnswers Q s′ cs) ≡ ys → (getD xs k 0 ≡ getD ys k 0 → ⊥) → Claimed Q f s s′ cs → ⊥
 different Q f s s′ cs k xs ys policy files along all p q ne c =
     let one : answers Q s cs ≡ actAnswers Q s cs = answers-act Q policy cs s files along in
     let other : answers Q s′ cs ≡ actAnswers Q s′ cs = granted-answers Q cs s′ (ap allGranted (sym (c .same-answers) ∙ one) ∙ all) in
-    ne (ap (λ (l : List ℕ). getD l k 0) (sym p ∙ ap told (sym one ∙ c .same-answers ∙ other) ∙ q))
+    ne (ap (λ (l : List ℕ). getD l k 0) (sym p ∙ ap firstBytes (sym one ∙ c .same-answers ∙ other) ∙ q))
 
 -- ---- the stores and the policies of the runs are sound
 
@@ -81,47 +81,47 @@ policies-sound = refl
 pub key-one-sound : sound consolePolicy (consoleWith KEY-ONE) ≡ true
 key-one-sound = sound-quick (consoleWith KEY-ONE) files-sound console-rest consolePolicy (test 0 _ policies-sound)
 
--- ---- each run tells the first byte of the key
+-- ---- each run gives the first byte of the key
 
 -- a held label may read
 held-along : soundAlong heldPolicy (consoleWith KEY-ONE) heldCalls ≡ true
-unfolding computing soundAlong restSound quiet quietEffect heldPolicy
+unfolding computing soundAlong restSound keepsFiles effectKeepsFiles heldPolicy
 held-along = refl
 
 held-granted : allGranted (actAnswers heldPolicy (consoleWith KEY-ONE) heldCalls) ≡ true
 unfolding computing actAnswers allGranted heldPolicy
 held-granted = refl
 
-held-one : told (actAnswers heldPolicy (consoleWith KEY-ONE) heldCalls) ≡ 0 ∷ 1 ∷ []
-unfolding computing actAnswers told heldPolicy
+held-one : firstBytes (actAnswers heldPolicy (consoleWith KEY-ONE) heldCalls) ≡ 0 ∷ 1 ∷ []
+unfolding computing actAnswers firstBytes heldPolicy
 held-one = refl
 
-held-other : told (actAnswers heldPolicy (consoleWith KEY-OTHER) heldCalls) ≡ 0 ∷ 5 ∷ []
-unfolding computing actAnswers told heldPolicy
+held-other : firstBytes (actAnswers heldPolicy (consoleWith KEY-OTHER) heldCalls) ≡ 0 ∷ 5 ∷ []
+unfolding computing actAnswers firstBytes heldPolicy
 held-other = refl
 
 pub held-needed : Claimed heldPolicy 3 (consoleWith KEY-ONE) (consoleWith KEY-OTHER) heldCalls → ⊥
 held-needed = different heldPolicy 3 (consoleWith KEY-ONE) (consoleWith KEY-OTHER) heldCalls 1 _ _ (test 1 _ policies-sound) files-sound held-along held-granted held-one held-other (λ e. omega arith)
 
 -- a label that two transitions give may read, and none that is held (0, 1, 2) or that one transition gives
-pub one-step-blind : all (λ l. all (λ m. not (mayRead reachedPolicy (moved reachedPolicy l m) 3)) 0 LABELS) 0 3 ≡ true
+pub one-step-no-right : all (λ l. all (λ m. not (mayRead reachedPolicy (moved reachedPolicy l m) 3)) 0 LABELS) 0 3 ≡ true
 unfolding computing reachedPolicy
-one-step-blind = refl
+one-step-no-right = refl
 
 reached-along : soundAlong reachedPolicy (consoleWith KEY-ONE) reachedCalls ≡ true
-unfolding computing soundAlong restSound quiet quietEffect reachedPolicy
+unfolding computing soundAlong restSound keepsFiles effectKeepsFiles reachedPolicy
 reached-along = refl
 
 reached-granted : allGranted (actAnswers reachedPolicy (consoleWith KEY-ONE) reachedCalls) ≡ true
 unfolding computing actAnswers allGranted reachedPolicy
 reached-granted = refl
 
-reached-one : told (actAnswers reachedPolicy (consoleWith KEY-ONE) reachedCalls) ≡ 0 ∷ 0 ∷ 0 ∷ 1 ∷ []
-unfolding computing actAnswers told reachedPolicy
+reached-one : firstBytes (actAnswers reachedPolicy (consoleWith KEY-ONE) reachedCalls) ≡ 0 ∷ 0 ∷ 0 ∷ 1 ∷ []
+unfolding computing actAnswers firstBytes reachedPolicy
 reached-one = refl
 
-reached-other : told (actAnswers reachedPolicy (consoleWith KEY-OTHER) reachedCalls) ≡ 0 ∷ 0 ∷ 0 ∷ 5 ∷ []
-unfolding computing actAnswers told reachedPolicy
+reached-other : firstBytes (actAnswers reachedPolicy (consoleWith KEY-OTHER) reachedCalls) ≡ 0 ∷ 0 ∷ 0 ∷ 5 ∷ []
+unfolding computing actAnswers firstBytes reachedPolicy
 reached-other = refl
 
 pub reached-needed : Claimed reachedPolicy 3 (consoleWith KEY-ONE) (consoleWith KEY-OTHER) reachedCalls → ⊥
@@ -129,19 +129,19 @@ reached-needed = different reachedPolicy 3 (consoleWith KEY-ONE) (consoleWith KE
 
 -- the file is open in mode 1
 opened-along : soundAlong consolePolicy (opened 1 KEY-ONE) openedCalls ≡ true
-unfolding computing soundAlong restSound quiet quietEffect opened
+unfolding computing soundAlong restSound keepsFiles effectKeepsFiles opened
 opened-along = refl
 
 opened-granted : allGranted (actAnswers consolePolicy (opened 1 KEY-ONE) openedCalls) ≡ true
 unfolding computing actAnswers allGranted opened
 opened-granted = refl
 
-opened-one : told (actAnswers consolePolicy (opened 1 KEY-ONE) openedCalls) ≡ 1 ∷ []
-unfolding computing actAnswers told opened
+opened-one : firstBytes (actAnswers consolePolicy (opened 1 KEY-ONE) openedCalls) ≡ 1 ∷ []
+unfolding computing actAnswers firstBytes opened
 opened-one = refl
 
-opened-other : told (actAnswers consolePolicy (opened 1 KEY-OTHER) openedCalls) ≡ 5 ∷ []
-unfolding computing actAnswers told opened
+opened-other : firstBytes (actAnswers consolePolicy (opened 1 KEY-OTHER) openedCalls) ≡ 5 ∷ []
+unfolding computing actAnswers firstBytes opened
 opened-other = refl
 
 pub opened-needed : Claimed consolePolicy 3 (opened 1 KEY-ONE) (opened 1 KEY-OTHER) openedCalls → ⊥
@@ -149,19 +149,19 @@ opened-needed = different consolePolicy 3 (opened 1 KEY-ONE) (opened 1 KEY-OTHER
 
 -- and in mode 3
 mode-3-along : soundAlong consolePolicy (opened 3 KEY-ONE) openedCalls ≡ true
-unfolding computing soundAlong restSound quiet quietEffect opened
+unfolding computing soundAlong restSound keepsFiles effectKeepsFiles opened
 mode-3-along = refl
 
 mode-3-granted : allGranted (actAnswers consolePolicy (opened 3 KEY-ONE) openedCalls) ≡ true
 unfolding computing actAnswers allGranted opened
 mode-3-granted = refl
 
-mode-3-one : told (actAnswers consolePolicy (opened 3 KEY-ONE) openedCalls) ≡ 1 ∷ []
-unfolding computing actAnswers told opened
+mode-3-one : firstBytes (actAnswers consolePolicy (opened 3 KEY-ONE) openedCalls) ≡ 1 ∷ []
+unfolding computing actAnswers firstBytes opened
 mode-3-one = refl
 
-mode-3-other : told (actAnswers consolePolicy (opened 3 KEY-OTHER) openedCalls) ≡ 5 ∷ []
-unfolding computing actAnswers told opened
+mode-3-other : firstBytes (actAnswers consolePolicy (opened 3 KEY-OTHER) openedCalls) ≡ 5 ∷ []
+unfolding computing actAnswers firstBytes opened
 mode-3-other = refl
 
 pub mode-3-needed : Claimed consolePolicy 3 (opened 3 KEY-ONE) (opened 3 KEY-OTHER) openedCalls → ⊥

@@ -59,26 +59,26 @@ restSound s =
     ∷ all (procSound (quickView s)) 0 PROCESSES ∷ [])
 
 -- a call that changes neither files nor contents
-unfoldable pub quietEffect : Effect → Bool
-quietEffect effect.Nothing = true
-quietEffect (effect.Opened n) = true
-quietEffect (effect.Truncated n r) = false
-quietEffect (effect.Created d s r) = false
-quietEffect (effect.Unlinked d u) = false
-quietEffect (effect.Removed d s r) = false
-quietEffect (effect.Linked d s links) = false
-quietEffect (effect.BitsChanged s bits) = false
-quietEffect (effect.Closed i r) = false
-quietEffect (effect.Stored w) = false
-quietEffect (effect.Moved e offset) = true
-quietEffect (effect.Duplicated i e refs) = true
-quietEffect (effect.Forked q user label) = false
-quietEffect effect.Exited = false
-quietEffect (effect.Relabelled label) = true
+unfoldable pub effectKeepsFiles : Effect → Bool
+effectKeepsFiles effect.Nothing = true
+effectKeepsFiles (effect.Opened n) = true
+effectKeepsFiles (effect.Truncated n r) = false
+effectKeepsFiles (effect.Created d s r) = false
+effectKeepsFiles (effect.Unlinked d u) = false
+effectKeepsFiles (effect.Removed d s r) = false
+effectKeepsFiles (effect.Linked d s links) = false
+effectKeepsFiles (effect.BitsChanged s bits) = false
+effectKeepsFiles (effect.Closed i r) = false
+effectKeepsFiles (effect.Stored w) = false
+effectKeepsFiles (effect.Moved e offset) = true
+effectKeepsFiles (effect.Duplicated i e refs) = true
+effectKeepsFiles (effect.Forked q user label) = false
+effectKeepsFiles effect.Exited = false
+effectKeepsFiles (effect.Relabelled label) = true
 
-unfoldable pub quiet : Decision → Bool
-quiet (Refused r k) = true
-quiet (Granted n o e) = quietEffect e
+unfoldable pub keepsFiles : Decision → Bool
+keepsFiles (Refused r k) = true
+keepsFiles (Granted n o e) = effectKeepsFiles e
 
 -- a run without the soundness test, and that test at each of its stores
 unfoldable pub actAnswers : List ℕ → Store → List Call → List Reply
@@ -87,7 +87,7 @@ actAnswers Q s (c ∷ cs) = let x = act Q s c in x .reply ∷ actAnswers Q (x .s
 
 unfoldable pub soundAlong : List ℕ → Store → List Call → Bool
 soundAlong Q s [] = true
-soundAlong Q s (c ∷ cs) = cond (restSound s) (cond (quiet (decide Q (view s) c)) (soundAlong Q (act Q s c .store) cs) false) false
+soundAlong Q s (c ∷ cs) = cond (restSound s) (cond (keepsFiles (decide Q (view s) c)) (soundAlong Q (act Q s c .store) cs) false) false
 
 -- ---- they are the rules'
 
@@ -180,34 +180,34 @@ module _ (s : Store) (h : filesSound (s .files) (s .contents) ≡ true) (g : res
 
 -- ---- runs
 
-effect-quiet : (c : Call) (e : Effect) (s : Store) → quietEffect e ≡ true → (carryOut c e s .files ≡ s .files) × (carryOut c e s .contents ≡ s .contents)
-unfolding quietEffect carryOut applyAll openChanges duplicateChanges
-effect-quiet c effect.Nothing s h = (refl, refl)
-effect-quiet c (effect.Opened n) s h = (refl, refl)
-effect-quiet c (effect.Truncated n r) s h = absurd (false≢true h)
-effect-quiet c (effect.Created d t r) s h = absurd (false≢true h)
-effect-quiet c (effect.Unlinked d u) s h = absurd (false≢true h)
-effect-quiet c (effect.Removed d t r) s h = absurd (false≢true h)
-effect-quiet c (effect.Linked d t links) s h = absurd (false≢true h)
-effect-quiet c (effect.BitsChanged t bits) s h = absurd (false≢true h)
-effect-quiet c (effect.Closed i r) s h = absurd (false≢true h)
-effect-quiet c (effect.Stored w) s h = absurd (false≢true h)
-effect-quiet c (effect.Moved e offset) s h = (refl, refl)
-effect-quiet c (effect.Duplicated i e refs) s h = (refl, refl)
-effect-quiet c (effect.Forked q user label) s h = absurd (false≢true h)
-effect-quiet c effect.Exited s h = absurd (false≢true h)
-effect-quiet c (effect.Relabelled label) s h = (refl, refl)
+effect-keeps-files : (c : Call) (e : Effect) (s : Store) → effectKeepsFiles e ≡ true → (carryOut c e s .files ≡ s .files) × (carryOut c e s .contents ≡ s .contents)
+unfolding effectKeepsFiles carryOut applyAll openChanges duplicateChanges
+effect-keeps-files c effect.Nothing s h = (refl, refl)
+effect-keeps-files c (effect.Opened n) s h = (refl, refl)
+effect-keeps-files c (effect.Truncated n r) s h = absurd (false≢true h)
+effect-keeps-files c (effect.Created d t r) s h = absurd (false≢true h)
+effect-keeps-files c (effect.Unlinked d u) s h = absurd (false≢true h)
+effect-keeps-files c (effect.Removed d t r) s h = absurd (false≢true h)
+effect-keeps-files c (effect.Linked d t links) s h = absurd (false≢true h)
+effect-keeps-files c (effect.BitsChanged t bits) s h = absurd (false≢true h)
+effect-keeps-files c (effect.Closed i r) s h = absurd (false≢true h)
+effect-keeps-files c (effect.Stored w) s h = absurd (false≢true h)
+effect-keeps-files c (effect.Moved e offset) s h = (refl, refl)
+effect-keeps-files c (effect.Duplicated i e refs) s h = (refl, refl)
+effect-keeps-files c (effect.Forked q user label) s h = absurd (false≢true h)
+effect-keeps-files c effect.Exited s h = absurd (false≢true h)
+effect-keeps-files c (effect.Relabelled label) s h = (refl, refl)
 
-decision-quiet : (s : Store) (c : Call) (d : Decision) → quiet d ≡ true → (storeAfter s c d .files ≡ s .files) × (storeAfter s c d .contents ≡ s .contents)
-unfolding quiet storeAfter
-decision-quiet s c (Refused r k) h = (refl, refl)
-decision-quiet s c (Granted n o e) h = effect-quiet c e s h
+decision-keeps-files : (s : Store) (c : Call) (d : Decision) → keepsFiles d ≡ true → (storeAfter s c d .files ≡ s .files) × (storeAfter s c d .contents ≡ s .contents)
+unfolding keepsFiles storeAfter
+decision-keeps-files s c (Refused r k) h = (refl, refl)
+decision-keeps-files s c (Granted n o e) h = effect-keeps-files c e s h
 
-act-quiet : (Q : List ℕ) (s : Store) (c : Call) → quiet (decide Q (view s) c) ≡ true → filesSound (s .files) (s .contents) ≡ true
+act-keeps-files : (Q : List ℕ) (s : Store) (c : Call) → keepsFiles (decide Q (view s) c) ≡ true → filesSound (s .files) (s .contents) ≡ true
     → filesSound (act Q s c .store .files) (act Q s c .store .contents) ≡ true
 unfolding act outcomeOf
-act-quiet Q s c h g =
-    let e : (storeAfter s c (decide Q (view s) c) .files ≡ s .files) × (storeAfter s c (decide Q (view s) c) .contents ≡ s .contents) = decision-quiet s c (decide Q (view s) c) h in
+act-keeps-files Q s c h g =
+    let e : (storeAfter s c (decide Q (view s) c) .files ≡ s .files) × (storeAfter s c (decide Q (view s) c) .contents ≡ s .contents) = decision-keeps-files s c (decide Q (view s) c) h in
     ap₂ filesSound (e .0) (e .1) ∙ g
 
 step-act : (Q : List ℕ) (s : Store) (c : Call) → sound Q s ≡ true → step Q s c ≡ act Q s c
@@ -219,7 +219,7 @@ pub answers-act : (Q : List ℕ) → policySound Q ≡ true → (cs : List Call)
 unfolding answers actAnswers soundAlong
 answers-act Q p [] s f h = refl
 answers-act Q p (c ∷ cs) s f h =
-    let g : (restSound s ≡ true) × (cond (quiet (decide Q (view s) c)) (soundAlong Q (act Q s c .store) cs) false ≡ true) = both _ _ h in
-    let k : (quiet (decide Q (view s) c) ≡ true) × (soundAlong Q (act Q s c .store) cs ≡ true) = both _ _ (g .1) in
+    let g : (restSound s ≡ true) × (cond (keepsFiles (decide Q (view s) c)) (soundAlong Q (act Q s c .store) cs) false ≡ true) = both _ _ h in
+    let k : (keepsFiles (decide Q (view s) c) ≡ true) × (soundAlong Q (act Q s c .store) cs ≡ true) = both _ _ (g .1) in
     ap (λ (x : Outcome). x .reply ∷ answers Q (x .store) cs) (step-act Q s c (sound-quick s f (g .0) Q p))
-    ∙ ap (λ (rs : List Reply). act Q s c .reply ∷ rs) (answers-act Q p cs (act Q s c .store) (act-quiet Q s c (k .0) f) (k .1))
+    ∙ ap (λ (rs : List Reply). act Q s c .reply ∷ rs) (answers-act Q p cs (act Q s c .store) (act-keeps-files Q s c (k .0) f) (k .1))

@@ -92,7 +92,7 @@ last : (t : Bool) → cond t true false ≡ true → t ≡ true
 last true e = e
 last false e = e
 
-module _ (Q : List ℕ) (reach : ℕ → Type 0) (f n L : ℕ) (blind : (l : ℕ) → reach l → mayRead Q l L ≡ false)
+module _ (Q : List ℕ) (reach : ℕ → Type 0) (f n L : ℕ) (no-right : (l : ℕ) → reach l → mayRead Q l L ≡ false)
     (closed-under : (l m : ℕ) → m < 16 → reach l → reach (moved Q l m)) where
   from-equal : (cs : List Call) (s s′ : Store) → s ≡ s′ → Claimed Q f s s′ cs
   from-equal cs s s′ e = subst (λ (t : Store). Claimed Q f s t cs) e (record { same-answers = refl; same-stores = inl refl; equal-once-freed = λ _. refl })
@@ -102,7 +102,7 @@ module _ (Q : List ℕ) (reach : ℕ → Type 0) (f n L : ℕ) (blind : (l : ℕ
   run-alike [] s s′ (same e) = from-equal [] s s′ e
   run-alike [] s s′ (apart a z) = record { same-answers = refl; same-stores = inr (differ-of f n L s s′ a (z .own)); equal-once-freed = λ b. absurd (false≢true b) }
   run-alike (c ∷ cs) s s′ r =
-      let x : Alike reach f n L (step Q s c) (step Q s′ c) = step-alike Q reach f n L blind closed-under c s s′ r in
+      let x : Alike reach f n L (step Q s c) (step Q s′ c) = step-alike Q reach f n L no-right closed-under c s s′ r in
       go x (run-alike cs (step Q s c .store) (step Q s′ c .store) (x .stores))
     where
       go : Alike reach f n L (step Q s c) (step Q s′ c) → Claimed Q f (step Q s c .store) (step Q s′ c .store) cs → Claimed Q f s s′ (c ∷ cs)

@@ -1,4 +1,4 @@
--- That each supposition is needed: runs that leave one out and tell the file's bytes. The file is /key of the test console, slot 3, label 3.
+-- That each supposition is needed: runs that leave one out, and whose answers give the file's bytes. The file is /key of the test console, slot 3, label 3.
 use Prim.Native.Nat.{ℕ, _+_, _*_}
 use mathlib.Core.List.{List, [], _∷_, _++_}
 use lib.ListN.{getD, set}
@@ -34,10 +34,10 @@ executesNow p = record { process = record { 0 = p }; call = 17; fd = record { 0 
 abbrev pub readsByte : ℕ → Call
 readsByte p = record { process = record { 0 = p }; call = 11; fd = record { 0 = 0 }; number = 0; path = []; bytes = []; buffer = 0 ∷ [] }
 
--- what the calls tell: the first byte of each buffer afterwards, 0 where it is empty
-unfoldable pub told : List Reply → List ℕ
-told [] = []
-told (r ∷ rs) = getD (r .buffer) 0 0 ∷ told rs
+-- the first byte of each buffer afterwards, 0 where it is empty
+unfoldable pub firstBytes : List Reply → List ℕ
+firstBytes [] = []
+firstBytes (r ∷ rs) = getD (r .buffer) 0 0 ∷ firstBytes rs
 
 -- ---- policies
 
