@@ -1,0 +1,66 @@
+-- One call: two related stores answer alike and stay related.
+use mathlib.Core.Path.{_≡_, refl, ap₂, subst}
+use mathlib.Core.Bool.{Bool, true, false, cond}
+use mathlib.Core.List.{List, [], _∷_}
+use Prim.Native.Nat.{ℕ, _<_}
+use Rattle.rules.specs.Choice.{every}
+use Rattle.rules.specs.Layout.{FILE, LABEL}
+use Rattle.rules.specs.Rights.{moved}
+use Rattle.rules.specs.Store.{Store, View, view, tab}
+use Rattle.rules.specs.Calls.{Call}
+use Rattle.rules.specs.Decide.{decide}
+use Rattle.rules.specs.Refusals.{GRANTED}
+use Rattle.rules.specs.Sound.{sound, storeSound, sizesSound, tablesSound, policySound}
+use Rattle.rules.specs.Step.{Outcome, fieldsOut, refusedReply, replyTo, storeAfter, outcomeOf, act, step}
+use Rattle.rules.specs.declared.refusal.Refusal.the-variants.{Unsound}
+use Rattle.rules.specs.declared.decision.Decision.{Decision}
+use Rattle.secrecy.specs.Claim.{mayRead}
+use Rattle.secrecy.proofs.Tables.{Own}
+use Rattle.secrecy.proofs.Related.{Apart, Secret, Related, apart, same, view-same}
+use Rattle.secrecy.proofs.Fit.{Fit, refused, granted, decide-fit}
+use Rattle.secrecy.proofs.Facts.{based, small-label}
+use Rattle.secrecy.proofs.Kept.{effect-keep, buffer-same, name-same}
+
+-- the soundness test sees no difference either
+sizes-same : (f n : ℕ) (s s′ : Store) → Apart f n s s′ → sizesSound s ≡ sizesSound s′
+unfolding sizesSound
+sizes-same f n s s′ a = rw (a .files, a .contents .size, a .opens, a .processes)
+
+pub sound-same : (Q : List ℕ) (f n L : ℕ) (s s′ : Store) → Apart f n s s′ → Own f n L (s .files) → sound Q s ≡ sound Q s′
+unfolding sound storeSound
+sound-same Q f n L s s′ a o = ap₂ (λ (b : Bool) (v : View). every (policySound Q ∷ cond b (tablesSound v) false ∷ [])) (sizes-same f n s s′ a) (view-same f n L s s′ a o)
+
+pub record Alike (reach : ℕ → Type 0) (f n L : ℕ) (x x′ : Outcome) : Type 0 where
+  pub replies : x .reply ≡ x′ .reply
+  pub stores : Related reach f n L (x .store) (x′ .store)
+
+module _ (Q : List ℕ) (reach : ℕ → Type 0) (f n L : ℕ) (no-right : (l : ℕ) → reach l → mayRead Q l L ≡ false)
+    (closed-under : (l m : ℕ) → m < 16 → reach l → reach (moved Q l m)) where
+  outcome-alike : (s s′ : Store) → Apart f n s s′ → Secret reach f n L s → ((t : ℕ) → tab FILE (s .files) t LABEL < 16) → (c : Call) (d : Decision) → Fit Q (view s) (c .process) d
+      → Alike reach f n L (outcomeOf s c d) (outcomeOf s′ c d)
+  unfolding outcomeOf replyTo storeAfter
+  outcome-alike s s′ a z small c _ (refused r k) = record { replies = refl; stores = apart a z }
+  outcome-alike s s′ a z small c _ (granted value o e u h g) = record {
+    replies = ap₂ (λ (x y : List ℕ). record { refusal = GRANTED; stop = 0; value = value; name = x; fields = fieldsOut o; buffer = y })
+        (name-same Q reach f n L no-right closed-under s s′ a z small o) (buffer-same Q reach f n L no-right closed-under s s′ a z small o h (c .buffer));
+    stores = effect-keep Q reach f n L no-right closed-under s s′ a z small c e (z .labels .used (c .process .0) (u .small) (u .used)) g;
+  }
+
+  act-alike : (s s′ : Store) → Apart f n s s′ → Secret reach f n L s → sound Q s ≡ true → (c : Call) → Alike reach f n L (act Q s c) (act Q s′ c)
+  unfolding act
+  act-alike s s′ a z h c =
+      subst (λ (v : View). Alike reach f n L (outcomeOf s c (decide Q (view s) c)) (outcomeOf s′ c (decide Q v c))) (view-same f n L s s′ a (z .own))
+      (outcome-alike s s′ a z (small-label Q s h) c (decide Q (view s) c) (decide-fit Q (view s) (based Q s h) c))
+
+  pub step-alike : (c : Call) (s s′ : Store) → Related reach f n L s s′ → Alike reach f n L (step Q s c) (step Q s′ c)
+  unfolding step
+  step-alike c s s′ (same e) = subst (λ (t : Store). Alike reach f n L (step Q s c) (step Q t c)) e (record { replies = refl; stores = same refl })
+  step-alike c s s′ (apart a z) =
+      subst (λ (b : Bool). Alike reach f n L (cond (sound Q s) (act Q s c) (unsound s)) (cond b (act Q s′ c) (unsound s′))) (sound-same Q f n L s s′ a (z .own)) (go (sound Q s) refl)
+    where
+      unsound : Store → Outcome
+      unsound t = record { reply = refusedReply Unsound 0 c; store = t }
+
+      go : (b : Bool) → sound Q s ≡ b → Alike reach f n L (cond b (act Q s c) (unsound s)) (cond b (act Q s′ c) (unsound s′))
+      go true e = act-alike s s′ a z e c
+      go false e = record { replies = refl; stores = apart a z }

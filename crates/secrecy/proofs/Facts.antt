@@ -1,0 +1,89 @@
+-- What the soundness test says of a store, as facts.
+use mathlib.Core.Path.{_≡_, refl}
+use mathlib.Core.Bool.{Bool, true, false, cond}
+use mathlib.Core.List.{List}
+use mathlib.Core.Logic.{_≢_}
+use Prim.Native.Nat.{ℕ, _+_, _*_, _≤_, _<_}
+use native.Mathlib.Omega.{arith}
+use native.Mathlib.Decide.{decLt}
+use borrow.Author.Tests.{eqb-true, leb-true, ltb-true}
+use lib.Dec.{ltb}
+use lib.ListN.{length, getD, List·getD-eq-default}
+use Rattle.rules.specs.Choice.{every}
+use Rattle.rules.specs.Layout.{SLOTS, FILE, KIND, LABEL, LENGTH, PLAIN, DESCRIPTORS}
+use Rattle.rules.specs.Store.{Store, view, tab, descOf}
+use Rattle.rules.specs.Sound.{sound, storeSound, sizesSound, tablesSound, slotSound, recordSound, kindSound, plainSound}
+use Rattle.rules.proofs.Scans.{all-at}
+use Rattle.secrecy.proofs.Tests.{test, both}
+use Rattle.secrecy.proofs.Fit.{Based}
+
+-- no descriptor over 7 holds anything
+desc-eight : (P : List ℕ) (p i : ℕ) → descOf P p i ≢ 0 → i < 8
+unfolding descOf
+desc-eight P p i ne = go (ltb i DESCRIPTORS) refl ne
+  where
+    go : (t : Bool) → ltb i 8 ≡ t → cond t (getD P (11 * p + (3 + i)) 0) 0 ≢ 0 → i < 8
+    go true e h = ltb-true i 8 e
+    go false e h = absurd (h refl)
+
+module _ (Q : List ℕ) (s : Store) (h : sound Q s ≡ true) where
+  parts : (sizesSound s ≡ true) × (tablesSound (view s) ≡ true)
+  unfolding sound storeSound
+  parts = both _ _ (test 1 _ h)
+
+  pub files-size : length (s .files) ≡ 448
+  unfolding sizesSound
+  files-size = eqb-true _ _ (test 0 _ (parts .0))
+
+  pub opens-size : length (s .opens) ≡ 128
+  unfolding sizesSound
+  opens-size = eqb-true _ _ (test 2 _ (parts .0))
+
+  pub processes-size : length (s .processes) ≡ 88
+  unfolding sizesSound
+  processes-size = eqb-true _ _ (test 3 _ (parts .0))
+
+  pub based : Based (view s)
+  unfolding tablesSound
+  based = record { root = test 0 _ (parts .1); eight = desc-eight (s .processes) }
+
+  slot-sound : (t : ℕ) → t < 64 → slotSound (view s) t ≡ true
+  unfolding tablesSound
+  slot-sound t lt = all-at (slotSound (view s)) 0 SLOTS (test 1 _ (parts .1)) t (omega arith) lt
+
+  record-sound : (t : ℕ) → t < 64 → recordSound (view s .tree) t ≡ true
+  unfolding slotSound
+  record-sound t lt = test 0 _ (slot-sound t lt)
+
+  -- every program label is one of the sixteen
+  pub small-label : (t : ℕ) → tab FILE (s .files) t LABEL < 16
+  unfolding recordSound
+  small-label t = go (decLt t 64)
+    where
+      go : Dec (t < 64) → tab FILE (s .files) t LABEL < 16
+      go (yes lt) =
+          let l : tab FILE (s .files) t LABEL ≤ 15 = leb-true _ _ (test 3 _ (record-sound t lt)) in
+          omega arith
+      go (no ge) =
+          let z : tab FILE (s .files) t LABEL ≡ 0 = List·getD-eq-default (s .files) 0 (omega (arith, files-size)) in
+          omega arith
+
+  module _ (f : ℕ) (plain : tab FILE (s .files) f KIND ≡ PLAIN) where
+    -- a plain file is in one of the slots
+    pub plain-slot : f < 64
+    plain-slot = go (decLt f 64)
+      where
+        go : Dec (f < 64) → f < 64
+        go (yes lt) = lt
+        go (no ge) =
+            let z : tab FILE (s .files) f KIND ≡ 0 = List·getD-eq-default (s .files) 0 (omega (arith, files-size)) in
+            absurd (omega arith)
+
+    plain-sound : plainSound (view s) f ≡ true
+    unfolding slotSound kindSound
+    plain-sound = rw plain at (test 2 _ (slot-sound f plain-slot))
+
+    -- and has at most 512 bytes
+    pub plain-length : tab FILE (s .files) f LENGTH ≤ 512
+    unfolding plainSound
+    plain-length = leb-true _ _ (test 0 _ plain-sound)

@@ -1,0 +1,124 @@
+-- Demand 3, proved.
+use mathlib.Core.Path.{_≡_, refl, ap, ap₂, subst}
+use mathlib.Core.Bool.{Bool, true, false, false≢true, cond}
+use mathlib.Core.List.{List, [], _∷_}
+use mathlib.Core.Logic.{inl, inr}
+use Prim.Native.Nat.{ℕ, _≤_, _<_}
+use native.Mathlib.Omega.{arith}
+use native.Mathlib.Decide.{decLt}
+use borrow.Author.Tests.{eqb-false, lt-ltb, eq-eqb}
+use lib.Dec.{eqb}
+use lib.ListN.{List·getD-eq-default}
+use Rattle.rules.specs.Choice.{every, some}
+use Rattle.rules.specs.Layout.{FILE, OPEN, KIND, LABEL, LENGTH, PLAIN, NONE, MODE}
+use Rattle.rules.specs.Rights.{reads, transition, moved}
+use Rattle.rules.specs.Store.{Store, view, tab}
+use Rattle.rules.specs.Calls.{Call}
+use Rattle.rules.specs.Checks.{inUse, procInUse, slotFree}
+use Rattle.rules.specs.Sound.{sound}
+use Rattle.rules.specs.Step.{Reply, step, answers, final}
+use Rattle.secrecy.specs.Claim.{DifferInBytes, Reached, held, given, mayRead, OpenForReading, Supposed, freed, Claimed, Secrecy}
+use Rattle.secrecy.proofs.Agree.{agree-block, agree-rest, agree-of-blocks}
+use Rattle.secrecy.proofs.Tables.{Own, Unread, no-mode, Labels}
+use Rattle.secrecy.proofs.Related.{Apart, Related, apart, same}
+use Rattle.secrecy.proofs.Facts.{files-size, opens-size, processes-size, plain-slot, plain-length}
+use Rattle.secrecy.proofs.Alike.{Alike, step-alike}
+
+-- ---- from what is supposed to the relation that the calls keep
+
+apart-of : (f : ℕ) (s s′ : Store) → tab FILE (s .files) f LENGTH ≤ 512 → DifferInBytes f s s′ → Apart f (tab FILE (s .files) f LENGTH) s s′
+apart-of f s s′ small d = record {
+  files = d .files;
+  opens = d .opens;
+  processes = d .processes;
+  contents = agree-of-blocks f (tab FILE (s .files) f LENGTH) (s .contents) (s′ .contents) (d .size) (d .others) (d .rest);
+  small = small;
+}
+
+-- no open file, of whatever number, reads the slot
+unread-of : (Q : List ℕ) (s : Store) (f : ℕ) → sound Q s ≡ true → (OpenForReading s f → ⊥) → Unread f (s .opens)
+unread-of Q s f h none e r q = go (decLt e 32)
+  where
+    go : Dec (e < 32) → ⊥
+    go (yes lt) = none (record { entry = e; number = lt; mode = r; names = q })
+    go (no ge) =
+        let z : tab OPEN (s .opens) e MODE ≡ 0 = List·getD-eq-default (s .opens) 0 (omega (arith, opens-size Q s h)) in
+        no-mode (rw z at r)
+
+labels-of : (Q : List ℕ) (s : Store) → sound Q s ≡ true → Labels (Reached Q s) (s .processes)
+unfolding procInUse every
+labels-of Q s h = record { room = processes-size Q s h; used = λ p lt u. held _ (record { process = record { 0 = p }; used = simp (lt-ltb p 8 lt, eq-eqb _ _ u); has = refl }) }
+
+start : (Q : List ℕ) (f : ℕ) (s s′ : Store) → Supposed Q f s s′ → Related (Reached Q s) f (tab FILE (s .files) f LENGTH) (tab FILE (s .files) f LABEL) s s′
+start Q f s s′ h =
+    let plain : tab FILE (s .files) f KIND ≡ PLAIN = h .differ .plain in
+    let slot : f < 64 = plain-slot Q s (h .sound-one) f plain in
+    apart (apart-of f s s′ (plain-length Q s (h .sound-one) f plain) (h .differ))
+    (record {
+      own = record { plain = plain; label = refl; within = omega arith; room = omega (arith, files-size Q s (h .sound-one)) };
+      unread = unread-of Q s f (h .sound-one) (h .not-open);
+      labels = labels-of Q s (h .sound-one);
+    })
+
+-- the labels reached are closed under execute
+reach-closed : (Q : List ℕ) (s : Store) (l m : ℕ) → m < 16 → Reached Q s l → Reached Q s (moved Q l m)
+unfolding moved
+reach-closed Q s l m h r = go (eqb (transition Q l m) NONE) refl
+  where
+    go : (b : Bool) → eqb (transition Q l m) NONE ≡ b → Reached Q s (cond b l (transition Q l m))
+    go true e = r
+    go false e = given l m h (eqb-false _ _ e) r
+
+-- ---- a list of calls
+
+-- two stores that are apart differ in the file's bytes only
+pub differ-of : (f n L : ℕ) (s s′ : Store) → Apart f n s s′ → Own f n L (s .files) → DifferInBytes f s s′
+differ-of f n L s s′ a o = record {
+  plain = o .plain;
+  files = a .files;
+  opens = a .opens;
+  processes = a .processes;
+  size = a .contents .size;
+  others = agree-block f n (s .contents) (s′ .contents) (a .contents) (a .small);
+  rest = agree-rest f n (s .contents) (s′ .contents) (a .contents) (a .small) (tab FILE (s .files) f LENGTH) (o .within);
+}
+
+-- a plain file's slot is not free
+not-freed : (f n L : ℕ) (s : Store) → Own f n L (s .files) → slotFree (view s .tree .file) f ≡ false
+unfolding slotFree
+not-freed f n L s o = rw (o .plain)
+
+last : (t : Bool) → cond t true false ≡ true → t ≡ true
+last true e = e
+last false e = e
+
+module _ (Q : List ℕ) (reach : ℕ → Type 0) (f n L : ℕ) (no-right : (l : ℕ) → reach l → mayRead Q l L ≡ false)
+    (closed-under : (l m : ℕ) → m < 16 → reach l → reach (moved Q l m)) where
+  from-equal : (cs : List Call) (s s′ : Store) → s ≡ s′ → Claimed Q f s s′ cs
+  from-equal cs s s′ e = subst (λ (t : Store). Claimed Q f s t cs) e (record { same-answers = refl; same-stores = inl refl; equal-once-freed = λ _. refl })
+
+  run-alike : (cs : List Call) (s s′ : Store) → Related reach f n L s s′ → Claimed Q f s s′ cs
+  unfolding answers final freed some
+  run-alike [] s s′ (same e) = from-equal [] s s′ e
+  run-alike [] s s′ (apart a z) = record { same-answers = refl; same-stores = inr (differ-of f n L s s′ a (z .own)); equal-once-freed = λ b. absurd (false≢true b) }
+  run-alike (c ∷ cs) s s′ r =
+      let x : Alike reach f n L (step Q s c) (step Q s′ c) = step-alike Q reach f n L no-right closed-under c s s′ r in
+      go x (run-alike cs (step Q s c .store) (step Q s′ c .store) (x .stores))
+    where
+      go : Alike reach f n L (step Q s c) (step Q s′ c) → Claimed Q f (step Q s c .store) (step Q s′ c .store) cs → Claimed Q f s s′ (c ∷ cs)
+      go x o = record {
+        same-answers = ap₂ (λ (y : Reply) (ys : List Reply). y ∷ ys) (x .replies) (o .same-answers);
+        same-stores = o .same-stores;
+        equal-once-freed = once (x .stores);
+      }
+        where
+          once : Related reach f n L (step Q s c .store) (step Q s′ c .store)
+              → cond (slotFree (view (step Q s c .store) .tree .file) f) true (cond (freed Q f (step Q s c .store) cs) true false) ≡ true
+              → final Q (step Q s c .store) cs ≡ final Q (step Q s′ c .store) cs
+          once (same e) b = ap (λ (t : Store). final Q t cs) e
+          once (apart a z) b = o .equal-once-freed (last (freed Q f (step Q s c .store) cs) (rw (not-freed f n L (step Q s c .store) (z .own)) at b))
+
+-- ---- demand 3
+
+pub secrecy : Secrecy
+secrecy Q f s s′ h cs = run-alike Q (Reached Q s) f (tab FILE (s .files) f LENGTH) (tab FILE (s .files) f LABEL) (h .no-reader) (reach-closed Q s) cs s s′ (start Q f s s′ h)

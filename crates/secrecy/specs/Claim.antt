@@ -1,0 +1,88 @@
+-- Demand 3, stated: what it supposes where the list of calls starts, and what it claims of the list. `secrecy` of proofs/Secrecy.antt proves it.
+-- The policy Q stands beside the store and no call changes it: it is one and the same for both stores.
+use Prim.Native.Nat.{ℕ, _<_}
+use mathlib.Core.Path.{_≡_}
+use mathlib.Core.Bool.{Bool, true, false}
+use mathlib.Core.Logic.{_⊎_, _≢_}
+use mathlib.Core.List.{List, [], _∷_}
+use lib.ListN.{length, drop}
+use Rattle.rules.specs.Choice.{some}
+use Rattle.rules.specs.Layout.{OPENS, LABELS, NONE, KIND, LABEL, LENGTH, PLAIN, SLOT, MODE}
+use Rattle.rules.specs.Rights.{READ, reads, covers, policyRights, transition}
+use Rattle.rules.specs.Store.{Store, view, block, subjectOf}
+use Rattle.rules.specs.Calls.{Call}
+use Rattle.rules.specs.Checks.{inUse, slotFree}
+use Rattle.rules.specs.Sound.{sound}
+use Rattle.rules.specs.Step.{step, answers, final}
+use Rattle.rules.specs.declared.ids.Pid.{Pid}
+
+-- ---- the file in slot f
+
+-- a field of its record
+abbrev pub recordField : Store → ℕ → ℕ → ℕ
+recordField s f k = view s .tree .file f k
+
+-- "Two stores differ only in a file's bytes if its slot has the same plain record in both, and everything else, policy included, is equal
+-- except the slot's bytes before the record's length". `others` speaks of the other slots' bytes, `rest` of the slot's own from that length on
+pub record DifferInBytes (f : ℕ) (s s′ : Store) : Type 0 where
+  pub plain : recordField s f KIND ≡ PLAIN
+  pub files : s .files ≡ s′ .files
+  pub opens : s .opens ≡ s′ .opens
+  pub processes : s .processes ≡ s′ .processes
+  pub size : length (s .contents) ≡ length (s′ .contents)
+  pub others : (d : ℕ) → d ≢ f → block (s .contents) d ≡ block (s′ .contents) d
+  pub rest : drop (recordField s f LENGTH) (block (s .contents) f) ≡ drop (recordField s f LENGTH) (block (s′ .contents) f)
+
+-- ---- who may read it
+
+-- a process in use has label l
+pub record Held (s : Store) (l : ℕ) : Type 0 where
+  pub process : Pid
+  pub used : inUse (view s) process ≡ true
+  pub has : subjectOf (view s) process .label ≡ l
+
+-- "A label is held or can be reached if a process in use has it, or if the transition from such a label by any program label gives it":
+-- from a label that is held or can be reached, so any number of transitions on
+pub data Reached (Q : List ℕ) (s : Store) : ℕ → Type 0 where
+  held : (l : ℕ) → Held s l → Reached Q s l
+  given : (l m : ℕ) → m < LABELS → transition Q l m ≢ NONE → Reached Q s l → Reached Q s (transition Q l m)
+
+-- "It may read a file's label if the policy gives it right 4 over that"
+abbrev pub mayRead : List ℕ → (l m : ℕ) → Bool
+mayRead Q l m = covers (policyRights Q l m) (READ .0)
+
+-- "A file is open for reading if an open entry in mode 1 or 3 names its slot"
+pub record OpenForReading (s : Store) (f : ℕ) : Type 0 where
+  pub entry : ℕ
+  pub number : entry < OPENS
+  pub mode : reads (view s .opened entry MODE) ≡ true
+  pub names : view s .opened entry SLOT ≡ f
+
+-- ---- "What the demand supposes is supposed where the list starts"
+
+-- two sound stores that differ only in the file's bytes; no label that is held or can be reached may read the file's label; the file is not open for
+-- reading. The records are equal, so what is said of labels and open files of the one store holds of the other
+pub record Supposed (Q : List ℕ) (f : ℕ) (s s′ : Store) : Type 0 where
+  pub sound-one : sound Q s ≡ true
+  pub sound-other : sound Q s′ ≡ true
+  pub differ : DifferInBytes f s s′
+  pub no-reader : (l : ℕ) → Reached Q s l → mayRead Q l (recordField s f LABEL) ≡ false
+  pub not-open : OpenForReading s f → ⊥
+
+-- ---- what is claimed of the list
+
+-- a call of the list has freed slot f. "The file is freed by the first call that frees its slot"
+unfoldable pub freed : List ℕ → ℕ → Store → List Call → Bool
+freed Q f s [] = false
+freed Q f s (c ∷ cs) = some (slotFree (view (step Q s c .store) .tree .file) f ∷ freed Q f (step Q s c .store) cs ∷ [])
+
+-- "a single claim about the list and not one for each call: all the answers in order, and both stores at the end"; "the stores are equal from
+-- then on, also where the slot is given out again": after every list in which the file is freed, whatever comes after that call
+pub record Claimed (Q : List ℕ) (f : ℕ) (s s′ : Store) (cs : List Call) : Type 0 where
+  pub same-answers : answers Q s cs ≡ answers Q s′ cs
+  pub same-stores : (final Q s cs ≡ final Q s′ cs) ⊎ DifferInBytes f (final Q s cs) (final Q s′ cs)
+  pub equal-once-freed : freed Q f s cs ≡ true → final Q s cs ≡ final Q s′ cs
+
+-- "Demand 3's list may hold any of the seventeen calls, in any order and by any processes, refused and unknown ones included": any list
+abbrev pub Secrecy : Type 0
+Secrecy = (Q : List ℕ) (f : ℕ) (s s′ : Store) → Supposed Q f s s′ → (cs : List Call) → Claimed Q f s s′ cs

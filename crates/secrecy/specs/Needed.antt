@@ -1,0 +1,77 @@
+-- That each supposition is needed: runs that leave one out, and whose answers give the file's bytes. The file is /key of the test console, slot 3, label 3.
+use Prim.Native.Nat.{ℕ, _+_, _*_}
+use mathlib.Core.List.{List, [], _∷_, _++_}
+use lib.ListN.{getD, set}
+use Rattle.rules.specs.Layout.{SLASH, LABELS, RIGHTS, OPEN, OPENS, PROCESS, OWN}
+use Rattle.rules.specs.Rights.{READ, MODE-READ}
+use Rattle.rules.specs.Store.{Store, store}
+use Rattle.rules.specs.Calls.{Call}
+use Rattle.rules.specs.Step.{Reply}
+use Rattle.rules.specs.Console.{FARES, NOW, KEY, filled, consoleWith, consolePolicy}
+
+-- two keys
+abbrev pub KEY-ONE : List ℕ
+KEY-ONE = 1 ∷ 2 ∷ 3 ∷ 4 ∷ []
+
+abbrev pub KEY-OTHER : List ℕ
+KEY-OTHER = 5 ∷ 6 ∷ 7 ∷ 8 ∷ []
+
+-- ---- the calls of process p
+
+abbrev pub keyPath : List ℕ
+keyPath = SLASH ∷ KEY
+
+abbrev pub nowPath : List ℕ
+nowPath = (SLASH ∷ FARES) ++ (SLASH ∷ NOW)
+
+-- open /key for reading, execute /fares/now, read one byte by descriptor 0
+abbrev pub opensKey : ℕ → Call
+opensKey p = record { process = record { 0 = p }; call = 1; fd = record { 0 = 0 }; number = MODE-READ .0; path = keyPath; bytes = []; buffer = [] }
+
+abbrev pub executesNow : ℕ → Call
+executesNow p = record { process = record { 0 = p }; call = 17; fd = record { 0 = 0 }; number = 0; path = nowPath; bytes = []; buffer = [] }
+
+abbrev pub readsByte : ℕ → Call
+readsByte p = record { process = record { 0 = p }; call = 11; fd = record { 0 = 0 }; number = 0; path = []; bytes = []; buffer = 0 ∷ [] }
+
+-- the first byte of each buffer afterwards, 0 where it is empty
+unfoldable pub firstBytes : List Reply → List ℕ
+firstBytes [] = []
+firstBytes (r ∷ rs) = getD (r .buffer) 0 0 ∷ firstBytes rs
+
+-- ---- policies
+
+-- the policy with other rights of process label l over file label m, and with another transition from l by m
+abbrev pub withRights : List ℕ → (l m rights : ℕ) → List ℕ
+withRights Q l m rights = set Q (LABELS * l + m) rights
+
+abbrev pub withTransition : List ℕ → (l m label : ℕ) → List ℕ
+withTransition Q l m label = set Q (RIGHTS + (LABELS * l + m)) label
+
+-- ---- a held label may read: label 1, of process 1, has right 4 over label 3
+
+unfoldable pub heldPolicy : List ℕ
+heldPolicy = withRights consolePolicy 1 3 (READ .0)
+
+abbrev pub heldCalls : List Call
+heldCalls = opensKey 1 ∷ readsByte 1 ∷ []
+
+-- ---- a label that two transitions give may read, and none that is held or that one transition gives: executing /fares/now, whose label is 0,
+-- takes label 1 to label 4, and that to label 5, which has right 4 over label 3
+
+unfoldable pub reachedPolicy : List ℕ
+reachedPolicy =
+    withTransition (withTransition (withRights (withRights (withRights consolePolicy 4 0 7) 5 0 7) 5 3 (READ .0)) 1 0 4) 4 0 5
+
+abbrev pub reachedCalls : List Call
+reachedCalls = executesNow 1 ∷ executesNow 1 ∷ opensKey 1 ∷ readsByte 1 ∷ []
+
+-- ---- /key is open: descriptor 0 of process 2, whose label may not read it, holds open file 0
+
+unfoldable pub opened : (mode : ℕ) → (key : List ℕ) → Store
+opened mode key =
+    store (consoleWith key .files) (consoleWith key .contents) (filled (OPENS * OPEN) (3 ∷ mode ∷ 0 ∷ 1 ∷ []))
+    (set (consoleWith key .processes) (PROCESS * 2 + OWN) 1)
+
+abbrev pub openedCalls : List Call
+openedCalls = readsByte 2 ∷ []
