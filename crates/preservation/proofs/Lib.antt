@@ -1,0 +1,23 @@
+-- A call on a sound store leaves a sound store. From the bottom up:
+-- tests and sums
+pub mod Tests
+pub mod Sums
+pub mod Scans
+-- the store as tables, what sound means of them, and how its counts change
+pub mod Tables
+pub mod Sound
+pub mod Change
+-- each change of the tables, and that it keeps them sound
+pub mod Small
+pub mod Dirents
+pub mod Link
+pub mod Unlink
+pub mod Remake
+pub mod Create
+pub mod Plain
+pub mod Open
+pub mod Processes
+-- the test means the record
+pub mod Tree
+-- from a granted call's checks to what its effect owes
+pub mod Reach

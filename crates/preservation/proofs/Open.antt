@@ -1,0 +1,124 @@
+-- One descriptor and one open opened change: open, close.
+use mathlib.Core.Path.{_≡_, refl, sym, subst, ap, _∙_}
+use mathlib.Core.Bool.{Bool, true, false, not, cond, _&&_, _||_, false≢true}
+use Prim.Native.Nat.{ℕ, zero, suc, _+_, _-_, _*_, _/_, _%_, _≤_, _<_}
+use native.Mathlib.Omega.{arith}
+use mathlib.Core.List.{List, [], _∷_}
+use lib.ListN.{getD}
+use lib.Dec.{eqb, ltb, leb}
+use borrow.Author.Tests.{eqb-true, eqb-false, eq-eqb, ne-eqb, lt-ltb, le-ltb, ltb-true}
+use Rattle.preservation.proofs.Tests.{split, upd, upd2, updRow, upd-elim, upd-same, upd-other}
+use Rattle.preservation.proofs.Sums.{ind}
+use Rattle.preservation.proofs.Tables.{Tables, col, direntRow}
+use Rattle.preservation.proofs.Sound.{All, Sound, SoundBut, OpenFile, Process, holderCount, openCount}
+use Rattle.preservation.proofs.Change.{ind-eq, ind-ne, holders-to, holders-at, openCount-change, open-used}
+use Rattle.preservation.proofs.Small.{Held, held}
+use Rattle.preservation.proofs.Link.{loosen}
+use Rattle.preservation.proofs.Create.{released, released-sound}
+use Rattle.rules.specs.Layout.{SLOTS, KIND, SLOT, REFERENCES, USED, PLAIN, WORD-MAX}
+
+-- an open opened by its words
+abbrev pub openRow : (slot mode offset refs : ℕ) → ℕ → ℕ
+openRow slot mode offset refs c = getD (slot ∷ mode ∷ offset ∷ refs ∷ []) c 0
+
+-- descriptor k of process p becomes v, opened e becomes row
+unfoldable pub handed : (p k v e : ℕ) → (ℕ → ℕ) → Tables → Tables
+handed p k v e row m = record { file = m .file; byte = m .byte; opened = upd (m .opened) e row; proc = m .proc; desc = updRow (m .desc) p k v }
+
+pub handed-sound : (x : ℕ) (m : Tables) → SoundBut x m → (p k v e : ℕ) (row : ℕ → ℕ) → p < 8 → k < 8 → (m .proc p USED ≡ 0 → ⊥) → v ≤ 32 → OpenFile (col (m .file) KIND) (row 0) (row 1) (row 2) (row 3) →
+    All 32 (λ i. upd (m .opened) e row i REFERENCES + ind (eqb (m .desc p k) (i + 1)) ≡ m .opened i REFERENCES + ind (eqb v (i + 1))) →
+    All SLOTS (λ s. (s ≡ x → ⊥) → openCount (col (m .opened) SLOT) (col (m .opened) REFERENCES) s ≤ openCount (col (upd (m .opened) e row) SLOT) (col (upd (m .opened) e row) REFERENCES) s) → SoundBut x (handed p k v e row m)
+unfolding handed
+handed-sound x m h p k v e row hp hk u hv w counts more = record {
+  files = h .files;
+  root-kind = h .root-kind;
+  root-links = h .root-links;
+  blocks = h .blocks;
+  dirs = h .dirs;
+  lengths = h .lengths;
+  links = h .links;
+  once = h .once;
+  depths = h .depths;
+  alive = λ s hs n q. omega (arith, h .alive s hs n q, more s hs n);
+  open-files = λ i hi. split i e (λ q t. rw t w) (λ q t. rw t (h .open-files i hi));
+  refs = λ i hi. omega (arith, counts i hi, holders-to (m .desc) p k v i hp hk, h .refs i hi);
+  procs = λ i hi. split i p
+      (λ q t. let r = h .procs i hi in let s = h .procs p hp in rw t (record {
+        active-most = r .active-most;
+        user-most = r .user-most;
+        label-most = r .label-most;
+        desc-most = λ c hc. upd-elim (λ y. y ≤ 32) (m .desc p) k v c (λ _. hv) (λ _. s .desc-most c hc);
+        user-zero = r .user-zero;
+        label-zero = r .label-zero;
+        desc-zero = λ z. absurd (u (rw q at z));
+      }))
+      (λ q t. rw t (h .procs i hi));
+}
+
+-- the counts of open open-files, row by row
+pub openCount-row : (m : Tables) (e : ℕ) (row : ℕ → ℕ) (s : ℕ) → e < 32 →
+    openCount (col (upd (m .opened) e row) SLOT) (col (upd (m .opened) e row) REFERENCES) s + ind (eqb (m .opened e SLOT) s && ltb 0 (m .opened e REFERENCES)) ≡ openCount (col (m .opened) SLOT) (col (m .opened) REFERENCES) s + ind (eqb (row 0) s && ltb 0 (row 3))
+openCount-row m e row s he =
+    rw (eq-eqb e e refl) at (openCount-change (col (m .opened) SLOT) (col (m .opened) REFERENCES) (col (upd (m .opened) e row) SLOT) (col (upd (m .opened) e row) REFERENCES) e s he (λ i q. rw (ne-eqb i e q)) (λ i q. rw (ne-eqb i e q)))
+
+-- ---- open
+
+pub open-sound : (x : ℕ) (m : Tables) → SoundBut x m → (p k e s mode : ℕ) → p < 8 → k < 8 → e < 32 → s < SLOTS → (m .proc p USED ≡ 0 → ⊥) → m .desc p k ≡ 0 → m .opened e REFERENCES ≡ 0 → m .file s KIND ≡ PLAIN →
+    0 < mode → mode ≤ 4 → SoundBut x (handed p k (e + 1) e (openRow s mode 0 1) m)
+open-sound x m h p k e s mode hp hk he hs u d f ks m1 m4 =
+    handed-sound x m h p k (e + 1) e (openRow s mode 0 1) hp hk u (omega arith) (open-used (λ z. omega arith) hs ks m1 m4 (omega arith))
+    (λ i hi. split i e
+    (λ q t. rw (t, q) (omega (arith, ind-eq (e + 1) (e + 1) refl, ind-ne (m .desc p k) (e + 1) (λ z. omega arith))))
+    (λ q t. rw t (omega (arith, ind-ne (e + 1) (i + 1) (λ z. q (omega arith)), ind-ne (m .desc p k) (i + 1) (λ z. omega arith)))))
+    (λ y hy _. omega (arith, rw f at (openCount-row m e (openRow s mode 0 1) y he), none (eqb (m .opened e SLOT) y)))
+  where
+    none : (b : Bool) → ind (b && ltb 0 0) ≡ 0
+    none true = refl
+    none false = refl
+
+-- ---- close: the opened goes with its last descriptor
+
+unfoldable pub closed : (p k e : ℕ) → Tables → Tables
+closed p k e m = handed p k 0 e (cond (eqb (m .opened e REFERENCES) 1) (λ _. 0) (upd (m .opened e) 3 (m .opened e REFERENCES - 1))) m
+
+pub closed-sound : (m : Tables) → Sound m → (p k e : ℕ) → p < 8 → k < 8 → (m .proc p USED ≡ 0 → ⊥) → m .desc p k ≡ e + 1 → SoundBut (m .opened e SLOT) (closed p k e m)
+unfolding closed
+closed-sound m h p k e hp hk u d = split (m .opened e REFERENCES) 1 (λ q t. rw t (last q)) (λ q t. rw t (keep q))
+  where
+    o : Held m e
+    o = held SLOTS m h p k e hp hk d
+
+    w : SoundBut (m .opened e SLOT) m
+    w = loosen (m .opened e SLOT) m h
+
+    false-and : (b : Bool) → ind (b && ltb 0 0) ≡ 0
+    false-and true = refl
+    false-and false = refl
+
+    counts : (r : ℕ → ℕ) → r 3 + 1 ≡ m .opened e REFERENCES → (i : ℕ) → i < 32 → upd (m .opened) e r i REFERENCES + ind (eqb (m .desc p k) (i + 1)) ≡ m .opened i REFERENCES + ind (eqb 0 (i + 1))
+    counts r z i hi = split i e
+        (λ q t. rw (t, q) (omega (arith, ind-eq (m .desc p k) (e + 1) d, ind-ne 0 (e + 1) (λ y. omega arith))))
+        (λ q t. rw t (omega (arith, ind-ne (m .desc p k) (i + 1) (λ y. q (omega arith)), ind-ne 0 (i + 1) (λ y. omega arith))))
+
+    last : m .opened e REFERENCES ≡ 1 → SoundBut (m .opened e SLOT) (handed p k 0 e (λ _. 0) m)
+    last q = handed-sound (m .opened e SLOT) m w p k 0 e (λ _. 0) hp hk u (omega arith)
+        (record { slot-zero = λ _. refl; mode-zero = λ _. refl; offset-zero = λ _. refl; slot-small = λ n. absurd (n refl); plain = λ n. absurd (n refl); mode-least = λ n. absurd (n refl); mode-most = λ n. absurd (n refl); offset-most = λ n. absurd (n refl) })
+        (counts (λ _. 0) (omega arith))
+        (λ s hs n. omega (arith, rw (ne-eqb (m .opened e SLOT) s (λ z. n (sym z))) at (openCount-row m e (λ _. 0) s (o .small)), false-and (eqb 0 s)))
+
+    keep : (m .opened e REFERENCES ≡ 1 → ⊥) → SoundBut (m .opened e SLOT) (handed p k 0 e (upd (m .opened e) 3 (m .opened e REFERENCES - 1)) m)
+    keep q =
+        let r = h .open-files e (o .small) in
+        let a : ltb 0 (m .opened e REFERENCES) ≡ true = lt-ltb 0 (m .opened e REFERENCES) (omega (arith, o .open-refs)) in
+        let b : ltb 0 (m .opened e REFERENCES - 1) ≡ true = lt-ltb 0 (m .opened e REFERENCES - 1) (omega (arith, o .open-refs)) in
+        handed-sound (m .opened e SLOT) m w p k 0 e (upd (m .opened e) 3 (m .opened e REFERENCES - 1)) hp hk u (omega arith)
+        (open-used (λ z. omega (arith, o .open-refs)) (r .slot-small (o .open-refs)) (r .plain (o .open-refs)) (r .mode-least (o .open-refs)) (r .mode-most (o .open-refs)) (r .offset-most (o .open-refs)))
+        (counts (upd (m .opened e) 3 (m .opened e REFERENCES - 1)) (omega (arith, o .open-refs)))
+        (λ s hs n. omega (arith, rw (a, b) at (openCount-row m e (upd (m .opened e) 3 (m .opened e REFERENCES - 1)) s (o .small))))
+
+pub close-sound : (m : Tables) → Sound m → (p k e t : ℕ) → p < 8 → k < 8 → (m .proc p USED ≡ 0 → ⊥) → m .desc p k ≡ e + 1 → t ≤ WORD-MAX → Sound (released (m .opened e SLOT) t (closed p k e m))
+unfolding closed handed
+close-sound m h p k e t hp hk u d ht =
+    let o : Held m e = held SLOTS m h p k e hp hk d in
+    let r = h .open-files e (o .small) in
+    released-sound (closed p k e m) (m .opened e SLOT) t (closed-sound m h p k e hp hk u d) (r .slot-small (o .open-refs)) (r .plain (o .open-refs)) ht

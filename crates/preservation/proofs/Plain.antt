@@ -1,0 +1,65 @@
+-- A plain file's bytes, length and version change: write, and cut.
+use mathlib.Core.Path.{_≡_, refl, sym, subst, ap, _∙_, fun-ext}
+use mathlib.Core.Bool.{Bool, true, false, not, cond, _&&_, _||_, false≢true}
+use Prim.Native.Nat.{ℕ, zero, suc, _+_, _-_, _*_, _/_, _%_, _≤_, _<_}
+use native.Mathlib.Omega.{arith}
+use lib.Dec.{eqb, ltb, leb}
+use borrow.Author.Tests.{eqb-true, eqb-false, eq-eqb, ne-eqb, lt-ltb, le-ltb, ltb-true}
+use Rattle.preservation.proofs.Tests.{split, upd, upd2, updRow, upd-elim, upd-same, upd-other}
+use Rattle.preservation.proofs.Tables.{Tables, col, direntRow, rowsOf, fileTo, bytesTo}
+use Rattle.preservation.proofs.Sound.{All, Sound, SoundBut, File, Block, naming}
+use Rattle.preservation.proofs.Change.{file-used}
+use Rattle.preservation.proofs.Remake.{naming-same}
+use Rattle.rules.specs.Layout.{SLOTS, KIND, LENGTH, VERSION, PLAIN, DIRECTORY, WORD-MAX}
+
+unfoldable pub wrote : (s : ℕ) → (ℕ → ℕ) → (z t : ℕ) → Tables → Tables
+wrote s g z t m = fileTo s VERSION t (fileTo s LENGTH z (bytesTo s g m))
+
+pub wrote-sound : (x : ℕ) (m : Tables) → SoundBut x m → (s : ℕ) (g : ℕ → ℕ) (z t : ℕ) → m .file s KIND ≡ PLAIN → z ≤ 512 → All 512 (λ b. z ≤ b → g b ≡ 0) → t ≤ WORD-MAX → SoundBut x (wrote s g z t m)
+unfolding wrote
+wrote-sound x m h s g z t k hz g0 ht = record {
+  files = λ i hi. split i s
+      (λ q e. let w = h .files i hi in rw e (file-used (λ a. omega (arith, rw q at a)) (w .kind-most) (w .owner-most) (w .bits-most) (w .label-most) ht))
+      (λ q e. rw e (h .files i hi));
+  root-kind = h .root-kind;
+  root-links = h .root-links;
+  blocks = λ i hi. split i s
+      (λ q e. rw e (record { length-most = λ _. hz; past-zero = λ _. g0; tail-zero = λ a. absurd (plain i q a) }))
+      (λ q e. rw e (h .blocks i hi));
+  dirs = λ i hi a. rw (ne-eqb i s (λ q. plain i q a)) (h .dirs i hi a);
+  lengths = λ i hi a. rw (ne-eqb i s (λ q. plain i q a)) (h .lengths i hi a);
+  links = λ i hi n. rw (naming-same (col (m .file) KIND) (col (m .file) KIND) (direntRow (m .byte)) (direntRow (upd (m .byte) s g)) i (same i)) (h .links i hi n);
+  once = h .once;
+  depths = record {
+    depth = h .depths .depth;
+    depth-root = h .depths .depth-root;
+    depth-most = h .depths .depth-most;
+    depth-step = λ u hu a. rw (ne-eqb u s (λ q. plain u q a)) (h .depths .depth-step u hu a);
+  };
+  alive = h .alive;
+  open-files = h .open-files;
+  refs = h .refs;
+  procs = h .procs;
+}
+  where
+    plain : (i : ℕ) → i ≡ s → m .file i KIND ≡ DIRECTORY → ⊥
+    plain i q a = omega (arith, rw q at a)
+
+    same : (n i j : ℕ) → i < SLOTS → j < 16 → naming (col (m .file) KIND) (direntRow (upd (m .byte) s g)) n i j ≡ naming (col (m .file) KIND) (direntRow (m .byte)) n i j
+    same n i j _ _ = split i s (λ q e. rw (ne-eqb (m .file i KIND) DIRECTORY (plain i q))) (λ q e. rw e)
+
+-- other bytes before a plain file's length, and nothing else changed: both stores of the secrecy demand are sound or neither is
+pub bytes-sound : (x : ℕ) (m : Tables) → SoundBut x m → (s : ℕ) (g : ℕ → ℕ) → s < SLOTS → m .file s KIND ≡ PLAIN → All 512 (λ b. m .file s LENGTH ≤ b → g b ≡ 0) → SoundBut x (bytesTo s g m)
+bytes-sound x m h s g hs k g0 =
+    rw same at (wrote-sound x m h s g (m .file s LENGTH) (m .file s VERSION) k (h .blocks s hs .length-most (λ z. omega arith)) g0 (h .files s hs .version-most))
+  where
+    word : (c i j : ℕ) → upd2 (m .file) s c (m .file s c) i j ≡ m .file i j
+    word c i j = split j c (λ q t. split i s (λ p u. rw (t, u, p, q)) (λ p u. rw (t, u))) (λ q t. rw t)
+
+    words : (c : ℕ) → upd2 (m .file) s c (m .file s c) ≡ m .file
+    words c = fun-ext (λ i. fun-ext (λ j. word c i j))
+
+    same : wrote s g (m .file s LENGTH) (m .file s VERSION) m ≡ bytesTo s g m
+    same = unfold wrote in
+        ap (λ (f : ℕ → ℕ → ℕ). record { file = upd2 f s 6 (m .file s VERSION); byte = upd (m .byte) s g; opened = m .opened; proc = m .proc; desc = m .desc }) (words 4)
+        ∙ ap (λ (f : ℕ → ℕ → ℕ). record { file = f; byte = upd (m .byte) s g; opened = m .opened; proc = m .proc; desc = m .desc }) (words 6)

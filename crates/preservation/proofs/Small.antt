@@ -1,0 +1,107 @@
+-- Changes of one row: duplicate, seek, change bits.
+use mathlib.Core.Path.{_≡_, refl, sym, subst, ap, _∙_}
+use mathlib.Core.Bool.{Bool, true, false, not, cond, _&&_, _||_}
+use Prim.Native.Nat.{ℕ, zero, suc, _+_, _*_, _/_, _%_, _≤_, _<_}
+use native.Mathlib.Omega.{arith}
+use lib.Dec.{eqb, ltb, leb}
+use borrow.Author.Tests.{eqb-true, eqb-false, eq-eqb, ne-eqb, lt-ltb, ltb-true}
+use Rattle.preservation.proofs.Tests.{split, upd, upd2, updRow, upd-elim}
+use Rattle.preservation.proofs.Sums.{ind}
+use Rattle.preservation.proofs.Tables.{Tables, col, direntRow, fileTo, openTo, descTo}
+use Rattle.preservation.proofs.Sound.{Sound, SoundBut, File, Block, Dirent, Directory, Depths, OpenFile, Process, holderCount, openCount}
+use Rattle.preservation.proofs.Change.{ind-eq, ind-ne, holders-to, holders-at, openCount-refs, file-used, open-used}
+use Rattle.rules.specs.Layout.{KIND, BITS, SLOT, OFFSET, REFERENCES, USED, FREE}
+
+-- the opened that a descriptor links is open
+pub record Held (m : Tables) (e : ℕ) : Type 0 where
+  pub small : e < 32
+  pub open-refs : m .opened e REFERENCES ≡ 0 → ⊥
+
+pub held : (x : ℕ) (m : Tables) (h : SoundBut x m) (p k e : ℕ) → p < 8 → k < 8 → m .desc p k ≡ e + 1 → Held m e
+held x m h p k e hp hk q =
+    let l : e < 32 = omega (arith, h .procs p hp .desc-most k hk) in
+    record { small = l; open-refs = λ z. omega (arith, holders-at (m .desc) p k e hp hk q, h .refs e l) }
+
+-- ---- seek
+
+pub seek-sound : (x : ℕ) (m : Tables) → SoundBut x m → (e v : ℕ) → (m .opened e REFERENCES ≡ 0 → ⊥) → v ≤ 512 → SoundBut x (openTo e OFFSET v m)
+seek-sound x m h e v o l = record {
+  files = h .files;
+  root-kind = h .root-kind;
+  root-links = h .root-links;
+  blocks = h .blocks;
+  dirs = h .dirs;
+  lengths = h .lengths;
+  links = h .links;
+  once = h .once;
+  depths = h .depths;
+  alive = h .alive;
+  open-files = λ i hi. split i e
+      (λ q t. let o′ : m .opened i REFERENCES ≡ 0 → ⊥ = rw q o in let r = h .open-files i hi in
+      rw t (open-used o′ (r .slot-small o′) (r .plain o′) (r .mode-least o′) (r .mode-most o′) l))
+      (λ q t. rw t (h .open-files i hi));
+  refs = h .refs;
+  procs = h .procs;
+}
+
+-- ---- change bits
+
+pub bits-sound : (x : ℕ) (m : Tables) → SoundBut x m → (s v : ℕ) → (m .file s KIND ≡ FREE → ⊥) → v ≤ 7 → SoundBut x (fileTo s BITS v m)
+bits-sound x m h s v u l = record {
+  files = λ i hi. split i s
+      (λ q t. let r = h .files i hi in rw t (file-used (rw q u) (r .kind-most) (r .owner-most) l (r .label-most) (r .version-most)))
+      (λ q t. rw t (h .files i hi));
+  root-kind = h .root-kind;
+  root-links = h .root-links;
+  blocks = h .blocks;
+  dirs = h .dirs;
+  lengths = h .lengths;
+  links = h .links;
+  once = h .once;
+  depths = h .depths;
+  alive = h .alive;
+  open-files = h .open-files;
+  refs = h .refs;
+  procs = h .procs;
+}
+
+-- ---- duplicate: descriptor k of process p holds e too
+
+unfoldable pub duplicate : ℕ → ℕ → ℕ → Tables → Tables
+duplicate p k e m = descTo p k (e + 1) (openTo e REFERENCES (m .opened e REFERENCES + 1) m)
+
+pub duplicate-sound : (x : ℕ) (m : Tables) → SoundBut x m → (p j k e : ℕ) → p < 8 → j < 8 → k < 8 → (m .proc p USED ≡ 0 → ⊥) → m .desc p j ≡ e + 1 → m .desc p k ≡ 0 → SoundBut x (duplicate p k e m)
+unfolding duplicate
+duplicate-sound x m h p j k e hp hj hk u d f = record {
+  files = h .files;
+  root-kind = h .root-kind;
+  root-links = h .root-links;
+  blocks = h .blocks;
+  dirs = h .dirs;
+  lengths = h .lengths;
+  links = h .links;
+  once = h .once;
+  depths = h .depths;
+  alive = λ s hs n q. rw (openCount-refs (col (m .opened) SLOT) (col (m .opened) REFERENCES) e (m .opened e REFERENCES + 1) s (o .small) (o .open-refs) (λ z. omega arith)) (h .alive s hs n q);
+  open-files = λ i hi. split i e
+      (λ q t. let o′ : m .opened i REFERENCES ≡ 0 → ⊥ = rw q (o .open-refs) in let r = h .open-files i hi in
+      rw t (open-used (λ z. omega arith) (r .slot-small o′) (r .plain o′) (r .mode-least o′) (r .mode-most o′) (r .offset-most o′)))
+      (λ q t. rw t (h .open-files i hi));
+  refs = λ i hi. split i e
+      (λ q t. rw (t, q) (omega (arith, holders-to (m .desc) p k (e + 1) e hp hk, ind-eq (e + 1) (e + 1) refl, ind-ne (m .desc p k) (e + 1) (λ z. omega arith), h .refs e (o .small))))
+      (λ q t. rw t (omega (arith, holders-to (m .desc) p k (e + 1) i hp hk, ind-ne (e + 1) (i + 1) (λ z. q (omega arith)), ind-ne (m .desc p k) (i + 1) (λ z. omega arith), h .refs i hi)));
+  procs = λ i hi. split i p
+      (λ q t. let r = h .procs i hi in let w = h .procs p hp in rw t (record {
+        active-most = r .active-most;
+        user-most = r .user-most;
+        label-most = r .label-most;
+        desc-most = λ c hc. upd-elim (λ x. x ≤ 32) (m .desc p) k (e + 1) c (λ _. omega (arith, o .small)) (λ _. w .desc-most c hc);
+        user-zero = r .user-zero;
+        label-zero = r .label-zero;
+        desc-zero = λ z. absurd (u (rw q at z));
+      }))
+      (λ q t. rw t (h .procs i hi));
+}
+  where
+    o : Held m e
+    o = held x m h p j e hp hj d
