@@ -19,5 +19,8 @@ pub mod Open
 pub mod Processes
 -- the test means the record
 pub mod Tree
+-- the flat lists as tables
+pub mod Table
+pub mod Changes
 -- from a granted call's checks to what its effect owes
 pub mod Reach
