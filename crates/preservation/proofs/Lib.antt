@@ -17,10 +17,12 @@ pub mod Create
 pub mod Plain
 pub mod Open
 pub mod Processes
--- the test means the record
-pub mod Tree
 -- the flat lists as tables
 pub mod Table
 pub mod Changes
+-- the test means the record
+pub mod Tree
+pub mod Shown
+pub mod Counted
 -- from a granted call's checks to what its effect owes
 pub mod Reach
