@@ -24,5 +24,6 @@ pub mod Changes
 pub mod Tree
 pub mod Shown
 pub mod Counted
+pub mod Meaning
 -- from a granted call's checks to what its effect owes
 pub mod Reach

@@ -58,10 +58,16 @@ unfolding implies
 means-imp {a = true} m n = record { holds = λ e p. n .holds e; tests = λ f. n .tests (f (m .holds refl)) }
 means-imp {a = false} m n = record { holds = λ e p. absurd (false≢true (m .tests p)); tests = λ f. refl }
 
--- a choice between two tests
+-- a choice between two tests, each known only where it is chosen
+pub means-choice : {a b c : Bool} {P Q R : Type 0} → Means a P → (P → Means b Q) → ((P → ⊥) → Means c R) → Means (cond a b c) ((P → Q) × ((P → ⊥) → R))
+means-choice {a = true} m n k = record { holds = λ e. (λ p. n p .holds e, λ o. absurd (o (m .holds refl))); tests = λ f. n (m .holds refl) .tests (f .0 (m .holds refl)) }
+means-choice {a = false} m n k = record {
+  holds = λ e. (λ p. absurd (false≢true (m .tests p)), λ o. k o .holds e);
+  tests = λ f. k (λ p. false≢true (m .tests p)) .tests (f .1 (λ p. false≢true (m .tests p)));
+}
+
 pub means-cond : {a b c : Bool} {P Q R : Type 0} → Means a P → Means b Q → Means c R → Means (cond a b c) ((P → Q) × ((P → ⊥) → R))
-means-cond {a = true} m n k = record { holds = λ e. (λ p. n .holds e, λ o. absurd (o (m .holds refl))); tests = λ f. n .tests (f .0 (m .holds refl)) }
-means-cond {a = false} m n k = record { holds = λ e. (λ p. absurd (false≢true (m .tests p)), λ o. k .holds e); tests = λ f. k .tests (f .1 (λ p. false≢true (m .tests p))) }
+means-cond m n k = means-choice m (λ _. n) (λ _. k)
 
 -- one of two tests passes: where the first does not
 pub means-or : {a b : Bool} {P Q : Type 0} → Means a P → Means b Q → Means (some (a ∷ b ∷ [])) ((P → ⊥) → Q)
@@ -69,6 +75,13 @@ unfolding some
 means-or {a = true} m n = record { holds = λ e o. absurd (o (m .holds refl)); tests = λ f. refl }
 means-or {a = false} {b = true} m n = record { holds = λ e o. n .holds refl; tests = λ f. refl }
 means-or {a = false} {b = false} m n = record { holds = λ e o. absurd (false≢true e); tests = λ f. n .tests (f (λ p. false≢true (m .tests p))) }
+
+pub means-or3 : {a b c : Bool} {P Q R : Type 0} → Means a P → Means b Q → Means c R → Means (some (a ∷ b ∷ c ∷ [])) ((P → ⊥) → (Q → ⊥) → R)
+unfolding some
+means-or3 {a = true} m n k = record { holds = λ e o. absurd (o (m .holds refl)); tests = λ f. refl }
+means-or3 {a = false} {b = true} m n k = record { holds = λ e o u. absurd (u (n .holds refl)); tests = λ f. refl }
+means-or3 {a = false} {b = false} {c = true} m n k = record { holds = λ e o u. k .holds refl; tests = λ f. refl }
+means-or3 {a = false} {b = false} {c = false} m n k = record { holds = λ e o u. absurd (false≢true e); tests = λ f. k .tests (f (λ p. false≢true (m .tests p)) (λ q. false≢true (n .tests q))) }
 
 pub means-all : (n : ℕ) (f : ℕ → Bool) (P : ℕ → Type 0) → ((i : ℕ) → Means (f i) (P i)) → Means (all f 0 n) ((i : ℕ) → i < n → P i)
 means-all n f P m = record {
