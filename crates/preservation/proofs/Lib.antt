@@ -25,5 +25,6 @@ pub mod Tree
 pub mod Shown
 pub mod Counted
 pub mod Meaning
+pub mod SoundStore
 -- from a granted call's checks to what its effect owes
 pub mod Reach

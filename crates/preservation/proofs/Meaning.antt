@@ -91,7 +91,7 @@ module _ (t : Tree) (D : List ℕ) (rows : ℕ → ℕ → ℕ) (agree : (i k : 
 
 -- ---- open files and processes
 
-means-opened : (v : View) (e : ℕ) → Means (openSound v e)
+pub means-opened : (v : View) (e : ℕ) → Means (openSound v e)
     ((v .opened e REFERENCES ≡ holderCount (v .desc) e) × OpenFile (col (v .tree .file) KIND) (v .opened e SLOT) (v .opened e MODE) (v .opened e OFFSET) (v .opened e REFERENCES))
 unfolding openSound openFree openUsed
 means-opened v e = means-same w
@@ -114,7 +114,7 @@ means-opened v e = means-same w
         (means-every (means-and (means-eq (v .opened e SLOT) 0) (means-and (means-eq (v .opened e MODE) 0) (means-last (means-eq (v .opened e OFFSET) 0)))))
         (means-every (means-and (means-lt (v .opened e SLOT) SLOTS) (means-and (means-eq (v .tree .file (v .opened e SLOT) KIND) PLAIN) (means-and (means-le 1 (v .opened e MODE)) (means-and (means-le (v .opened e MODE) MODE-MAX) (means-last (means-le (v .opened e OFFSET) BLOCK)))))))))))
 
-means-process : (v : View) (p : ℕ) → Means (procSound v p) (Process (v .proc p USED) (v .proc p USER) (v .proc p DOMAIN) (v .desc p))
+pub means-process : (v : View) (p : ℕ) → Means (procSound v p) (Process (v .proc p USED) (v .proc p USER) (v .proc p DOMAIN) (v .desc p))
 unfolding procSound procFree procUsed descFree descSound
 means-process v p = means-same w (λ u. from u (ℕ-discrete (v .proc p USED) 0))
     (λ u. ((λ z. (u .user-zero z, (u .label-zero z, u .desc-zero z))), λ n. ((omega (arith, u .active-most, n)), (u .user-most, (u .label-most, u .desc-most)))))
