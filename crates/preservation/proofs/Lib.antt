@@ -26,5 +26,7 @@ pub mod Shown
 pub mod Counted
 pub mod Meaning
 pub mod SoundStore
+-- each effect keeps the store sound
+pub mod Words
 -- from a granted call's checks to what its effect owes
 pub mod Reach
