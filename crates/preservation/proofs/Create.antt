@@ -17,7 +17,7 @@ use Rattle.preservation.proofs.Dirents.{placed, Fits, naming-at, used-a
 use Rattle.preservation.proofs.Link.{loosen, tighten, linked, linked-sound, Leaf}
 use Rattle.preservation.proofs.Unlink.{unlinked, unlinked-sound}
 use Rattle.preservation.proofs.Remake.{remade, remade-sound, remade-depths, Bare, Fresh, openCount-at}
-use Rattle.rules.specs.Layout.{SLOTS, KIND, LENGTH, LINKS, VERSION, SLOT, REFERENCES, FREE, PLAIN, DIRECTORY, USER-MAX, WORD-MAX}
+use Rattle.rules.specs.Layout.{SLOTS, OPENS, KIND, LENGTH, LINKS, VERSION, SLOT, REFERENCES, FREE, PLAIN, DIRECTORY, USER-MAX, WORD-MAX}
 
 -- a record by its words
 abbrev pub fileRow : (kind owner bits label length links version : ℕ) → ℕ → ℕ
@@ -143,30 +143,29 @@ freed-sound m y t h a ht = tighten y (freed y t m)
     }))
     (rw (eq-eqb y y refl) (λ z. absurd (omega arith))) (rw (eq-eqb y y refl) (λ z. absurd (omega arith)))
 
--- ---- a plain file with no name and no open opened is freed
+-- ---- unlink: directory d loses entry p, which names y
 
-unfoldable pub released : (y t : ℕ) → Tables → Tables
-released y t m = cond (eqb (m .file y LINKS + openCount (col (m .opened) SLOT) (col (m .opened) REFERENCES) y) 0) (freed y t m) m
+module _ (m : Tables) (h : Sound m) (d p t y : ℕ) (hd : d < SLOTS) (kd : m .file d KIND ≡ DIRECTORY) (hp : p < 16) (e : direntRow (m .byte) d p 14 ≡ y) (n0 : y ≡ 0 → ⊥) (ht : t ≤ WORD-MAX) where
+  pub target-small : y < SLOTS
+  target-small = rw e at (h .dirs d hd kd .dirents p hp .slot-small)
 
-pub released-sound : (m : Tables) (y t : ℕ) → SoundBut y m → y < SLOTS → m .file y KIND ≡ PLAIN → t ≤ WORD-MAX → Sound (released y t m)
-unfolding released
-released-sound m y t h hy k ht = split (m .file y LINKS + openCount (col (m .opened) SLOT) (col (m .opened) REFERENCES) y) 0
-    (λ q e. rw e (freed-sound m y t h (record {
-      small = hy;
-      not-root = λ z. omega (arith, h .root-kind, rw z at k);
-      no-links = omega arith;
-      no-dirents = λ z. absurd (omega arith);
-      not-open = λ i hi o z. omega (arith, openCount-at (col (m .opened) SLOT) (col (m .opened) REFERENCES) i y hi z o);
-    }) ht))
-    (λ q e. rw e (tighten y m h (λ z. absurd (omega arith)) (λ _. omega arith)))
+  -- the file keeps a name, or is open
+  pub unlink-sound : m .file y KIND ≡ PLAIN → 0 < m .file y LINKS - 1 + openCount (col (m .opened) SLOT) (col (m .opened) REFERENCES) y → Sound (unlinked d p t y m)
+  unlink-sound k a = tighten y (unlinked d p t y m) (unlinked-sound m d p t y (loosen y m h) hd kd hp e n0 ht)
+      (unfold unlinked placed in (λ z. absurd (omega (arith, k, z)))) (unfold unlinked placed in rw (eq-eqb y y refl) (λ _. a))
 
--- ---- unlink, and remove directory
+  -- the file has no other name and is not open
+  pub unlink-frees : m .file y KIND ≡ PLAIN → m .file y LINKS - 1 ≡ 0 → ((i : ℕ) → i < OPENS → (m .opened i REFERENCES ≡ 0 → ⊥) → m .opened i SLOT ≡ y → ⊥) → (t′ : ℕ) → t′ ≤ WORD-MAX → Sound (freed y t′ (unlinked d p t y m))
+  unfolding unlinked placed
+  unlink-frees k l o t′ ht′ = freed-sound (unlinked d p t y m) y t′ (unlinked-sound m d p t y (loosen y m h) hd kd hp e n0 ht) (record {
+    small = target-small;
+    not-root = n0;
+    no-links = rw (eq-eqb y y refl) l;
+    not-open = o;
+    no-dirents = λ z. absurd (omega (arith, k, z));
+  }) ht′
 
-pub unlink-sound : (m : Tables) → Sound m → (d p t y t′ : ℕ) → d < SLOTS → m .file d KIND ≡ DIRECTORY → p < 16 → direntRow (m .byte) d p 14 ≡ y → (y ≡ 0 → ⊥) → t ≤ WORD-MAX →
-    m .file y KIND ≡ PLAIN → t′ ≤ WORD-MAX → Sound (released y t′ (unlinked d p t y m))
-unfolding unlinked placed
-unlink-sound m h d p t y t′ hd kd hp e n0 ht k ht′ =
-    released-sound (unlinked d p t y m) y t′ (unlinked-sound m d p t y (loosen y m h) hd kd hp e n0 ht) (rw e at (h .dirs d hd kd .dirents p hp .slot-small)) k ht′
+-- ---- remove directory
 
 pub remove-sound : (m : Tables) → Sound m → (d p t y t′ : ℕ) → d < SLOTS → m .file d KIND ≡ DIRECTORY → p < 16 → direntRow (m .byte) d p 14 ≡ y → (y ≡ 0 → ⊥) → t ≤ WORD-MAX →
     m .file y KIND ≡ DIRECTORY → m .file y LENGTH ≡ 0 → t′ ≤ WORD-MAX → Sound (freed y t′ (unlinked d p t y m))

@@ -7,6 +7,7 @@ pub mod Scans
 pub mod Tables
 pub mod Sound
 pub mod Change
+pub mod Words
 -- each change of the tables, and that it keeps them sound
 pub mod Small
 pub mod Dirents
@@ -27,6 +28,5 @@ pub mod Counted
 pub mod Meaning
 pub mod SoundStore
 -- each effect keeps the store sound
-pub mod Words
 -- from a granted call's checks to what its effect owes
 pub mod Reach

@@ -13,9 +13,10 @@ use Rattle.preservation.proofs.Tables.{Tables, col, direntRow}
 use Rattle.preservation.proofs.Sound.{All, Sound, SoundBut, OpenFile, Process, holderCount, openCount}
 use Rattle.preservation.proofs.Change.{ind-eq, ind-ne, holders-to, holders-at, openCount-change, open-used}
 use Rattle.preservation.proofs.Small.{Held, held}
-use Rattle.preservation.proofs.Link.{loosen}
-use Rattle.preservation.proofs.Create.{released, released-sound}
-use Rattle.rules.specs.Layout.{SLOTS, KIND, SLOT, REFERENCES, USED, PLAIN, WORD-MAX}
+use Rattle.preservation.proofs.Link.{loosen, tighten}
+use Rattle.preservation.proofs.Remake.{openCount-at}
+use Rattle.preservation.proofs.Create.{freed, freed-sound}
+use Rattle.rules.specs.Layout.{OPENS, SLOTS, KIND, LINKS, SLOT, REFERENCES, USED, PLAIN, WORD-MAX}
 
 -- an open opened by its words
 abbrev pub openRow : (slot mode offset refs : ℕ) → ℕ → ℕ
@@ -76,49 +77,72 @@ open-sound x m h p k e s mode hp hk he hs u d f ks m1 m4 =
     none true = refl
     none false = refl
 
--- ---- close: the opened goes with its last descriptor
+-- ---- close: descriptor k of process p, which holds e, is emptied
 
-unfoldable pub closed : (p k e : ℕ) → Tables → Tables
-closed p k e m = handed p k 0 e (cond (eqb (m .opened e REFERENCES) 1) (λ _. 0) (upd (m .opened e) 3 (m .opened e REFERENCES - 1))) m
+module _ (m : Tables) (h : Sound m) (p k e : ℕ) (hp : p < 8) (hk : k < 8) (u : m .proc p USED ≡ 0 → ⊥) (d : m .desc p k ≡ e + 1) where
+  o : Held m e
+  o = held SLOTS m h p k e hp hk d
 
-pub closed-sound : (m : Tables) → Sound m → (p k e : ℕ) → p < 8 → k < 8 → (m .proc p USED ≡ 0 → ⊥) → m .desc p k ≡ e + 1 → SoundBut (m .opened e SLOT) (closed p k e m)
-unfolding closed
-closed-sound m h p k e hp hk u d = split (m .opened e REFERENCES) 1 (λ q t. rw t (last q)) (λ q t. rw t (keep q))
-  where
-    o : Held m e
-    o = held SLOTS m h p k e hp hk d
+  abbrev on : ℕ
+  on = m .opened e SLOT
 
-    w : SoundBut (m .opened e SLOT) m
-    w = loosen (m .opened e SLOT) m h
+  w : SoundBut (m .opened e SLOT) m
+  w = loosen (m .opened e SLOT) m h
 
-    false-and : (b : Bool) → ind (b && ltb 0 0) ≡ 0
-    false-and true = refl
-    false-and false = refl
+  pub slot-small : m .opened e SLOT < SLOTS
+  slot-small = h .open-files e (o .small) .slot-small (o .open-refs)
 
-    counts : (r : ℕ → ℕ) → r 3 + 1 ≡ m .opened e REFERENCES → (i : ℕ) → i < 32 → upd (m .opened) e r i REFERENCES + ind (eqb (m .desc p k) (i + 1)) ≡ m .opened i REFERENCES + ind (eqb 0 (i + 1))
-    counts r z i hi = split i e
-        (λ q t. rw (t, q) (omega (arith, ind-eq (m .desc p k) (e + 1) d, ind-ne 0 (e + 1) (λ y. omega arith))))
-        (λ q t. rw t (omega (arith, ind-ne (m .desc p k) (i + 1) (λ y. q (omega arith)), ind-ne 0 (i + 1) (λ y. omega arith))))
+  pub slot-plain : m .file (m .opened e SLOT) KIND ≡ PLAIN
+  slot-plain = h .open-files e (o .small) .plain (o .open-refs)
 
-    last : m .opened e REFERENCES ≡ 1 → SoundBut (m .opened e SLOT) (handed p k 0 e (λ _. 0) m)
-    last q = handed-sound (m .opened e SLOT) m w p k 0 e (λ _. 0) hp hk u (omega arith)
-        (record { slot-zero = λ _. refl; mode-zero = λ _. refl; offset-zero = λ _. refl; slot-small = λ n. absurd (n refl); plain = λ n. absurd (n refl); mode-least = λ n. absurd (n refl); mode-most = λ n. absurd (n refl); offset-most = λ n. absurd (n refl) })
-        (counts (λ _. 0) (omega arith))
-        (λ s hs n. omega (arith, rw (ne-eqb (m .opened e SLOT) s (λ z. n (sym z))) at (openCount-row m e (λ _. 0) s (o .small)), false-and (eqb 0 s)))
+  false-and : (b : Bool) → ind (b && ltb 0 0) ≡ 0
+  false-and true = refl
+  false-and false = refl
 
-    keep : (m .opened e REFERENCES ≡ 1 → ⊥) → SoundBut (m .opened e SLOT) (handed p k 0 e (upd (m .opened e) 3 (m .opened e REFERENCES - 1)) m)
-    keep q =
-        let r = h .open-files e (o .small) in
-        let a : ltb 0 (m .opened e REFERENCES) ≡ true = lt-ltb 0 (m .opened e REFERENCES) (omega (arith, o .open-refs)) in
-        let b : ltb 0 (m .opened e REFERENCES - 1) ≡ true = lt-ltb 0 (m .opened e REFERENCES - 1) (omega (arith, o .open-refs)) in
-        handed-sound (m .opened e SLOT) m w p k 0 e (upd (m .opened e) 3 (m .opened e REFERENCES - 1)) hp hk u (omega arith)
-        (open-used (λ z. omega (arith, o .open-refs)) (r .slot-small (o .open-refs)) (r .plain (o .open-refs)) (r .mode-least (o .open-refs)) (r .mode-most (o .open-refs)) (r .offset-most (o .open-refs)))
-        (counts (upd (m .opened e) 3 (m .opened e REFERENCES - 1)) (omega (arith, o .open-refs)))
-        (λ s hs n. omega (arith, rw (a, b) at (openCount-row m e (upd (m .opened e) 3 (m .opened e REFERENCES - 1)) s (o .small))))
+  counts : (r : ℕ → ℕ) → r REFERENCES + 1 ≡ m .opened e REFERENCES → (i : ℕ) → i < 32 → upd (m .opened) e r i REFERENCES + ind (eqb (m .desc p k) (i + 1)) ≡ m .opened i REFERENCES + ind (eqb 0 (i + 1))
+  counts r z i hi = split i e
+      (λ q t. rw (t, q) (omega (arith, ind-eq (m .desc p k) (e + 1) d, ind-ne 0 (e + 1) (λ y. omega arith))))
+      (λ q t. rw t (omega (arith, ind-ne (m .desc p k) (i + 1) (λ y. q (omega arith)), ind-ne 0 (i + 1) (λ y. omega arith))))
 
-pub close-sound : (m : Tables) → Sound m → (p k e t : ℕ) → p < 8 → k < 8 → (m .proc p USED ≡ 0 → ⊥) → m .desc p k ≡ e + 1 → t ≤ WORD-MAX → Sound (released (m .opened e SLOT) t (closed p k e m))
-unfolding closed handed
-close-sound m h p k e t hp hk u d ht =
-    let o : Held m e = held SLOTS m h p k e hp hk d in
-    let r = h .open-files e (o .small) in
-    released-sound (closed p k e m) (m .opened e SLOT) t (closed-sound m h p k e hp hk u d) (r .slot-small (o .open-refs)) (r .plain (o .open-refs)) ht
+  -- other references remain
+  pub close-keeps : 1 < m .opened e REFERENCES → Sound (handed p k 0 e (upd (m .opened e) REFERENCES (m .opened e REFERENCES - 1)) m)
+  close-keeps l =
+      let r = h .open-files e (o .small) in
+      let a : ltb 0 (m .opened e REFERENCES) ≡ true = lt-ltb 0 (m .opened e REFERENCES) (omega (arith, o .open-refs)) in
+      let b : ltb 0 (m .opened e REFERENCES - 1) ≡ true = lt-ltb 0 (m .opened e REFERENCES - 1) (omega arith) in
+      handed-sound SLOTS m h p k 0 e (upd (m .opened e) REFERENCES (m .opened e REFERENCES - 1)) hp hk u (omega arith)
+      (open-used (λ z. omega arith) (r .slot-small (o .open-refs)) (r .plain (o .open-refs)) (r .mode-least (o .open-refs)) (r .mode-most (o .open-refs)) (r .offset-most (o .open-refs)))
+      (counts (upd (m .opened e) REFERENCES (m .opened e REFERENCES - 1)) (omega arith))
+      (λ s hs n. omega (arith, rw (a, b) at (openCount-row m e (upd (m .opened e) REFERENCES (m .opened e REFERENCES - 1)) s (o .small))))
+
+  -- the open file goes: sound, but for the file that it was on
+  last : m .opened e REFERENCES ≡ 1 → SoundBut (m .opened e SLOT) (handed p k 0 e (λ _. 0) m)
+  last q = handed-sound (m .opened e SLOT) m w p k 0 e (λ _. 0) hp hk u (omega arith)
+      (record { slot-zero = λ _. refl; mode-zero = λ _. refl; offset-zero = λ _. refl; slot-small = λ n. absurd (n refl); plain = λ n. absurd (n refl); mode-least = λ n. absurd (n refl); mode-most = λ n. absurd (n refl); offset-most = λ n. absurd (n refl) })
+      (counts (λ _. 0) (omega arith))
+      (λ s hs n. omega (arith, rw (ne-eqb (m .opened e SLOT) s (λ z. n (sym z))) at (openCount-row m e (λ _. 0) s (o .small)), false-and (eqb 0 s)))
+
+  -- the file has a name
+  pub close-named : m .opened e REFERENCES ≡ 1 → 0 < m .file (m .opened e SLOT) LINKS → Sound (handed p k 0 e (λ _. 0) m)
+  close-named q l = tighten (m .opened e SLOT) (handed p k 0 e (λ _. 0) m) (last q)
+      (unfold handed in (λ z. absurd (omega (arith, z, slot-plain)))) (unfold handed in (λ _. omega arith))
+
+  -- the file has another open file i
+  pub close-open : m .opened e REFERENCES ≡ 1 → (i : ℕ) → i < OPENS → (i ≡ e → ⊥) → (m .opened i REFERENCES ≡ 0 → ⊥) → m .opened i SLOT ≡ m .opened e SLOT → Sound (handed p k 0 e (λ _. 0) m)
+  close-open q i hi n r s = tighten (m .opened e SLOT) (handed p k 0 e (λ _. 0) m) (last q)
+      (unfold handed in (λ z. absurd (omega (arith, z, slot-plain)))) (unfold handed in (λ _. omega (arith, other)))
+    where
+      other : 0 < openCount (col (upd (m .opened) e (λ _. 0)) SLOT) (col (upd (m .opened) e (λ _. 0)) REFERENCES) (m .opened e SLOT)
+      other = openCount-at (col (upd (m .opened) e (λ _. 0)) SLOT) (col (upd (m .opened) e (λ _. 0)) REFERENCES) i (m .opened e SLOT) hi (rw (ne-eqb i e n) s) (rw (ne-eqb i e n) r)
+
+  -- the file has neither, and goes
+  pub close-frees : m .opened e REFERENCES ≡ 1 → m .file (m .opened e SLOT) LINKS ≡ 0 → ((i : ℕ) → i < OPENS → (i ≡ e → ⊥) → (m .opened i REFERENCES ≡ 0 → ⊥) → m .opened i SLOT ≡ m .opened e SLOT → ⊥) →
+      (t : ℕ) → t ≤ WORD-MAX → Sound (freed (m .opened e SLOT) t (handed p k 0 e (λ _. 0) m))
+  unfolding handed
+  close-frees q l none t ht = freed-sound (handed p k 0 e (λ _. 0) m) (m .opened e SLOT) t (last q) (record {
+    small = slot-small;
+    not-root = λ z. omega (arith, h .root-kind, rw z at slot-plain);
+    no-links = l;
+    not-open = λ i hi. split i e (λ g t. rw t (λ r. absurd (r refl))) (λ g t. rw t (none i hi g));
+    no-dirents = λ z. absurd (omega (arith, z, slot-plain));
+  }) ht

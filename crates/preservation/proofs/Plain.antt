@@ -9,8 +9,10 @@ use Rattle.preservation.proofs.Tests.{split, upd, upd2, updRow, upd-eli
 use Rattle.preservation.proofs.Tables.{Tables, col, direntRow, rowsOf, fileTo, bytesTo}
 use Rattle.preservation.proofs.Sound.{All, Sound, SoundBut, File, Block, naming}
 use Rattle.preservation.proofs.Change.{file-used}
-use Rattle.preservation.proofs.Remake.{naming-same}
-use Rattle.rules.specs.Layout.{SLOTS, KIND, LENGTH, VERSION, PLAIN, DIRECTORY, WORD-MAX}
+use Rattle.preservation.proofs.Remake.{naming-same, remade}
+use Rattle.preservation.proofs.Create.{fileRow}
+use Rattle.preservation.proofs.Words.{same-columns}
+use Rattle.rules.specs.Layout.{SLOTS, OWNER, BITS, LABEL, LINKS, KIND, LENGTH, VERSION, PLAIN, DIRECTORY, WORD-MAX}
 
 unfoldable pub wrote : (s : ℕ) → (ℕ → ℕ) → (z t : ℕ) → Tables → Tables
 wrote s g z t m = fileTo s VERSION t (fileTo s LENGTH z (bytesTo s g m))
@@ -48,18 +50,17 @@ wrote-sound x m h s g z t k hz g0 ht = record {
     same : (n i j : ℕ) → i < SLOTS → j < 16 → naming (col (m .file) KIND) (direntRow (upd (m .byte) s g)) n i j ≡ naming (col (m .file) KIND) (direntRow (m .byte)) n i j
     same n i j _ _ = split i s (λ q e. rw (ne-eqb (m .file i KIND) DIRECTORY (plain i q))) (λ q e. rw e)
 
--- other bytes before a plain file's length, and nothing else changed: both stores of the secrecy demand are sound or neither is
-pub bytes-sound : (x : ℕ) (m : Tables) → SoundBut x m → (s : ℕ) (g : ℕ → ℕ) → s < SLOTS → m .file s KIND ≡ PLAIN → All 512 (λ b. m .file s LENGTH ≤ b → g b ≡ 0) → SoundBut x (bytesTo s g m)
-bytes-sound x m h s g hs k g0 =
-    rw same at (wrote-sound x m h s g (m .file s LENGTH) (m .file s VERSION) k (h .blocks s hs .length-most (λ z. omega arith)) g0 (h .files s hs .version-most))
-  where
-    word : (c i j : ℕ) → upd2 (m .file) s c (m .file s c) i j ≡ m .file i j
-    word c i j = split j c (λ q t. split i s (λ p u. rw (t, u, p, q)) (λ p u. rw (t, u))) (λ q t. rw t)
+-- ---- cut: a record with length 0 and no bytes
 
-    words : (c : ℕ) → upd2 (m .file) s c (m .file s c) ≡ m .file
-    words c = fun-ext (λ i. fun-ext (λ j. word c i j))
-
-    same : wrote s g (m .file s LENGTH) (m .file s VERSION) m ≡ bytesTo s g m
-    same = unfold wrote in
-        ap (λ (f : ℕ → ℕ → ℕ). record { file = upd2 f s 6 (m .file s VERSION); byte = upd (m .byte) s g; opened = m .opened; proc = m .proc; desc = m .desc }) (words 4)
-        ∙ ap (λ (f : ℕ → ℕ → ℕ). record { file = f; byte = upd (m .byte) s g; opened = m .opened; proc = m .proc; desc = m .desc }) (words 6)
+pub cut-sound : (x : ℕ) (m : Tables) → SoundBut x m → (s t : ℕ) → m .file s KIND ≡ PLAIN → t ≤ WORD-MAX →
+    SoundBut x (remade s (fileRow PLAIN (m .file s OWNER) (m .file s BITS) (m .file s LABEL) 0 (m .file s LINKS) t) (λ _. 0) m)
+unfolding remade
+cut-sound x m h s t k ht = unfold wrote in same-columns x (wrote s (λ _. 0) 0 t m) (upd (m .file) s (fileRow PLAIN (m .file s OWNER) (m .file s BITS) (m .file s LABEL) 0 (m .file s LINKS) t)) (record {
+  kind = λ i. split i s (λ q e. rw (e, q) k) (λ q e. rw e);
+  owner = λ i. split i s (λ q e. rw (e, q)) (λ q e. rw e);
+  bits = λ i. split i s (λ q e. rw (e, q)) (λ q e. rw e);
+  label = λ i. split i s (λ q e. rw (e, q)) (λ q e. rw e);
+  length = λ i. split i s (λ q e. rw e) (λ q e. rw e);
+  links = λ i. split i s (λ q e. rw (e, q)) (λ q e. rw e);
+  version = λ i. split i s (λ q e. rw e) (λ q e. rw e);
+}) (wrote-sound x m h s (λ _. 0) 0 t k (omega arith) (λ b _ _. refl) ht)

@@ -15,10 +15,8 @@ use Rattle.preservation.proofs.Tables.{Tables, col, direntRow, procTo, 
 use Rattle.preservation.proofs.Sound.{All, Sound, SoundBut, OpenFile, Process, openCount}
 use Rattle.preservation.proofs.Change.{ind-eq, ind-ne, open-used, updRow-same, updRow-other, openCount-refs}
 use Rattle.preservation.proofs.Small.{Held, held}
-use Rattle.preservation.proofs.Create.{released, freed}
-use Rattle.preservation.proofs.Remake.{remade}
-use Rattle.preservation.proofs.Open.{handed, handed-sound, closed, close-sound, openCount-row}
-use Rattle.rules.specs.Layout.{SLOTS, LINKS, VERSION, SLOT, REFERENCES, USED, USER-MAX}
+use Rattle.preservation.proofs.Open.{handed, handed-sound, openCount-row}
+use Rattle.rules.specs.Layout.{SLOTS, REFERENCES, USED, USER-MAX}
 
 -- ---- the words of process p
 
@@ -87,95 +85,3 @@ shared-sound x m h p j q k e hp hj hq hk u d f =
     o : Held m e
     o = held x m h p j e hp hj d
 
--- ---- fork: the descriptors one by one
-
-unfoldable pub copyOne : (n p q : ℕ) → Tables → Tables
-copyOne n p q m = cond (eqb (m .desc p n) 0) m (shared q n (m .desc p n - 1) m)
-
-unfoldable pub copied : (n p q : ℕ) → Tables → Tables
-copied zero p q m = m
-copied (suc n) p q m = copyOne n p q (copied n p q m)
-
--- n descriptors of q are copied
-pub record Copying (n q : ℕ) (m : Tables) : Type 0 where
-  pub sound : Sound m
-  pub active : m .proc q USED ≡ 0 → ⊥
-  pub rest : All 8 (λ j. n ≤ j → m .desc q j ≡ 0)
-
-pub copy-step : (n p q : ℕ) (m : Tables) → n < 8 → p < 8 → q < 8 → Copying n q m → Copying (suc n) q (copyOne n p q m)
-unfolding copyOne shared handed
-copy-step n p q m hn hp hq c = split (m .desc p n) 0
-    (λ z t. rw t (record { sound = c .sound; active = c .active; rest = λ j hj l. c .rest j hj (omega arith) }))
-    (λ z t. rw t (record {
-      sound = shared-sound SLOTS m (c .sound) p n q n (m .desc p n - 1) hp hn hq hn (c .active) (omega arith) (c .rest n hn (omega arith));
-      active = c .active;
-      rest = λ j hj l. updRow-other (m .desc) q n (m .desc p n - 1 + 1) q j (λ _ y. omega arith) ∙ c .rest j hj (omega arith);
-    }))
-
-pub copy-all : (n p q : ℕ) (m : Tables) → n ≤ 8 → p < 8 → q < 8 → Copying 0 q m → Copying n q (copied n p q m)
-unfolding copied
-copy-all zero p q m hn hp hq c = c
-copy-all (suc n) p q m hn hp hq c = copy-step n p q (copied n p q m) hn hp hq (copy-all n p q m (omega arith) hp hq c)
-
-pub fork-sound : (m : Tables) → Sound m → (p q u l : ℕ) → p < 8 → q < 8 → m .proc q USED ≡ 0 → u ≤ USER-MAX → l ≤ 15 → Sound (copied 8 p q (procRowTo q (procRow 1 u l) m))
-fork-sound m h p q u l hp hq f hu hl = copy-all 8 p q (procRowTo q (procRow 1 u l) m) (omega arith) hp hq (record {
-  sound = spawn-sound SLOTS m h q u l hq hu hl;
-  active = rw (eq-eqb q q refl) (λ z. omega arith);
-  rest = λ j hj _. h .procs q hq .desc-zero f j hj;
-}) .sound
-
--- ---- exit
-
-released-desc : (y t : ℕ) (m : Tables) → (released y t m) .desc ≡ m .desc
-unfolding released freed remade
-released-desc y t m = split (m .file y LINKS + openCount (col (m .opened) SLOT) (col (m .opened) REFERENCES) y) 0 (λ _ e. rw e) (λ _ e. rw e)
-
-released-proc : (y t : ℕ) (m : Tables) → (released y t m) .proc ≡ m .proc
-unfolding released freed remade
-released-proc y t m = split (m .file y LINKS + openCount (col (m .opened) SLOT) (col (m .opened) REFERENCES) y) 0 (λ _ e. rw e) (λ _ e. rw e)
-
--- the version after one more change
-abbrev pub after : ℕ → ℕ
-after t = (t + 1) % 4294967296
-
-unfoldable pub closeOne : (n q : ℕ) → Tables → Tables
-closeOne n q m = cond (eqb (m .desc q n) 0) m (released (m .opened (m .desc q n - 1) SLOT) (after (m .file (m .opened (m .desc q n - 1) SLOT) VERSION)) (closed q n (m .desc q n - 1) m))
-
-unfoldable pub closeAll : (n q : ℕ) → Tables → Tables
-closeAll zero q m = m
-closeAll (suc n) q m = closeOne n q (closeAll n q m)
-
-pub record Closing (n q : ℕ) (m : Tables) : Type 0 where
-  pub sound : Sound m
-  pub active : m .proc q USED ≡ 0 → ⊥
-  pub gone : (j : ℕ) → j < n → m .desc q j ≡ 0
-
-pub close-step : (n q : ℕ) (m : Tables) → n < 8 → q < 8 → Closing n q m → Closing (suc n) q (closeOne n q m)
-unfolding closeOne
-close-step n q m hn hq c = split (m .desc q n) 0
-    (λ z t. rw t (record { sound = c .sound; active = c .active; gone = λ j l. elim (ℕ-discrete j n) [ yes e ↦ rw e z | no e ↦ c .gone j (omega arith) ] }))
-    (λ z t. rw t (next z))
-  where
-    e : ℕ
-    e = m .desc q n - 1
-
-    y : ℕ
-    y = m .opened e SLOT
-
-    next : (m .desc q n ≡ 0 → ⊥) → Closing (suc n) q (released y (after (m .file y VERSION)) (closed q n e m))
-    next z = record {
-      sound = close-sound m (c .sound) q n e (after (m .file y VERSION)) hq hn (c .active) (omega arith) (omega arith);
-      active = rw (released-proc y (after (m .file y VERSION)) (closed q n e m)) (unfold closed handed in c .active);
-      gone = λ j l. rw (released-desc y (after (m .file y VERSION)) (closed q n e m)) (unfold closed handed in
-          (elim (ℕ-discrete j n) [ yes g ↦ rw g (updRow-same (m .desc) q n 0) | no g ↦ updRow-other (m .desc) q n 0 q j (λ _ w. g w) ∙ c .gone j (omega arith) ]));
-    }
-
-pub close-all : (n q : ℕ) (m : Tables) → n ≤ 8 → q < 8 → Closing 0 q m → Closing n q (closeAll n q m)
-unfolding closeAll
-close-all zero q m hn hq c = c
-close-all (suc n) q m hn hq c = close-step n q (closeAll n q m) hn hq (close-all n q m (omega arith) hq c)
-
-pub exit-sound : (m : Tables) → Sound m → (q : ℕ) → q < 8 → (m .proc q USED ≡ 0 → ⊥) → Sound (procRowTo q (λ _. 0) (closeAll 8 q m))
-exit-sound m h q hq u =
-    let c : Closing 8 q (closeAll 8 q m) = close-all 8 q m (omega arith) hq (record { sound = h; active = u; gone = λ j l. absurd (not-suc-le-zero l) }) in
-    retire-sound SLOTS (closeAll 8 q m) (c .sound) q (c .gone)
