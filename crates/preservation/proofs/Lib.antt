@@ -28,5 +28,6 @@ pub mod Counted
 pub mod Meaning
 pub mod SoundStore
 -- each effect keeps the store sound
+pub mod OpenEffects
 -- from a granted call's checks to what its effect owes
 pub mod Reach
