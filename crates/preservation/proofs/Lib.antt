@@ -29,5 +29,6 @@ pub mod Meaning
 pub mod SoundStore
 -- each effect keeps the store sound
 pub mod OpenEffects
+pub mod NameEffects
 -- from a granted call's checks to what its effect owes
 pub mod Reach
