@@ -30,5 +30,7 @@ pub mod SoundStore
 -- each effect keeps the store sound
 pub mod OpenEffects
 pub mod NameEffects
+pub mod CloseEffects
+pub mod ForkEffects
 -- from a granted call's checks to what its effect owes
 pub mod Reach
