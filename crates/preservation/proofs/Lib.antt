@@ -33,4 +33,5 @@ pub mod NameEffects
 pub mod CloseEffects
 pub mod ForkEffects
 -- from a granted call's checks to what its effect owes
+pub mod PathNames
 pub mod Reach

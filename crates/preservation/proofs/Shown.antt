@@ -9,7 +9,7 @@ use lib.Dec.{eqb, ltb, leb}
 use lib.ListN.{length, getD, take, drop, length-drop, List·getD-eq-default}
 use lib.Seq.{length-take-le, getD-take, getD-drop}
 use borrow.Author.Tests.{eqb-true, eq-eqb, ne-eqb}
-use Rattle.rules.specs.Layout.{SLOTS, BLOCK, DIRENT, DIRENTS, NAME, FILE, KIND, LENGTH, FREE, PLAIN, DIRECTORY}
+use Rattle.rules.specs.Layout.{SLOTS, BLOCK, DIRENT, DIRENTS, NAME, POINT, FILE, KIND, LENGTH, FREE, PLAIN, DIRECTORY}
 use Rattle.rules.specs.Choice.{every, some, implies}
 use Rattle.rules.specs.Scan.{all}
 use Rattle.rules.specs.Store.{Tree, tab, block, hidden, shownOf}
@@ -17,7 +17,7 @@ use Rattle.rules.specs.Paths.{sameName, sameAt, isDots}
 use Rattle.rules.specs.Directories.{direntAt, direntSlot, isEmpty, isPadding}
 use Rattle.rules.specs.Sound.{allZero, nameByteSound, nameSound, usedSound, direntSound}
 use Rattle.rules.proofs.Scans.{all-at, all-of}
-use Rattle.preservation.proofs.Tests.{Means, means-every, means-and, means-last, means-cond, means-eq, means-lt, means-not, means-test, means-within, means-same}
+use Rattle.preservation.proofs.Tests.{split, Means, means-every, means-and, means-last, means-cond, means-eq, means-lt, means-not, means-test, means-within, means-same}
 use Rattle.preservation.proofs.Tables.{col, rowsOf, direntRow}
 use Rattle.preservation.proofs.Table.{tab-in, tab-out}
 use Rattle.preservation.proofs.Sound.{All, Dirent, validRow, validByte, sameRow}
@@ -80,17 +80,21 @@ all-same p q n e = same-tests
     (λ t. all-of q 0 n (λ j _ h. sym (e j h) ∙ all-at p 0 n t j (omega arith) h))
     (λ t. all-of p 0 n (λ j _ h. e j h ∙ all-at q 0 n t j (omega arith) h))
 
-pub sameRow-to : (r r′ t t′ : ℕ → ℕ) → ((k : ℕ) → k < DIRENT → r k ≡ r′ k) → ((k : ℕ) → k < DIRENT → t k ≡ t′ k) → sameRow r t ≡ sameRow r′ t′
+pub sameRow-to : (r r′ t t′ : ℕ → ℕ) → ((k : ℕ) → k < NAME → r k ≡ r′ k) → ((k : ℕ) → k < NAME → t k ≡ t′ k) → sameRow r t ≡ sameRow r′ t′
 unfolding sameRow
-sameRow-to r r′ t t′ e f = all-same (λ k. eqb (r k) (t k)) (λ k. eqb (r′ k) (t′ k)) NAME (λ k h. rw (e k (omega arith), f k (omega arith)))
+sameRow-to r r′ t t′ e f = all-same (λ k. eqb (r k) (t k)) (λ k. eqb (r′ k) (t′ k)) NAME (λ k h. rw (e k h, f k h))
 
-pub validRow-to : (r r′ : ℕ → ℕ) → ((k : ℕ) → k < DIRENT → r k ≡ r′ k) → validRow r ≡ validRow r′
+validByte-to : (r r′ : ℕ → ℕ) → ((k : ℕ) → k < NAME → r k ≡ r′ k) → (k : ℕ) → k < NAME → validByte r k ≡ validByte r′ k
+unfolding validByte some
+validByte-to r r′ e k h = split (k + 1) NAME (λ q t. rw (e k h, t)) (λ q t. rw (e k h, t, e (k + 1) (omega arith)))
+
+pub validRow-to : (r r′ : ℕ → ℕ) → ((k : ℕ) → k < NAME → r k ≡ r′ k) → validRow r ≡ validRow r′
 unfolding validRow
 validRow-to r r′ e = rw (
   e 0 (omega arith),
-  all-same (validByte r) (validByte r′) NAME (λ k h. unfold validByte in rw (e k (omega arith), e (k + 1) (omega arith))),
-  sameRow-to r r′ _ _ e (λ k _. refl),
-  sameRow-to r r′ (λ k. getD (46 ∷ 46 ∷ []) k 0) _ e (λ k _. refl)
+  all-same (validByte r) (validByte r′) NAME (validByte-to r r′ e),
+  sameRow-to r r′ (λ k. getD (POINT ∷ []) k 0) (λ k. getD (POINT ∷ []) k 0) e (λ k _. refl),
+  sameRow-to r r′ (λ k. getD (POINT ∷ POINT ∷ []) k 0) (λ k. getD (POINT ∷ POINT ∷ []) k 0) e (λ k _. refl)
 )
 
 pub name-row : (n : List ℕ) → nameSound n ≡ validRow (λ k. getD n k 0)
@@ -106,7 +110,7 @@ module _ (D : List ℕ) (rows : ℕ → ℕ → ℕ) (agree : (i k : ℕ) → k 
 
   pub same-row : (i j : ℕ) → sameName (direntAt D i) (direntAt D j) ≡ sameRow (rows i) (rows j)
   unfolding sameName sameAt
-  same-row i j = unfold-row ∙ sameRow-to (λ k. getD (direntAt D i) k 0) (rows i) (λ k. getD (direntAt D j) k 0) (rows j) (agree i) (agree j)
+  same-row i j = unfold-row ∙ sameRow-to (λ k. getD (direntAt D i) k 0) (rows i) (λ k. getD (direntAt D j) k 0) (rows j) (λ k l. agree i k (omega arith)) (λ k l. agree j k (omega arith))
     where
       unfold-row : sameName (direntAt D i) (direntAt D j) ≡ sameRow (λ k. getD (direntAt D i) k 0) (λ k. getD (direntAt D j) k 0)
       unfold-row = unfold sameName sameAt sameRow in refl
@@ -131,7 +135,7 @@ module _ (D : List ℕ) (rows : ℕ → ℕ → ℕ) (agree : (i k : ℕ) → k 
       slot = rows i NAME
 
       valid-row : nameSound (direntAt D i) ≡ validRow (rows i)
-      valid-row = name-row (direntAt D i) ∙ validRow-to (λ k. getD (direntAt D i) k 0) (rows i) (agree i)
+      valid-row = name-row (direntAt D i) ∙ validRow-to (λ k. getD (direntAt D i) k 0) (rows i) (λ k l. agree i k (omega arith))
 
       padding : (k : ℕ) → k < NAME → Means (isPadding (direntAt D i) k) (rows i k ≡ 0)
       padding k h = unfold isPadding in rw (agree i k (omega arith)) (means-eq (rows i k) 0)
