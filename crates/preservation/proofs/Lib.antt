@@ -34,4 +34,5 @@ pub mod CloseEffects
 pub mod ForkEffects
 -- from a granted call's checks to what its effect owes
 pub mod PathNames
+pub mod NewName
 pub mod Reach

@@ -39,7 +39,7 @@ module _ (s : Store) (z : Sized s) where
   abbrev onSlot : ℕ → ℕ
   onSlot = openCount (col (tab OPEN (s .opens)) SLOT) (col (tab OPEN (s .opens)) REFERENCES)
 
-  agree : (d : ℕ) → d < SLOTS → file d KIND ≡ DIRECTORY → (i k : ℕ) → k < DIRENT → getD (direntAt (shownOf (s .files) (s .contents) d) i) k 0 ≡ rows d i k
+  pub agree : (d : ℕ) → d < SLOTS → file d KIND ≡ DIRECTORY → (i k : ℕ) → k < DIRENT → getD (direntAt (shownOf (s .files) (s .contents) d) i) k 0 ≡ rows d i k
   agree d h e i k l =
       rw (shown-whole (s .files) (s .contents) d (λ q. omega (arith, e)), lt-ltb k DIRENT l)
       (getD-drop (DIRENT * i) (block (s .contents) d) k 0 ∙ block-byte (s .contents) (z .contents-size) d h (DIRENT * i + k))
