@@ -36,3 +36,4 @@ pub mod ForkEffects
 pub mod PathNames
 pub mod NewName
 pub mod Reach
+pub mod Walked

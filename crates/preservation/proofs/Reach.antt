@@ -4,9 +4,9 @@ use Prim.Native.Nat.{ℕ, zero, suc, _+_, _≤_, _<_}
 use native.Mathlib.Omega.{arith}
 use Rattle.preservation.proofs.Tables.{Tables, col, direntRow}
 use Rattle.preservation.proofs.Sound.{Sound}
-use Rattle.rules.specs.Layout.{SLOTS, KIND, DIRECTORY}
+use Rattle.rules.specs.Layout.{SLOTS, KIND, FREE, DIRECTORY}
 
--- slot d is reached from the root by k links
+-- slot d is reached from the root by k names
 pub data Reach (m : Tables) : ℕ → ℕ → Type 0 where
   root : Reach m 0 0
   down : {k u : ℕ} (p : ℕ) → Reach m k u → m .file u KIND ≡ DIRECTORY → p < 16 → (direntRow (m .byte) u p 14 ≡ 0 → ⊥) → Reach m (suc k) (direntRow (m .byte) u p 14)
@@ -15,7 +15,12 @@ pub reach-small : (m : Tables) → Sound m → {k d : ℕ} → Reach m k d → d
 reach-small m h root = omega arith
 reach-small m h (down {u = u} p r ku hp n) = h .dirs u (reach-small m h r) ku .dirents p hp .slot-small
 
--- a directory's depth is the number of links that lead to it
+-- a directory's depth is the number of names that lead to it
 pub reach-depth : (m : Tables) (h : Sound m) {k d : ℕ} → Reach m k d → m .file d KIND ≡ DIRECTORY → h .depths .depth d ≡ k
 reach-depth m h root _ = h .depths .depth-root
 reach-depth m h (down {u = u} p r ku hp n) kd = h .depths .depth-step u (reach-small m h r) ku p hp n kd ∙ ap suc (reach-depth m h r ku)
+
+-- what is reached is in use
+pub reach-used : (m : Tables) (h : Sound m) {k d : ℕ} → Reach m k d → m .file d KIND ≡ FREE → ⊥
+reach-used m h root z = omega (arith, h .root-kind, z)
+reach-used m h (down {u = u} p r ku hp n) z = h .dirs u (reach-small m h r) ku .dirents p hp .slot-used n z
