@@ -37,3 +37,4 @@ pub mod PathNames
 pub mod NewName
 pub mod Reach
 pub mod Walked
+pub mod Granted
