@@ -38,3 +38,4 @@ pub mod NewName
 pub mod Reach
 pub mod Walked
 pub mod Granted
+pub mod Decided
