@@ -39,3 +39,5 @@ pub mod Reach
 pub mod Walked
 pub mod Granted
 pub mod Decided
+-- the theorems
+pub mod Kept
