@@ -47,7 +47,7 @@ use Rattle.preservation.proofs.PathNames.{GoodName, GoodPath, path-good
 use Rattle.preservation.proofs.NewName.{new-name}
 use Rattle.preservation.proofs.Reach.{reach-depth, reach-used}
 use Rattle.preservation.proofs.Walked.{Found, found-small, Parent, path-fit, parent-fit}
-use Rattle.preservation.proofs.Granted.{Fit, granting, refusing, need-fit, after-fit, Granting, nothing, opens, truncates, creates, unlinks, removes, links, changesBits, closes, stores, seeks, duplicates, forks, exits, executes}
+use Rattle.preservation.proofs.Granted.{Fit, granting, refusing, need-fit, fit-map, after-fit, Unlinking, unlinking, Granting, nothing, opens, truncates, creates, unlinks, removes, links, changesBits, closes, stores, seeks, duplicates, forks, exits, executes}
 use Rattle.preservation.proofs.Granted.{used-small, plain-small, in-use, holds, slot-free, ofd-free, fd-free, pid-free, dirent-free, moved-small}
 use Rattle.preservation.proofs.Granted as granted
 
@@ -82,11 +82,11 @@ module _ (Q : List ℕ) (s : Store) (h : SoundStore s) (c : Call) (safe : policy
 
   -- ---- 1. Open
 
-  opening-fit : (y : Slot) (m : OpenMode) (b : Bool) (i e : ℕ) → Opens (tablesOf s) (c .process) (newOpen y m i e) → Granting s h c i (opening (view s .tree) y m b i e)
+  opening-fit : (y : Slot) (m : OpenMode) (b : Bool) (i e : ℕ) → Opens (tablesOf s) (c .process) (newOpen y m i e) → Granting s h c i output.Nothing (opening (view s .tree) y m b i e)
   unfolding opening
   opening-fit y m b i e o = by (every (b ∷ ltb 0 (view s .tree .file (y .0) LENGTH) ∷ []))
     where
-      by : (t : Bool) → Granting s h c i (cond t (effect.Truncated (newOpen y m i e) (truncated (view s .tree) y)) (effect.Opened (newOpen y m i e)))
+      by : (t : Bool) → Granting s h c i output.Nothing (cond t (effect.Truncated (newOpen y m i e) (truncated (view s .tree) y)) (effect.Opened (newOpen y m i e)))
       by true = truncates (newOpen y m i e) o
       by false = opens (newOpen y m i e) o
 
@@ -149,10 +149,10 @@ module _ (Q : List ℕ) (s : Store) (h : SoundStore s) (c : Call) (safe : policy
 
   -- ---- 4. Unlink, 5. Remove directory
 
-  unlink-fit : (p : List ℕ) → GoodPath p → 0 < length (names p) → Fit (Granting s h c) (decideUnlink Q (view s) (c .process) p)
+  unlink-fit : (p : List ℕ) → GoodPath p → 0 < length (names p) → Fit (Unlinking s h c) (decideUnlink Q (view s) (c .process) p)
   unfolding decideUnlink unlinkAt
   unlink-fit p g some-names = after-fit _ (path-fit s h Q (subjectOf (view s) (c .process)) p g) (λ at f. need-fit (isPlain (view s .tree) (at .slot)) _ _ (λ k.
-      allowed-fit (at .dir) WRITE _ (granting _ _ _ (unlinks (at .dir) (at .dirent) (at .slot) (f .named (λ z. omega arith)) (is-plain (at .slot) k)))))
+      need-fit _ _ _ (λ _. need-fit _ _ _ (λ _. granting _ _ _ (unlinking (at .dir) (at .dirent) (at .slot) (f .named (λ z. omega arith)) (is-plain (at .slot) k))))))
 
   remove-fit : (p : List ℕ) → GoodPath p → 0 < length (names p) → Fit (Granting s h c) (decideRemove Q (view s) (c .process) p)
   unfolding decideRemove removeAt
@@ -181,8 +181,8 @@ module _ (Q : List ℕ) (s : Store) (h : SoundStore s) (c : Call) (safe : policy
     where
       by : (d : Slot) (i : ℕ) (b : Bool) → Fit (Granting s h c) (cond b (Granted 1 (output.Name d i) effect.Nothing)
           (checks.granted 0 effect.Nothing))
-      by d i true = granting _ _ _ (nothing 1)
-      by d i false = granting _ _ _ (nothing 0)
+      by d i true = granting _ _ _ (nothing 1 _)
+      by d i false = granting _ _ _ (nothing 0 _)
 
   bits-fit : (b : ℕ) (p : List ℕ) → b ≤ BITS-MAX → GoodPath p → Fit (Granting s h c) (decideChangeBits Q (view s) (c .process) b p)
   unfolding decideChangeBits changeBitsAt
@@ -192,7 +192,7 @@ module _ (Q : List ℕ) (s : Store) (h : SoundStore s) (c : Call) (safe : policy
 
   stat-fit : (p : List ℕ) → GoodPath p → Fit (Granting s h c) (decideStat Q (view s) (c .process) p)
   unfolding decideStat
-  stat-fit p g = after-fit _ (path-fit s h Q (subjectOf (view s) (c .process)) p g) (λ at _. granting _ _ _ (nothing 0))
+  stat-fit p g = after-fit _ (path-fit s h Q (subjectOf (view s) (c .process)) p g) (λ at _. granting _ _ _ (nothing 0 _))
 
   -- ---- 10. Close to 16. Exit
 
@@ -219,7 +219,7 @@ module _ (Q : List ℕ) (s : Store) (h : SoundStore s) (c : Call) (safe : policy
   write-fit i = need-fit (held (view s) (c .process) i) _ _ (λ t. need-fit (writes (view s .opened (ofdHeld (view s) (c .process) i) MODE)) _ _ (λ _. by (ofdHeld (view s) (c .process) i) (open-at i t) (eqb (length (c .bytes)) 0)))
     where
       by : (e : ℕ) → Held (tablesOf s) e → (b : Bool) → Fit (Granting s h c) (cond b (checks.granted 0 effect.Nothing) (writeFile (view s) e (writeAt (view s) e) (length (c .bytes))))
-      by e o true = granting _ _ _ (nothing 0)
+      by e o true = granting _ _ _ (nothing 0 _)
       by e o false = unfold writeFile in need-fit (leb (writeAt (view s) e + length (c .bytes)) BLOCK) _ _ (λ l.
           granting _ _ _ (stores e (writeAt (view s) e) o (leb-true (writeAt (view s) e + length (c .bytes)) BLOCK l)))
 
@@ -263,7 +263,7 @@ module _ (Q : List ℕ) (s : Store) (h : SoundStore s) (c : Call) (safe : policy
   own-fit op.Open f = open-fit (c .number) (c .path) (path-good (c .path) (means-every (means-and (means-test _) (means-last (means-test (pathOk (c .path))))) .holds f .1))
   own-fit op.Create f = let w = new-file f in create-fit PLAIN (c .number) (omega arith) (omega arith) (w .0) (w .1 .0) (w .1 .1)
   own-fit op.MakeDirectory f = let w = new-file f in create-fit DIRECTORY (c .number) (omega arith) (omega arith) (w .0) (w .1 .0) (w .1 .1)
-  own-fit op.Unlink f = let w = below-root (c .path) f in unlink-fit (c .path) (w .0) (w .1)
+  own-fit op.Unlink f = let w = below-root (c .path) f in fit-map (λ _ _ _ g. unlinks g) (unlink-fit (c .path) (w .0) (w .1))
   own-fit op.RemoveDirectory f = let w = below-root (c .path) f in remove-fit (c .path) (w .0) (w .1)
   own-fit op.Link f =
       let w = means-every (means-and (means-test (pathOk (c .path))) (means-last (means-test (pathBelowRoot (c .bytes))))) .holds f in

@@ -31,6 +31,7 @@ use Rattle.rules.specs.declared.decision.Location.{Location}
 use Rattle.rules.specs.declared.decision.Walk.{Walk}
 use Rattle.rules.specs.declared.decision.NewOpen.{NewOpen}
 use Rattle.rules.specs.declared.decision.Output.{Output}
+use Rattle.rules.specs.declared.decision.Output.the-variants as output
 use Rattle.rules.specs.declared.decision.Effect.{Effect}
 use Rattle.rules.specs.declared.decision.Effect.the-variants as effect
 use Rattle.rules.specs.declared.decision.Decision.{Decision}
@@ -46,18 +47,22 @@ use Rattle.preservation.proofs.OpenEffects.{Caller, Opens, Holds}
 use Rattle.preservation.proofs.NameEffects.{Naming, Creates, Names}
 use Rattle.preservation.proofs.Walked.{WalkFit, reached, stopped}
 
--- ---- G holds of the value and the effect of a granted decision
+-- ---- G holds of the value, the output and the effect of a granted decision
 
-pub data Fit (G : ℕ → Effect → Type 0) : Decision → Type 0 where
-  granting : (n : ℕ) (o : Output) (e : Effect) → G n e → Fit G (Granted n o e)
+pub data Fit (G : ℕ → Output → Effect → Type 0) : Decision → Type 0 where
+  granting : (n : ℕ) (o : Output) (e : Effect) → G n o e → Fit G (Granted n o e)
   refusing : (r : Refusal) (k : ℕ) → Fit G (Refused r k)
 
-pub need-fit : {G : ℕ → Effect → Type 0} (b : Bool) (r : Refusal) (d : Decision) → (b ≡ true → Fit G d) → Fit G (need b r d)
+pub need-fit : {G : ℕ → Output → Effect → Type 0} (b : Bool) (r : Refusal) (d : Decision) → (b ≡ true → Fit G d) → Fit G (need b r d)
 unfolding need
 need-fit true r d f = f refl
 need-fit false r d f = refusing r 0
 
-pub after-fit : {G : ℕ → Effect → Type 0} {P : Location → Type 0} {w : Walk} (f : Location → Decision) → WalkFit P w → ((at : Location) → P at → Fit G (f at)) → Fit G (after w f)
+pub fit-map : {G H : ℕ → Output → Effect → Type 0} {d : Decision} → ((n : ℕ) (o : Output) (e : Effect) → G n o e → H n o e) → Fit G d → Fit H d
+fit-map f (granting n o e g) = granting n o e (f n o e g)
+fit-map f (refusing r k) = refusing r k
+
+pub after-fit : {G : ℕ → Output → Effect → Type 0} {P : Location → Type 0} {w : Walk} (f : Location → Decision) → WalkFit P w → ((at : Location) → P at → Fit G (f at)) → Fit G (after w f)
 unfolding after
 after-fit f (reached at p) g = g at p
 after-fit f (stopped r k) g = refusing r k
@@ -65,29 +70,34 @@ after-fit f (stopped r k) g = refusing r k
 -- ---- the facts
 
 module _ (s : Store) (h : SoundStore s) (c : Call) where
-  pub data Granting : ℕ → Effect → Type 0 where
-    nothing : (n : ℕ) → Granting n effect.Nothing
-    opens : (n : NewOpen) → Opens (tablesOf s) (c .process) n → Granting (n .fd .0) (effect.Opened n)
-    truncates : (n : NewOpen) → Opens (tablesOf s) (c .process) n → Granting (n .fd .0) (effect.Truncated n (truncated (view s .tree) (n .slot)))
+  -- call 4
+  pub data Unlinking : ℕ → Output → Effect → Type 0 where
+    unlinking : (d : Slot) (i : ℕ) (y : Slot) → Names s h d i y → tablesOf s .file (y .0) KIND ≡ PLAIN → Unlinking 0 output.Nothing (effect.Unlinked (loses (view s .tree) d i) (unnaming (view s) y))
+
+  -- every call
+  pub data Granting : ℕ → Output → Effect → Type 0 where
+    nothing : (n : ℕ) (o : Output) → Granting n o effect.Nothing
+    opens : (n : NewOpen) → Opens (tablesOf s) (c .process) n → Granting (n .fd .0) output.Nothing (effect.Opened n)
+    truncates : (n : NewOpen) → Opens (tablesOf s) (c .process) n → Granting (n .fd .0) output.Nothing (effect.Truncated n (truncated (view s .tree) (n .slot)))
     creates : (d : Slot) (i y kind bits : ℕ) → Creates s h (lastName (names (c .path))) d i (slot y) kind (subjectOf (view s) (c .process) .user) bits (tablesOf s .file (d .0) LABEL) →
-        Granting y (effect.Created (gains (view s .tree) d i) (slot y) (newRecord (view s .tree) (subjectOf (view s) (c .process)) kind bits d (slot y)))
-    unlinks : (d : Slot) (i : ℕ) (y : Slot) → Names s h d i y → tablesOf s .file (y .0) KIND ≡ PLAIN → Granting 0 (effect.Unlinked (loses (view s .tree) d i) (unnaming (view s) y))
+        Granting y output.Nothing (effect.Created (gains (view s .tree) d i) (slot y) (newRecord (view s .tree) (subjectOf (view s) (c .process)) kind bits d (slot y)))
+    unlinks : {n : ℕ} {o : Output} {e : Effect} → Unlinking n o e → Granting n o e
     removes : (d : Slot) (i : ℕ) (y : Slot) → Names s h d i y → tablesOf s .file (y .0) KIND ≡ DIRECTORY → tablesOf s .file (y .0) LENGTH ≡ 0 →
-        Granting 0 (effect.Removed (loses (view s .tree) d i) y (checks.freed (view s .tree) y))
+        Granting 0 output.Nothing (effect.Removed (loses (view s .tree) d i) y (checks.freed (view s .tree) y))
     links : (d : Slot) (i : ℕ) (y : Slot) → Naming (tablesOf s) (lastName (names (c .bytes))) d i y → y .0 < SLOTS → tablesOf s .file (y .0) KIND ≡ PLAIN →
-        Granting 0 (effect.Linked (gains (view s .tree) d i) y (up (view s .tree .file (y .0) LINKS)))
-    changesBits : (y : Slot) (b : Bits) → y .0 < SLOTS → (tablesOf s .file (y .0) KIND ≡ FREE → ⊥) → b .0 ≤ BITS-MAX → owns (subjectOf (view s) (c .process)) (view s .tree .file (y .0) OWNER) ≡ true → Granting 0 (effect.BitsChanged y b)
-    closes : (i : Fd) → Caller (tablesOf s) (c .process) → i .0 < DESCRIPTORS → Granting 0 (effect.Closed i (releasing (view s) (c .process) i))
+        Granting 0 output.Nothing (effect.Linked (gains (view s .tree) d i) y (up (view s .tree .file (y .0) LINKS)))
+    changesBits : (y : Slot) (b : Bits) → y .0 < SLOTS → (tablesOf s .file (y .0) KIND ≡ FREE → ⊥) → b .0 ≤ BITS-MAX → owns (subjectOf (view s) (c .process)) (view s .tree .file (y .0) OWNER) ≡ true → Granting 0 output.Nothing (effect.BitsChanged y b)
+    closes : (i : Fd) → Caller (tablesOf s) (c .process) → i .0 < DESCRIPTORS → Granting 0 output.Nothing (effect.Closed i (releasing (view s) (c .process) i))
     stores : (e at : ℕ) → Held (tablesOf s) e → at + length (c .bytes) ≤ BLOCK →
-        Granting (length (c .bytes)) (effect.Stored (placement (view s) e (slot (view s .opened e SLOT)) at (length (c .bytes))))
-    reads : (e n : ℕ) → Held (tablesOf s) e → tablesOf s .opened e OFFSET + n ≤ BLOCK → Granting n (effect.Moved e (plus (view s .opened e OFFSET) n))
-    seeks : (e n : ℕ) → Held (tablesOf s) e → n ≤ BLOCK → Granting n (effect.Moved e n)
+        Granting (length (c .bytes)) output.Nothing (effect.Stored (placement (view s) e (slot (view s .opened e SLOT)) at (length (c .bytes))))
+    reads : (e n : ℕ) → Held (tablesOf s) e → tablesOf s .opened e OFFSET + n ≤ BLOCK → Granting n (output.Bytes (slot (view s .opened e SLOT)) (view s .opened e OFFSET) n) (effect.Moved e (plus (view s .opened e OFFSET) n))
+    seeks : (e n : ℕ) → Held (tablesOf s) e → n ≤ BLOCK → Granting n output.Nothing (effect.Moved e n)
     duplicates : (i j : Fd) (e : ℕ) → Holds (tablesOf s) (c .process) i e → j .0 < DESCRIPTORS → tablesOf s .desc (c .process .0) (j .0) ≡ 0 →
-        Granting (j .0) (effect.Duplicated j e (up (view s .opened e REFERENCES)))
+        Granting (j .0) output.Nothing (effect.Duplicated j e (up (view s .opened e REFERENCES)))
     forks : (q : Pid) → Caller (tablesOf s) (c .process) → q .0 < PROCESSES → tablesOf s .proc (q .0) USED ≡ 0 →
-        Granting (q .0) (effect.Forked q (subjectOf (view s) (c .process) .user) (subjectOf (view s) (c .process) .label))
-    exits : Caller (tablesOf s) (c .process) → Granting 0 effect.Exited
-    executes : (l : ℕ) → Caller (tablesOf s) (c .process) → l ≤ LABEL-MAX → Granting 0 (effect.Relabelled l)
+        Granting (q .0) output.Nothing (effect.Forked q (subjectOf (view s) (c .process) .user) (subjectOf (view s) (c .process) .label))
+    exits : Caller (tablesOf s) (c .process) → Granting 0 output.Nothing effect.Exited
+    executes : (l : ℕ) → Caller (tablesOf s) (c .process) → l ≤ LABEL-MAX → Granting 0 output.Nothing (effect.Relabelled l)
 
 -- ---- tests and what they say of the tables
 

@@ -12,6 +12,7 @@ use Rattle.rules.specs.Calls.{Call}
 use Rattle.rules.specs.Decide.{placement, decide}
 use Rattle.rules.specs.Effects.{carryOut}
 use Rattle.rules.specs.Step.{storeAfter, outcomeOf, act, step, final}
+use Rattle.rules.specs.declared.decision.Output.{Output}
 use Rattle.rules.specs.declared.decision.Effect.{Effect}
 use Rattle.rules.specs.declared.decision.Decision.{Decision}
 use Rattle.preservation.proofs.Small.{Held}
@@ -22,7 +23,7 @@ use Rattle.preservation.proofs.OpenEffects.{Caller, Writes, Leaves, lea
 use Rattle.preservation.proofs.NameEffects.{link-leaves, create-leaves, unlink-leaves, unnaming-is, remove-leaves}
 use Rattle.preservation.proofs.CloseEffects.{close-leaves, releasing-is, exit-leaves}
 use Rattle.preservation.proofs.ForkEffects.{fork-leaves}
-use Rattle.preservation.proofs.Granted.{Fit, granting, refusing, Granting, nothing, opens, truncates, creates, unlinks, removes, links, changesBits, closes, stores, reads, seeks, duplicates, forks, exits, executes}
+use Rattle.preservation.proofs.Granted.{Fit, granting, refusing, Unlinking, unlinking, Granting, nothing, opens, truncates, creates, unlinks, removes, links, changesBits, closes, stores, reads, seeks, duplicates, forks, exits, executes}
 use Rattle.preservation.proofs.Decided.{decide-fit}
 
 module _ (s : Store) (h : SoundStore s) (c : Call) where
@@ -47,13 +48,13 @@ module _ (s : Store) (h : SoundStore s) (c : Call) where
   unfolding tablesOf
   caller-label u = h .tables .procs (c .process .0) (u .small) .label-most
 
-  pub effect-keeps : {n : ℕ} {e : Effect} → Granting s h c n e → SoundStore (carryOut c e s)
+  pub effect-keeps : {n : ℕ} {o : Output} {e : Effect} → Granting s h c n o e → SoundStore (carryOut c e s)
   unfolding carryOut
-  effect-keeps (nothing n) = h
+  effect-keeps (nothing n o) = h
   effect-keeps (opens n o) = leaves-sound (open-leaves s h (c .process) n o)
   effect-keeps (truncates n o) = leaves-sound (truncate-leaves s h (c .process) n o)
   effect-keeps (creates d i y kind bits o) = leaves-sound (create-leaves s h _ (subjectOf (view s) (c .process)) d i (slot y) kind bits o)
-  effect-keeps (unlinks d i y n k) = leaves-sound (unlink-leaves s h d i y n k (unnaming-is s h y))
+  effect-keeps (unlinks (unlinking d i y n k)) = leaves-sound (unlink-leaves s h d i y n k (unnaming-is s h y))
   effect-keeps (removes d i y n k l) = leaves-sound (remove-leaves s h d i y n k l)
   effect-keeps (links d i y n hy k) = leaves-sound (link-leaves s h _ d i y n hy k)
   effect-keeps (changesBits y b hy k l o) = leaves-sound (bits-leaves s h (y .0) (b .0) hy k l)

@@ -187,7 +187,7 @@ module _ (s : Store) (h : SoundStore s) where
       by false e = keeps (alive e (ℕ-discrete (view s .tree .file (y .0) LINKS - 1) 0) (decLt 0 (openCount (col (view s .opened) SLOT) (col (view s .opened) REFERENCES) (y .0))))
 
   -- the tables after an unlink
-  pub unlinkedTables : Slot → ℕ → Unnamed → Tables
+  unfoldable pub unlinkedTables : Slot → ℕ → Unnamed → Tables
   unlinkedTables d i (unnamed.Kept y links) = fileTo (y .0) LINKS links (withoutName d i)
   unlinkedTables d i (unnamed.Freed y r) = remade (y .0) (λ c. getD (words r) c 0) (λ _. 0) (withoutName d i)
 
