@@ -41,3 +41,5 @@ pub mod Granted
 pub mod Decided
 -- the theorems
 pub mod Kept
+pub mod RefusedLeaves
+pub mod BitsByOwner
