@@ -149,7 +149,7 @@ module _ (Q : List ℕ) (s : Store) (h : SoundStore s) (c : Call) (safe : policy
 
   -- ---- 4. Unlink, 5. Remove directory
 
-  unlink-fit : (p : List ℕ) → GoodPath p → 0 < length (names p) → Fit (Unlinking s h c) (decideUnlink Q (view s) (c .process) p)
+  pub unlink-fit : (p : List ℕ) → GoodPath p → 0 < length (names p) → Fit (Unlinking s h c) (decideUnlink Q (view s) (c .process) p)
   unfolding decideUnlink unlinkAt
   unlink-fit p g some-names = after-fit _ (path-fit s h Q (subjectOf (view s) (c .process)) p g) (λ at f. need-fit (isPlain (view s .tree) (at .slot)) _ _ (λ k.
       need-fit _ _ _ (λ _. need-fit _ _ _ (λ _. granting _ _ _ (unlinking (at .dir) (at .dirent) (at .slot) (f .named (λ z. omega arith)) (is-plain (at .slot) k))))))

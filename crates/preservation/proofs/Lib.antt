@@ -43,3 +43,4 @@ pub mod Decided
 pub mod Kept
 pub mod RefusedLeaves
 pub mod BitsByOwner
+pub mod OpenStays
