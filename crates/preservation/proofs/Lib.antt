@@ -44,3 +44,5 @@ pub mod Kept
 pub mod RefusedLeaves
 pub mod BitsByOwner
 pub mod OpenStays
+pub mod NoWrap
+pub mod Proved
