@@ -1,22 +1,17 @@
 -- Only user 0 and a file's owner change its bits.
-use mathlib.Core.Path.{_≡_, refl, sym, ap, _∙_}
+use mathlib.Core.Path.{_≡_, refl, ap, _∙_}
 use mathlib.Core.Bool.{Bool, true, false, cond}
 use mathlib.Core.Logic.{_⊎_, inl, inr}
-use mathlib.Core.List.{List, [], _∷_}
-use Prim.Native.Nat.{ℕ, _+_, _-_, _≤_, _<_}
+use mathlib.Core.List.{List}
+use Prim.Native.Nat.{ℕ, _+_, _-_, _≤_}
 use native.Mathlib.Omega.{arith}
 use native.Mathlib.Decide.{ℕ-discrete}
-use lib.Dec.{eqb}
-use lib.ListN.{length, getD}
-use borrow.Author.Tests.{eq-eqb, ne-eqb}
-use Rattle.rules.specs.Layout.{KIND, OWNER, BITS, FREE, PLAIN, SLOT, OFFSET, USER}
-use Rattle.rules.specs.Choice.{some}
+use Rattle.rules.specs.Layout.{KIND, OWNER, BITS, FREE, OFFSET}
 use Rattle.rules.specs.Store.{Store, view, slot, subjectOf, plus}
 use Rattle.rules.specs.Rights.{owns}
-use Rattle.rules.specs.Sound.{policySound, sound}
+use Rattle.rules.specs.Sound.{sound}
 use Rattle.rules.specs.Calls.{Call}
-use Rattle.rules.specs.Decide.{decide}
-use Rattle.rules.specs.Effects.{words, carryOut}
+use Rattle.rules.specs.Effects.{carryOut}
 use Rattle.rules.specs.Step.{storeAfter, outcomeOf, act, step, refusedReply}
 use Rattle.rules.specs.declared.ids.Slot.{Slot}
 use Rattle.rules.specs.declared.refusal.Refusal.the-variants.{Unsound}
@@ -36,9 +31,9 @@ use Rattle.preservation.proofs.Open.{handed}
 use Rattle.preservation.proofs.Processes.{shared}
 use Rattle.preservation.proofs.Changes.{tablesOf}
 use Rattle.preservation.proofs.SoundStore.{SoundStore, means-sound}
-use Rattle.preservation.proofs.OpenEffects.{Leaves, Opens, open-leaves, truncate-leaves, move-leaves, duplicate-leaves, bits-leaves, execute-leaves, write-leaves}
+use Rattle.preservation.proofs.OpenEffects.{Leaves, open-leaves, truncate-leaves, move-leaves, duplicate-leaves, bits-leaves, execute-leaves, write-leaves}
 use Rattle.preservation.proofs.NameEffects.{link-leaves, create-leaves, unlinkedTables, Unnaming, keeps, frees, unlink-leaves, unnaming-is, remove-leaves}
-use Rattle.preservation.proofs.CloseEffects.{Steady, steady-freed, close-leaves, releasing-is, exit-leaves}
+use Rattle.preservation.proofs.CloseEffects.{Steady, close-leaves, releasing-is, exit-leaves}
 use Rattle.preservation.proofs.ForkEffects.{fork-leaves}
 use Rattle.preservation.proofs.Granted.{Fit, granting, refusing, unlinking, Granting, nothing, opens, truncates, creates, unlinks, removes, links, changesBits, closes, stores, reads, seeks, duplicates, forks, exits, executes}
 use Rattle.preservation.proofs.Decided.{decide-fit}

@@ -1,13 +1,13 @@
 -- How the counts change where one row of a table changes.
-use mathlib.Core.Path.{_≡_, refl, sym, subst, ap, _∙_}
-use mathlib.Core.Bool.{Bool, true, false, not, cond, _&&_, _||_, false≢true}
-use Prim.Native.Nat.{ℕ, zero, suc, _+_, _*_, _/_, _%_, _≤_, _<_}
+use mathlib.Core.Path.{_≡_, refl, ap}
+use mathlib.Core.Bool.{true, _&&_}
+use Prim.Native.Nat.{ℕ, _+_, _≤_, _<_}
 use native.Mathlib.Omega.{arith}
-use lib.Dec.{eqb, ltb, leb}
-use borrow.Author.Tests.{eqb-true, eqb-false, eq-eqb, ne-eqb, lt-ltb, ltb-true}
-use Rattle.preservation.proofs.Tests.{split, upd, upd2, updRow, upd-other, upd-same, and-left, and-right}
-use Rattle.preservation.proofs.Sums.{sum, count, count2, ind, sum-change, sum2-change, sum2-at, sum-same, sum2-same, ind-true, ind-false}
-use Rattle.preservation.proofs.Sound.{holderCount, openCount, File, OpenFile, Block}
+use lib.Dec.{eqb, ltb}
+use borrow.Author.Tests.{eq-eqb, ne-eqb, lt-ltb}
+use Rattle.preservation.proofs.Tests.{split, upd, upd2, updRow, upd-other, upd-same}
+use Rattle.preservation.proofs.Sums.{count2, ind, sum-change, sum2-change, sum2-at, ind-true}
+use Rattle.preservation.proofs.Sound.{holderCount, openCount, File, OpenFile}
 use Rattle.rules.specs.Layout.{SLOTS, FREE, PLAIN, USER-MAX, WORD-MAX}
 
 pub upd2-same : (f : ℕ → ℕ → ℕ) (j c v : ℕ) → upd2 f j c v j c ≡ v

@@ -1,20 +1,20 @@
 -- The tables of a store; each change of the store is a change of its tables.
 use mathlib.Core.Path.{_≡_, refl, sym, ap, _∙_, fun-ext}
 use mathlib.Core.Bool.{Bool, true, false, cond}
-use mathlib.Core.List.{List, [], _∷_}
-use Prim.Native.Nat.{ℕ, zero, suc, _+_, _-_, _*_, _/_, _%_, _≤_, _<_}
+use mathlib.Core.List.{List}
+use Prim.Native.Nat.{ℕ, _+_, _-_, _*_, _/_, _%_, _≤_, _<_}
 use native.Mathlib.Omega.{arith}
 use native.Mathlib.Decide.{decLt}
-use lib.Dec.{eqb, ltb}
+use lib.Dec.{ltb}
 use lib.ListN.{length, getD, set, length-set, List·getD-eq-default}
 use lib.Seq.{sets, length-sets}
 use borrow.Author.Tests.{eq-eqb, ne-eqb, lt-ltb, le-ltb}
 use Rattle.rules.specs.Layout.{SLOTS, BLOCK, DIRENT, DIRENTS, OPENS, PROCESSES, DESCRIPTORS, FILE, OPEN, PROCESS, OWN}
-use Rattle.rules.specs.Store.{Store, store, tab, procOf, descOf, puts, zeros, Change, change, fileWord, clearTo, openWord, openZero, procWord, procZero}
+use Rattle.rules.specs.Store.{Store, store, tab, procOf, descOf, puts, zeros, change, fileWord, clearTo, openWord, openZero, procWord, procZero}
 use Rattle.rules.specs.Store as rules
 use Rattle.preservation.proofs.Tests.{split, upd, upd2, updRow}
-use Rattle.preservation.proofs.Tables.{Tables, rowsOf, fill, fileTo, bytesTo, openTo, procTo, descTo, fileRowTo, openRowTo, procRowTo}
-use Rattle.preservation.proofs.Table.{tab-in, tab-out, overRow, tab-run, tab-set, tab-row, sets-run, puts-sets, upd2-row, length-zeros, getD-zeros}
+use Rattle.preservation.proofs.Tables.{Tables, fill, fileTo, bytesTo, openTo, procTo, descTo, fileRowTo, openRowTo, procRowTo}
+use Rattle.preservation.proofs.Table.{overRow, tab-run, tab-set, tab-row, sets-run, puts-sets, upd2-row, length-zeros, getD-zeros}
 use Rattle.preservation.proofs.Remake.{remade}
 
 unfoldable pub tablesOf : Store → Tables

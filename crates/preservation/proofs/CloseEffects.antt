@@ -2,32 +2,30 @@
 use mathlib.Core.Path.{_≡_, refl, sym, subst, ap, _∙_, fun-ext}
 use mathlib.Core.Bool.{Bool, true, false, cond, not, false≢true, true≢false}
 use mathlib.Core.Logic.{_⊎_, inl, inr}
-use mathlib.Core.List.{List, [], _∷_, _++_}
-use Prim.Native.Nat.{ℕ, zero, suc, _+_, _-_, _*_, _≤_, _<_}
+use mathlib.Core.List.{[], _∷_}
+use Prim.Native.Nat.{ℕ, zero, suc, _+_, _-_, _≤_, _<_}
 use native.Mathlib.Nat.{not-suc-le-zero}
 use native.Mathlib.Omega.{arith}
 use native.Mathlib.Decide.{decLt, ℕ-discrete}
 use lib.Dec.{eqb, ltb}
-use lib.ListN.{length, getD}
-use borrow.Author.Tests.{eq-eqb, ne-eqb, eqb-true, eqb-false, ltb-true, ltb-false, lt-ltb, le-ltb}
-use Rattle.rules.specs.Layout.{SLOTS, OPENS, PROCESSES, DESCRIPTORS, OPEN, KIND, BITS, LINKS, VERSION, SLOT, REFERENCES, USED, FREE, WORD-MAX}
+use borrow.Author.Tests.{eq-eqb, ne-eqb, ltb-true, ltb-false}
+use Rattle.rules.specs.Layout.{SLOTS, OPENS, PROCESSES, DESCRIPTORS, KIND, BITS, LINKS, VERSION, SLOT, REFERENCES, USED, FREE}
 use Rattle.rules.specs.Choice.{every}
 use Rattle.rules.specs.Scan.{repeat}
-use Rattle.rules.specs.Store.{Store, View, view, slot, up, applyAll, change, procZero}
+use Rattle.rules.specs.Store.{Store, view, slot, up, applyAll, change, procZero}
 use Rattle.rules.specs.Sound.{openBut, isOn}
 use Rattle.rules.specs.Checks.{held, ofdHeld, closing, dropping, releasing}
 use Rattle.rules.specs.Checks as checks
 use Rattle.rules.specs.Effects.{words, fdOf, releaseChanges, closeChanges, released, releasedAll}
-use Rattle.rules.specs.declared.ids.Slot.{Slot}
 use Rattle.rules.specs.declared.ids.Pid.{Pid}
 use Rattle.rules.specs.declared.ids.Fd.{Fd}
 use Rattle.rules.specs.declared.decision.Release.{Release}
 use Rattle.rules.specs.declared.decision.Release.the-variants as release
 use Rattle.rules.proofs.Scans.{repeat-step, repeat-done}
-use Rattle.preservation.proofs.Tests.{split, upd, updRow, Means, means-every, means-and, means-last, means-eq, means-not}
-use Rattle.preservation.proofs.Tables.{Tables, descTo, procRowTo}
-use Rattle.preservation.proofs.Scans.{Found, any-found, any-none}
-use Rattle.preservation.proofs.Sound.{All, Sound, SoundBut}
+use Rattle.preservation.proofs.Tests.{split, upd, updRow, Means, means-every, means-and, means-last, means-eq}
+use Rattle.preservation.proofs.Tables.{Tables, descTo}
+use Rattle.preservation.proofs.Scans.{any-found, any-none}
+use Rattle.preservation.proofs.Sound.{Sound}
 use Rattle.preservation.proofs.Change.{updRow-same, updRow-other}
 use Rattle.preservation.proofs.Words.{up-most}
 use Rattle.preservation.proofs.Small.{Held}

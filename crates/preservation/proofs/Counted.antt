@@ -1,25 +1,23 @@
 -- What the test counts, and where it climbs, as sums over the tables and depths.
-use mathlib.Core.Path.{_≡_, refl, sym, ap, _∙_}
+use mathlib.Core.Path.{_≡_, refl, sym, _∙_}
 use mathlib.Core.Bool.{Bool, true, false, cond, not, _&&_, false≢true, true≢false}
-use mathlib.Core.List.{List, [], _∷_}
-use Prim.Native.Nat.{ℕ, zero, suc, _+_, _-_, _*_, _≤_, _<_}
+use mathlib.Core.List.{List}
+use Prim.Native.Nat.{ℕ, zero, suc, _+_, _-_, _≤_, _<_}
 use native.Mathlib.Nat.{not-suc-le-zero}
 use native.Mathlib.Omega.{arith}
-use native.Mathlib.Decide.{decLt}
-use lib.Dec.{eqb, ltb, leb}
+use lib.Dec.{eqb, ltb}
 use lib.ListN.{getD}
-use borrow.Author.Tests.{eqb-true, eqb-false, eq-eqb, ne-eqb, lt-ltb, le-ltb, ltb-true}
-use Rattle.rules.specs.Layout.{SLOTS, DIRENT, DIRENTS, NAME, NAMES, OPENS, PROCESSES, DESCRIPTORS, KIND, LINKS, SLOT, REFERENCES, PLAIN, DIRECTORY}
-use Rattle.rules.specs.Choice.{every, some}
-use Rattle.rules.specs.Scan.{any, total, first}
+use borrow.Author.Tests.{eqb-true, lt-ltb, ltb-true}
+use Rattle.rules.specs.Layout.{SLOTS, DIRENT, DIRENTS, NAME, OPENS, PROCESSES, DESCRIPTORS, KIND, SLOT, REFERENCES, DIRECTORY}
+use Rattle.rules.specs.Choice.{every}
+use Rattle.rules.specs.Scan.{any}
 use Rattle.rules.specs.Scan as scan
-use Rattle.rules.specs.Store.{Tree, slot}
-use Rattle.rules.specs.Walk.{isDirectory}
+use Rattle.rules.specs.Store.{Tree}
 use Rattle.rules.specs.Directories.{direntAt, direntSlot, isEmpty}
 use Rattle.rules.specs.Sound.{isUsed, linksAt, linksFrom, linksTo, isParent, parentOf, climbs, isOn, openBut, isOpen, holdsAt, holdersIn, holders}
 use Rattle.preservation.proofs.Tests.{split, Means, and-left, and-right, means-every, means-and, means-last, means-not, means-eq}
-use Rattle.preservation.proofs.Sums.{sum, ind, count, sum-same, sum-none, sum-at, sum-some, Some, ind-more, ind-true}
-use Rattle.preservation.proofs.Scans.{first-same, any-found, any-passes, Found, total-sum, count-sum}
+use Rattle.preservation.proofs.Sums.{ind, count, sum-same, sum-none, sum-at, sum-some, Some, ind-more}
+use Rattle.preservation.proofs.Scans.{first-same, any-found, any-passes, total-sum, count-sum}
 use Rattle.preservation.proofs.Tables.{col}
 use Rattle.preservation.proofs.Sound.{naming, linkCount, nameCount, parent, depthWithin, openCount, holderCount}
 use Rattle.preservation.proofs.Change.{ind-eq}
@@ -118,9 +116,13 @@ means-open opened s = record {
     found : Some OPENS (λ e. ind (eqb (opened e SLOT) s && ltb 0 (opened e REFERENCES))) → any (isOn opened OPENS s) 0 OPENS ≡ true
     found f =
         let b : eqb (opened (f .at) SLOT) s && ltb 0 (opened (f .at) REFERENCES) ≡ true = ind-more (eqb (opened (f .at) SLOT) s && ltb 0 (opened (f .at) REFERENCES)) (f .more) in
-        any-passes (isOn opened OPENS s) OPENS (f .at) (f .small) (means-on opened OPENS s (f .at) .tests
-        ((λ q. omega (arith, f .small)), ((λ q. omega (arith, ltb-true 0 (opened (f .at) REFERENCES) (and-right (eqb (opened (f .at) SLOT) s) (ltb 0 (opened (f .at) REFERENCES)) b))),
-        eqb-true (opened (f .at) SLOT) s (and-left (eqb (opened (f .at) SLOT) s) (ltb 0 (opened (f .at) REFERENCES)) b))))
+        any-passes (isOn opened OPENS s) OPENS (f .at) (f .small) (means-on opened OPENS s (f .at) .tests (
+          (λ q. omega (arith, f .small)),
+          (
+            (λ q. omega (arith, ltb-true 0 (opened (f .at) REFERENCES) (and-right (eqb (opened (f .at) SLOT) s) (ltb 0 (opened (f .at) REFERENCES)) b))),
+            eqb-true (opened (f .at) SLOT) s (and-left (eqb (opened (f .at) SLOT) s) (ltb 0 (opened (f .at) REFERENCES)) b),
+          ),
+        ))
 
 pub holders-counted : (desc : ℕ → ℕ → ℕ) (e : ℕ) → holders desc e ≡ holderCount desc e
 unfolding holders holdersIn holdsAt holderCount

@@ -1,22 +1,20 @@
 -- Create and make directory; free a slot; unlink and remove directory.
-use mathlib.Core.Path.{_≡_, refl, sym, subst, ap, _∙_}
-use mathlib.Core.Bool.{Bool, true, false, not, cond, _&&_, _||_, false≢true}
-use Prim.Native.Nat.{ℕ, zero, suc, _+_, _-_, _*_, _/_, _%_, _≤_, _<_}
+use mathlib.Core.Path.{_≡_, refl, sym, _∙_}
+use mathlib.Core.Bool.{true, false}
+use Prim.Native.Nat.{ℕ, _+_, _-_, _*_, _≤_, _<_}
 use native.Mathlib.Omega.{arith}
 use native.Mathlib.Decide.{ℕ-discrete}
-use mathlib.Core.List.{List, [], _∷_}
+use mathlib.Core.List.{[], _∷_}
 use lib.ListN.{getD}
-use lib.Dec.{eqb, ltb, leb}
-use borrow.Author.Tests.{eqb-true, eqb-false, eq-eqb, ne-eqb, lt-ltb, le-ltb, ltb-true}
-use Rattle.preservation.proofs.Tests.{split, upd, upd2, updRow, upd-elim, upd-same, upd-other}
-use Rattle.preservation.proofs.Sums.{ind}
-use Rattle.preservation.proofs.Tables.{Tables, col, direntRow, rowsOf, fill}
-use Rattle.preservation.proofs.Sound.{All, Sound, SoundBut, File, Block, Dirent, Directory, Depths, OpenFile, nameCount, validRow, sameRow, openCount}
+use lib.Dec.{eqb}
+use borrow.Author.Tests.{eq-eqb, ne-eqb}
+use Rattle.preservation.proofs.Tables.{Tables, col, direntRow}
+use Rattle.preservation.proofs.Sound.{Sound, SoundBut, validRow, sameRow, openCount}
 use Rattle.preservation.proofs.Change.{file-used}
-use Rattle.preservation.proofs.Dirents.{placed, Fits, naming-at, used-at}
-use Rattle.preservation.proofs.Link.{loosen, tighten, linked, linked-sound, Leaf}
+use Rattle.preservation.proofs.Dirents.{placed, Fits, used-at}
+use Rattle.preservation.proofs.Link.{loosen, tighten, linked, linked-sound}
 use Rattle.preservation.proofs.Unlink.{unlinked, unlinked-sound}
-use Rattle.preservation.proofs.Remake.{remade, remade-sound, remade-depths, Bare, Fresh, openCount-at}
+use Rattle.preservation.proofs.Remake.{remade, remade-sound, remade-depths, Bare, Fresh}
 use Rattle.rules.specs.Layout.{SLOTS, OPENS, KIND, LENGTH, LINKS, VERSION, SLOT, REFERENCES, FREE, PLAIN, DIRECTORY, USER-MAX, WORD-MAX}
 
 -- a record by its words

@@ -1,22 +1,21 @@
 -- Each call's decision, on a sound store: what it has passed where it is granted.
-use mathlib.Core.Path.{_≡_, refl, sym, ap, _∙_}
-use mathlib.Core.Bool.{Bool, true, false, cond, not, false≢true}
+use mathlib.Core.Path.{_≡_, refl}
+use mathlib.Core.Bool.{Bool, true, false, cond}
 use mathlib.Core.List.{List, [], _∷_}
-use Prim.Native.Nat.{ℕ, zero, suc, _+_, _-_, _*_, _≤_, _<_, min, max}
+use Prim.Native.Nat.{ℕ, _+_, _-_, _≤_, _<_, min}
 use native.Mathlib.Omega.{arith}
-use native.Mathlib.Decide.{decLt, ℕ-discrete}
 use lib.Dec.{eqb, ltb, leb}
-use lib.ListN.{length, getD}
-use borrow.Author.Tests.{eqb-true, eqb-false, ltb-true, leb-true}
-use Rattle.rules.specs.Layout.{SLOTS, BLOCK, DIRENTS, OPENS, PROCESSES, DESCRIPTORS, BITS-MAX, LABEL-MAX, KIND-MAX, MODE-MAX, NAMES}
-use Rattle.rules.specs.Layout.{KIND, OWNER, LABEL, LENGTH, SLOT, MODE, OFFSET, REFERENCES, USED, USER, DOMAIN, FREE, PLAIN, DIRECTORY}
+use lib.ListN.{length}
+use borrow.Author.Tests.{eqb-true, ltb-true, leb-true}
+use Rattle.rules.specs.Layout.{SLOTS, BLOCK, DIRENTS, OPENS, PROCESSES, DESCRIPTORS, BITS-MAX, LABEL-MAX, KIND-MAX, MODE-MAX}
+use Rattle.rules.specs.Layout.{KIND, OWNER, LABEL, LENGTH, SLOT, MODE, OFFSET, USER, DOMAIN, PLAIN, DIRECTORY}
 use Rattle.rules.specs.Choice.{every}
-use Rattle.rules.specs.Store.{Store, View, view, slot, subjectOf, plus}
+use Rattle.rules.specs.Store.{Store, view, slot, subjectOf}
 use Rattle.rules.specs.Paths.{names, lastName, pathOk}
-use Rattle.rules.specs.Rights.{READ, WRITE, EXECUTE, owns, moved, modeOf, modeRights, TRUNCATE, reads, writes, appends, bitsKnown}
+use Rattle.rules.specs.Rights.{READ, WRITE, EXECUTE, owns, moved, modeOf, modeRights, TRUNCATE, reads, writes}
 use Rattle.rules.specs.Directories.{freeDirent, direntRanked}
 use Rattle.rules.specs.Sound.{policySound}
-use Rattle.rules.specs.Walk.{isDirectory, isPlain, bitsAllow, labelAllows}
+use Rattle.rules.specs.Walk.{isDirectory, isPlain, labelAllows}
 use Rattle.rules.specs.Calls.{Call, operation, wellFormed, formOk, pathBelowRoot, newFileOk}
 use Rattle.rules.specs.Checks.{inUse, held, ofdHeld, nameAbsent, freeSlot, freeOfd, freeFd, freePid}
 use Rattle.rules.specs.DecidePaths.{allowed, newOpen, truncated, opening, openRoom, openFile, openMode, decideOpen, createRoom, createIn, decideCreate, unlinkAt, decideUnlink, removeAt, decideRemove}
@@ -36,19 +35,19 @@ use Rattle.rules.specs.declared.decision.Effect.the-variants as effect
 use Rattle.rules.specs.declared.decision.Decision.{Decision}
 use Rattle.rules.specs.declared.decision.Decision.the-variants.{Granted}
 use Rattle.rules.specs.Checks as checks
-use Rattle.preservation.proofs.Tests.{Means, means-every, means-and, means-last, means-le, means-test}
+use Rattle.preservation.proofs.Tests.{means-every, means-and, means-last, means-le, means-test}
 use Rattle.preservation.proofs.Small.{Held}
-use Rattle.preservation.proofs.Words.{plus-is, offsets-most, length-most}
+use Rattle.preservation.proofs.Words.{offsets-most, length-most}
 use Rattle.preservation.proofs.Changes.{tablesOf}
 use Rattle.preservation.proofs.SoundStore.{SoundStore}
-use Rattle.preservation.proofs.OpenEffects.{Caller, Opens, Holds, held-open}
-use Rattle.preservation.proofs.NameEffects.{Naming, Creates, Names}
-use Rattle.preservation.proofs.PathNames.{GoodName, GoodPath, path-good, below-root, last-good}
+use Rattle.preservation.proofs.OpenEffects.{Caller, Opens, held-open}
+use Rattle.preservation.proofs.NameEffects.{Creates}
+use Rattle.preservation.proofs.PathNames.{GoodPath, path-good, below-root, last-good}
 use Rattle.preservation.proofs.NewName.{new-name}
 use Rattle.preservation.proofs.Reach.{reach-depth, reach-used}
-use Rattle.preservation.proofs.Walked.{Found, found-small, Parent, path-fit, parent-fit}
+use Rattle.preservation.proofs.Walked.{found-small, Parent, path-fit, parent-fit}
 use Rattle.preservation.proofs.Granted.{Fit, granting, refusing, need-fit, fit-map, after-fit, Unlinking, unlinking, Granting, nothing, opens, truncates, creates, unlinks, removes, links, changesBits, closes, stores, seeks, duplicates, forks, exits, executes}
-use Rattle.preservation.proofs.Granted.{used-small, plain-small, in-use, holds, slot-free, ofd-free, fd-free, pid-free, dirent-free, moved-small}
+use Rattle.preservation.proofs.Granted.{plain-small, in-use, holds, slot-free, ofd-free, fd-free, pid-free, dirent-free, moved-small}
 use Rattle.preservation.proofs.Granted as granted
 
 -- ---- modes

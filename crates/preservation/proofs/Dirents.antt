@@ -1,16 +1,16 @@
 -- One direntRow of a directory changed: what links, creates, unlinks and removes share.
-use mathlib.Core.Path.{_≡_, refl, sym, subst, ap, _∙_, fun-ext}
-use mathlib.Core.Bool.{Bool, true, false, not, cond, _&&_, _||_, false≢true}
-use Prim.Native.Nat.{ℕ, zero, suc, _+_, _-_, _*_, _/_, _%_, _≤_, _<_}
+use mathlib.Core.Path.{_≡_, refl, sym, ap, _∙_, fun-ext}
+use mathlib.Core.Bool.{true, false, not, _&&_}
+use Prim.Native.Nat.{ℕ, _+_, _-_, _*_, _/_, _%_, _≤_, _<_}
 use native.Mathlib.Omega.{arith}
 use native.Mathlib.Decide.{decLt}
-use lib.Dec.{eqb, ltb, leb}
-use borrow.Author.Tests.{eqb-true, eqb-false, eq-eqb, ne-eqb, lt-ltb, le-ltb, ltb-true}
-use Rattle.preservation.proofs.Tests.{split, upd, upd2, updRow, upd-elim, upd-same, upd-other, means-all, means-eq}
-use Rattle.preservation.proofs.Sums.{ind, count, count2, sum-change, sum2-change, sum2-at, sum-at, sum-none, ind-true}
-use Rattle.preservation.proofs.Tables.{Tables, col, direntRow, rowsOf, fill, fileTo, openTo, descTo, bytesTo}
-use Rattle.preservation.proofs.Sound.{All, Sound, SoundBut, File, Block, Dirent, Directory, Depths, naming, linkCount, nameCount, validRow, sameRow}
-use Rattle.preservation.proofs.Change.{ind-eq, ind-ne, file-used, updRow-same, updRow-other}
+use lib.Dec.{eqb, ltb}
+use borrow.Author.Tests.{eq-eqb, ne-eqb, lt-ltb, le-ltb}
+use Rattle.preservation.proofs.Tests.{split, upd, upd-elim, upd-same, upd-other, means-all, means-eq}
+use Rattle.preservation.proofs.Sums.{ind, count, sum-change, sum2-change, sum2-at, sum-at, sum-none}
+use Rattle.preservation.proofs.Tables.{Tables, col, direntRow, rowsOf, fill, fileTo, bytesTo}
+use Rattle.preservation.proofs.Sound.{All, SoundBut, File, Block, Dirent, Directory, naming, linkCount, nameCount, sameRow}
+use Rattle.preservation.proofs.Change.{ind-eq, file-used}
 use Rattle.rules.specs.Layout.{NAME, SLOTS, KIND, OWNER, BITS, LABEL, LENGTH, LINKS, VERSION, FREE, DIRECTORY, WORD-MAX}
 
 -- ---- a block with one direntRow changed, as rows

@@ -1,29 +1,24 @@
 -- Fork: the child gets its parent's descriptors one by one, then it is in use.
 use mathlib.Core.Path.{_≡_, refl, sym, subst, ap, _∙_}
-use mathlib.Core.Bool.{Bool, true, false, cond, not}
-use mathlib.Core.List.{List, [], _∷_}
-use Prim.Native.Nat.{ℕ, zero, suc, _+_, _-_, _*_, _≤_, _<_}
+use mathlib.Core.Bool.{cond, not}
+use mathlib.Core.List.{[], _∷_}
+use Prim.Native.Nat.{ℕ, zero, suc, _+_, _-_, _≤_, _<_}
 use native.Mathlib.Omega.{arith}
 use native.Mathlib.Decide.{ℕ-discrete}
 use lib.Dec.{eqb}
-use lib.ListN.{length, getD}
 use borrow.Author.Tests.{eq-eqb, ne-eqb}
-use Rattle.rules.specs.Layout.{SLOTS, OPENS, PROCESSES, DESCRIPTORS, OPEN, OWN, REFERENCES, USED, USER-MAX, LABEL-MAX}
+use Rattle.rules.specs.Layout.{SLOTS, PROCESSES, DESCRIPTORS, REFERENCES, USED, USER-MAX, LABEL-MAX}
 use Rattle.rules.specs.Scan.{repeat}
-use Rattle.rules.specs.Store.{Store, View, view, up, applyAll, change, descTo}
+use Rattle.rules.specs.Store.{Store, view, up, applyAll, change, descTo}
 use Rattle.rules.specs.Store as rules
-use Rattle.rules.specs.Checks.{held, ofdHeld, sharing, shareOf}
+use Rattle.rules.specs.Checks.{held, sharing, shareOf}
 use Rattle.rules.specs.Effects.{fdOf, shareChanges, sharedAll, forkChanges}
 use Rattle.rules.specs.Effects as effects
 use Rattle.rules.specs.declared.ids.Pid.{Pid}
-use Rattle.rules.specs.declared.ids.Fd.{Fd}
-use Rattle.rules.specs.declared.decision.Share.{Share}
 use Rattle.rules.specs.declared.decision.Share.the-variants as share
 use Rattle.rules.proofs.Scans.{repeat-step, repeat-done}
-use Rattle.preservation.proofs.Tests.{split, upd, updRow}
 use Rattle.preservation.proofs.Tables.{Tables, procRowTo}
-use Rattle.preservation.proofs.Tables as tables
-use Rattle.preservation.proofs.Sound.{All, Sound, SoundBut}
+use Rattle.preservation.proofs.Sound.{All, Sound}
 use Rattle.preservation.proofs.Change.{updRow-other}
 use Rattle.preservation.proofs.Words.{up-is, references-most}
 use Rattle.preservation.proofs.Small.{Held}
@@ -32,7 +27,7 @@ use Rattle.preservation.proofs.Open.{handed}
 use Rattle.preservation.proofs.Processes.{procRow, spawn-sound, shared, shared-sound}
 use Rattle.preservation.proofs.Changes.{tablesOf, Sized, Has, has-openRow, has-descTo, has-procTo}
 use Rattle.preservation.proofs.SoundStore.{SoundStore}
-use Rattle.preservation.proofs.OpenEffects.{Leaves, its-tables}
+use Rattle.preservation.proofs.OpenEffects.{Leaves}
 use Rattle.preservation.proofs.CloseEffects.{updRow-id}
 
 -- process q gets the descriptors of process p, and will have user u and label l
@@ -58,7 +53,7 @@ module _ (p q : Pid) (u l : ℕ) (hp : p .0 < PROCESSES) (hq : q .0 < PROCESSES)
     share-none z =
         let w = has-descTo its (q .0) i 0 hq hi in
         let e : tablesOf (change (descTo (q .0) i 0) t) ≡ tablesOf t
-            = w .is ∙ ap (λ (d : ℕ → ℕ → ℕ). record { file = tablesOf t .file; byte = tablesOf t .byte; opened = tablesOf t .opened; proc = tablesOf t .proc; desc = d }) (updRow-id (tablesOf t .desc) (q .0) i 0 (c .rest i hi (omega arith))) in
+        = w .is ∙ ap (λ (d : ℕ → ℕ → ℕ). record { file = tablesOf t .file; byte = tablesOf t .byte; opened = tablesOf t .opened; proc = tablesOf t .proc; desc = d }) (updRow-id (tablesOf t .desc) (q .0) i 0 (c .rest i hi (omega arith))) in
         record { sized = w .sized; sound = rw e (c .sound); rest = λ j hj m. rw e (c .rest j hj (omega arith)); files-same = rw e (c .files-same) }
 
     module _ (e : ℕ) (z : tablesOf t .desc (p .0) i ≡ e + 1) where

@@ -1,20 +1,19 @@
 -- What a granted decision has passed: for each effect, the facts that its checks and the store's soundness give.
-use mathlib.Core.Path.{_≡_, refl, sym, ap, _∙_}
+use mathlib.Core.Path.{_≡_, refl}
 use mathlib.Core.Bool.{Bool, true, false, cond, not, false≢true}
-use mathlib.Core.List.{List, [], _∷_}
-use Prim.Native.Nat.{ℕ, zero, suc, _+_, _-_, _*_, _≤_, _<_, min, max}
+use mathlib.Core.List.{List}
+use Prim.Native.Nat.{ℕ, _+_, _-_, _*_, _≤_, _<_}
 use native.Mathlib.Omega.{arith}
-use native.Mathlib.Decide.{decLt, ℕ-discrete}
-use lib.Dec.{eqb, ltb, leb}
+use native.Mathlib.Decide.{decLt}
+use lib.Dec.{eqb, ltb}
 use lib.ListN.{length, getD, List·getD-eq-default}
-use borrow.Author.Tests.{eqb-true, eqb-false, ltb-true, leb-true, eq-eqb, ne-eqb}
-use Rattle.rules.specs.Layout.{SLOTS, BLOCK, DIRENTS, OPENS, PROCESSES, DESCRIPTORS, FILE, RIGHTS, LABELS, NONE, BITS-MAX, LABEL-MAX, MODE-MAX, WORD-MAX}
-use Rattle.rules.specs.Layout.{KIND, OWNER, LABEL, LENGTH, LINKS, VERSION, SLOT, MODE, OFFSET, REFERENCES, USED, USER, DOMAIN, FREE, PLAIN, DIRECTORY}
-use Rattle.rules.specs.Choice.{every, some}
-use Rattle.rules.specs.Scan.{all, first}
-use Rattle.rules.specs.Store.{Store, View, view, slot, subjectOf, tab, up, plus}
-use Rattle.rules.specs.Paths.{names, lastName, pathOk}
-use Rattle.rules.specs.Rights.{owns, transition, moved, modeOf, modeKnown, appends, bitsKnown}
+use borrow.Author.Tests.{eqb-true, eqb-false, ltb-true}
+use Rattle.rules.specs.Layout.{SLOTS, BLOCK, DIRENTS, OPENS, PROCESSES, DESCRIPTORS, RIGHTS, LABELS, NONE, BITS-MAX, LABEL-MAX}
+use Rattle.rules.specs.Layout.{KIND, OWNER, LABEL, LENGTH, LINKS, SLOT, OFFSET, REFERENCES, USED, FREE, PLAIN, DIRECTORY}
+use Rattle.rules.specs.Scan.{all}
+use Rattle.rules.specs.Store.{Store, view, slot, subjectOf, up, plus}
+use Rattle.rules.specs.Paths.{names, lastName}
+use Rattle.rules.specs.Rights.{owns, transition, moved}
 use Rattle.rules.specs.Directories.{isEmpty, freeDirent}
 use Rattle.rules.specs.Sound.{policySound, rightSound, transitionSound}
 use Rattle.rules.specs.Calls.{Call}
@@ -37,11 +36,10 @@ use Rattle.rules.specs.declared.decision.Effect.the-variants as effect
 use Rattle.rules.specs.declared.decision.Decision.{Decision}
 use Rattle.rules.specs.declared.decision.Decision.the-variants.{Refused, Granted}
 use Rattle.rules.proofs.Scans.{all-at}
-use Rattle.preservation.proofs.Tests.{Means, means-every, means-and, means-last, means-or, means-eq, means-le, means-lt, means-test}
-use Rattle.preservation.proofs.Tables.{Tables}
+use Rattle.preservation.proofs.Tests.{means-every, means-and, means-last, means-or, means-eq, means-le, means-lt, means-test}
 use Rattle.preservation.proofs.Scans.{first-passes}
 use Rattle.preservation.proofs.Small.{Held}
-use Rattle.preservation.proofs.Changes.{tablesOf, Sized, desc-past}
+use Rattle.preservation.proofs.Changes.{tablesOf, desc-past}
 use Rattle.preservation.proofs.SoundStore.{SoundStore}
 use Rattle.preservation.proofs.OpenEffects.{Caller, Opens, Holds}
 use Rattle.preservation.proofs.NameEffects.{Naming, Creates, Names}

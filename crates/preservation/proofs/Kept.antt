@@ -1,13 +1,13 @@
 -- The effect of a granted call on a sound store leaves a sound store; so does every call, and every list of calls.
-use mathlib.Core.Path.{_≡_, refl, sym, ap, _∙_}
-use mathlib.Core.Bool.{Bool, true, false, cond}
+use mathlib.Core.Path.{_≡_, refl, ap}
+use mathlib.Core.Bool.{true}
 use mathlib.Core.List.{List, [], _∷_}
-use Prim.Native.Nat.{ℕ, _+_, _-_, _≤_, _<_, max}
+use Prim.Native.Nat.{ℕ, _+_, _-_, _≤_, max}
 use native.Mathlib.Omega.{arith}
 use lib.ListN.{length}
-use Rattle.rules.specs.Layout.{SLOTS, BLOCK, LENGTH, VERSION, SLOT, OFFSET, USER, DOMAIN}
-use Rattle.rules.specs.Store.{Store, View, view, slot, subjectOf, plus}
-use Rattle.rules.specs.Sound.{policySound, sound}
+use Rattle.rules.specs.Layout.{BLOCK, LENGTH, SLOT, OFFSET, USER, DOMAIN}
+use Rattle.rules.specs.Store.{Store, view, slot, subjectOf, plus}
+use Rattle.rules.specs.Sound.{sound}
 use Rattle.rules.specs.Calls.{Call}
 use Rattle.rules.specs.Decide.{placement, decide}
 use Rattle.rules.specs.Effects.{carryOut}
@@ -19,11 +19,11 @@ use Rattle.preservation.proofs.Small.{Held}
 use Rattle.preservation.proofs.Words.{plus-is}
 use Rattle.preservation.proofs.Changes.{tablesOf}
 use Rattle.preservation.proofs.SoundStore.{SoundStore, means-sound}
-use Rattle.preservation.proofs.OpenEffects.{Caller, Writes, Leaves, leaves-sound, open-leaves, truncate-leaves, move-leaves, duplicate-leaves, bits-leaves, execute-leaves, write-leaves}
+use Rattle.preservation.proofs.OpenEffects.{Caller, Writes, leaves-sound, open-leaves, truncate-leaves, move-leaves, duplicate-leaves, bits-leaves, execute-leaves, write-leaves}
 use Rattle.preservation.proofs.NameEffects.{link-leaves, create-leaves, unlink-leaves, unnaming-is, remove-leaves}
 use Rattle.preservation.proofs.CloseEffects.{close-leaves, releasing-is, exit-leaves}
 use Rattle.preservation.proofs.ForkEffects.{fork-leaves}
-use Rattle.preservation.proofs.Granted.{Fit, granting, refusing, Unlinking, unlinking, Granting, nothing, opens, truncates, creates, unlinks, removes, links, changesBits, closes, stores, reads, seeks, duplicates, forks, exits, executes}
+use Rattle.preservation.proofs.Granted.{Fit, granting, refusing, unlinking, Granting, nothing, opens, truncates, creates, unlinks, removes, links, changesBits, closes, stores, reads, seeks, duplicates, forks, exits, executes}
 use Rattle.preservation.proofs.Decided.{decide-fit}
 
 module _ (s : Store) (h : SoundStore s) (c : Call) where

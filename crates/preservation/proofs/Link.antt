@@ -1,15 +1,15 @@
 -- A name added, a name taken away.
-use mathlib.Core.Path.{_≡_, refl, sym, subst, ap, _∙_}
-use mathlib.Core.Bool.{Bool, true, false, not, cond, _&&_, _||_, false≢true}
-use Prim.Native.Nat.{ℕ, zero, suc, _+_, _-_, _*_, _/_, _%_, _≤_, _<_}
+use mathlib.Core.Path.{_≡_, sym, ap, _∙_}
+use mathlib.Core.Bool.{not}
+use Prim.Native.Nat.{ℕ, suc, _+_, _-_, _≤_, _<_}
 use native.Mathlib.Omega.{arith}
-use lib.Dec.{eqb, ltb, leb}
-use borrow.Author.Tests.{eqb-true, eqb-false, eq-eqb, ne-eqb, lt-ltb, le-ltb, ltb-true}
-use Rattle.preservation.proofs.Tests.{split, upd, upd2, updRow, upd-elim, upd-same, upd-other}
+use lib.Dec.{eqb}
+use borrow.Author.Tests.{eq-eqb, ne-eqb}
+use Rattle.preservation.proofs.Tests.{split, upd, upd-elim, upd-same, upd-other}
 use Rattle.preservation.proofs.Sums.{ind}
-use Rattle.preservation.proofs.Tables.{Tables, col, direntRow, rowsOf, fill, fileTo, openTo, descTo, bytesTo}
-use Rattle.preservation.proofs.Sound.{All, Sound, SoundBut, File, Block, Dirent, Directory, Depths, naming, linkCount, nameCount, validRow, sameRow, openCount}
-use Rattle.preservation.proofs.Change.{ind-eq, ind-ne, file-used}
+use Rattle.preservation.proofs.Tables.{Tables, col, direntRow, fill}
+use Rattle.preservation.proofs.Sound.{All, Sound, SoundBut, Depths, openCount}
+use Rattle.preservation.proofs.Change.{ind-eq, ind-ne}
 use Rattle.preservation.proofs.Dirents.{placed, Fits, placed-files, placed-blocks, placed-dirs, placed-lengths, placed-links, placed-other-slot, placed-here-slot, naming-at}
 use Rattle.rules.specs.Layout.{SLOTS, KIND, LENGTH, LINKS, SLOT, REFERENCES, PLAIN, DIRECTORY}
 

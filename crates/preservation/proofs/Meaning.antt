@@ -1,33 +1,25 @@
 -- The soundness test means the record `Sound` of the store's tables.
-use mathlib.Core.Path.{_≡_, refl, sym, ap, _∙_}
-use mathlib.Core.Bool.{Bool, true, false, cond, not, false≢true}
-use mathlib.Core.List.{List, [], _∷_}
-use Prim.Native.Nat.{ℕ, zero, suc, _+_, _-_, _*_, _≤_, _<_}
+use mathlib.Core.Path.{_≡_}
+use mathlib.Core.Bool.{true}
+use mathlib.Core.List.{List}
+use Prim.Native.Nat.{ℕ, _-_, _*_, _≤_, _<_}
 use native.Mathlib.Omega.{arith}
 use native.Mathlib.Decide.{decLt, ℕ-discrete}
-use lib.Dec.{eqb, ltb, leb}
-use lib.ListN.{length, getD, drop}
-use lib.Seq.{getD-drop}
-use borrow.Author.Tests.{eqb-true, eq-eqb, ne-eqb, lt-ltb}
-use Rattle.rules.specs.Layout.{SLOTS, BLOCK, DIRENT, DIRENTS, NAME, NAMES, OPENS, PROCESSES, DESCRIPTORS, FILE, OPEN, PROCESS}
-use Rattle.rules.specs.Layout.{KIND, OWNER, BITS, LABEL, LENGTH, LINKS, VERSION, SLOT, MODE, OFFSET, REFERENCES, USED, USER, DOMAIN, FREE, PLAIN, DIRECTORY}
+use lib.ListN.{length, getD}
+use Rattle.rules.specs.Layout.{SLOTS, BLOCK, DIRENT, DIRENTS, NAME, OPENS, PROCESSES, DESCRIPTORS, FILE, OPEN, PROCESS}
+use Rattle.rules.specs.Layout.{KIND, OWNER, BITS, LABEL, LENGTH, LINKS, VERSION, SLOT, MODE, OFFSET, REFERENCES, USED, USER, DOMAIN, FREE, PLAIN}
 use Rattle.rules.specs.Layout.{KIND-MAX, USER-MAX, BITS-MAX, LABEL-MAX, MODE-MAX, WORD-MAX}
-use Rattle.rules.specs.Choice.{every, some, implies}
-use Rattle.rules.specs.Scan.{all}
-use Rattle.rules.specs.Store.{Store, Tree, View, view, tree, tab, block, shownOf, slot}
-use Rattle.rules.specs.Directories.{direntAt, isEmpty}
-use Rattle.rules.specs.Paths.{sameName}
-use Rattle.rules.specs.Walk.{isDirectory, isPlain}
-use Rattle.rules.specs.Sound.{sizesSound, recordFree, recordSound, allZero, direntSound, differs, isNew, isUsed, direntsSound, linksSound, climbs, directorySound, isOpen, plainSound, kindSound, slotSound}
-use Rattle.rules.specs.Sound.{openFree, openUsed, openSound, descSound, descFree, procFree, procUsed, procSound, tablesSound, storeSound, policySound, sound}
-use Rattle.preservation.proofs.Tests.{Means, means-every, means-and, means-last, means-imp, means-cond, means-choice, means-or, means-or3, means-eq, means-lt, means-le, means-not, means-test, means-all, means-within, means-same}
-use Rattle.preservation.proofs.Tables.{Tables, col, direntRow}
-use Rattle.preservation.proofs.Sound.{All, Sound, SoundBut, File, Block, Dirent, Directory, Depths, OpenFile, Process, sameRow, nameCount, linkCount, depthWithin, openCount, holderCount}
-use Rattle.preservation.proofs.Tree.{depths-from, depth-is}
+use Rattle.rules.specs.Store.{Store, Tree, View}
+use Rattle.rules.specs.Directories.{direntAt}
+use Rattle.rules.specs.Sound.{sizesSound, recordFree, recordSound, direntSound, differs, isNew, direntsSound}
+use Rattle.rules.specs.Sound.{openFree, openUsed, openSound, descSound, descFree, procFree, procUsed, procSound}
+use Rattle.preservation.proofs.Tests.{Means, means-every, means-and, means-last, means-imp, means-cond, means-or3, means-eq, means-lt, means-le, means-not, means-test, means-all, means-same}
+use Rattle.preservation.proofs.Tables.{col}
+use Rattle.preservation.proofs.Sound.{All, File, Dirent, Directory, OpenFile, Process, sameRow, nameCount, holderCount}
 use Rattle.preservation.proofs.Dirents.{sameRow-sym}
-use Rattle.preservation.proofs.Changes.{tablesOf, Sized}
-use Rattle.preservation.proofs.Shown.{block-length, block-byte, shown-whole, shown-plain, means-zeros, means-dirent, means-empty, same-row}
-use Rattle.preservation.proofs.Counted.{names-counted, links-total, means-climbs, means-open, holders-counted}
+use Rattle.preservation.proofs.Changes.{Sized}
+use Rattle.preservation.proofs.Shown.{means-zeros, means-dirent, means-empty, same-row}
+use Rattle.preservation.proofs.Counted.{names-counted, holders-counted}
 
 -- ---- sizes
 
@@ -95,16 +87,19 @@ pub means-opened : (v : View) (e : ℕ) → Means (openSound v e)
     ((v .opened e REFERENCES ≡ holderCount (v .desc) e) × OpenFile (col (v .tree .file) KIND) (v .opened e SLOT) (v .opened e MODE) (v .opened e OFFSET) (v .opened e REFERENCES))
 unfolding openSound openFree openUsed
 means-opened v e = means-same w
-    (λ u. (u .0, record {
-      slot-zero = λ z. u .1 .0 z .0;
-      mode-zero = λ z. u .1 .0 z .1 .0;
-      offset-zero = λ z. u .1 .0 z .1 .1;
-      slot-small = λ n. u .1 .1 n .0;
-      plain = λ n. u .1 .1 n .1 .0;
-      mode-least = λ n. u .1 .1 n .1 .1 .0;
-      mode-most = λ n. u .1 .1 n .1 .1 .1 .0;
-      offset-most = λ n. u .1 .1 n .1 .1 .1 .1;
-    }))
+    (λ u. (
+      u .0,
+      record {
+        slot-zero = λ z. u .1 .0 z .0;
+        mode-zero = λ z. u .1 .0 z .1 .0;
+        offset-zero = λ z. u .1 .0 z .1 .1;
+        slot-small = λ n. u .1 .1 n .0;
+        plain = λ n. u .1 .1 n .1 .0;
+        mode-least = λ n. u .1 .1 n .1 .1 .0;
+        mode-most = λ n. u .1 .1 n .1 .1 .1 .0;
+        offset-most = λ n. u .1 .1 n .1 .1 .1 .1;
+      },
+    ))
     (λ u. let o = u .1 in (u .0, ((λ z. (o .slot-zero z, (o .mode-zero z, o .offset-zero z))), λ n. (o .slot-small n, (o .plain n, (o .mode-least n, (o .mode-most n, o .offset-most n)))))))
   where
     w : Means (openSound v e) ((v .opened e REFERENCES ≡ holderCount (v .desc) e)

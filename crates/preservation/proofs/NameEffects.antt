@@ -1,32 +1,31 @@
 -- Effects on names: link, create, unlink, remove directory. Each leaves sound tables.
-use mathlib.Core.Path.{_≡_, refl, sym, subst, ap, _∙_, fun-ext}
+use mathlib.Core.Path.{_≡_, refl, sym, subst, _∙_}
 use mathlib.Core.Bool.{Bool, true, false, cond, not, false≢true}
-use mathlib.Core.List.{List, [], _∷_, _++_}
-use Prim.Native.Nat.{ℕ, zero, suc, _+_, _-_, _*_, _≤_, _<_}
+use mathlib.Core.List.{[], _∷_}
+use Prim.Native.Nat.{ℕ, _+_, _-_, _≤_, _<_}
 use native.Mathlib.Omega.{arith}
 use native.Mathlib.Decide.{decLt, ℕ-discrete}
-use lib.Dec.{eqb, ltb}
+use lib.Dec.{eqb}
 use lib.ListN.{length, getD}
-use borrow.Author.Tests.{eq-eqb, ne-eqb, eqb-true, eqb-false}
-use Rattle.rules.specs.Layout.{SLOTS, BLOCK, DIRENT, DIRENTS, NAME, OPENS, FILE, KIND-MAX, BITS-MAX, LABEL-MAX, USER-MAX, WORD-MAX}
-use Rattle.rules.specs.Layout.{KIND, OWNER, BITS, LABEL, LENGTH, LINKS, VERSION, SLOT, REFERENCES, FREE, PLAIN, DIRECTORY}
+use borrow.Author.Tests.{eq-eqb, ne-eqb}
+use Rattle.rules.specs.Layout.{SLOTS, DIRENT, DIRENTS, NAME, OPENS, KIND-MAX, BITS-MAX, LABEL-MAX, USER-MAX}
+use Rattle.rules.specs.Layout.{KIND, LABEL, LENGTH, LINKS, VERSION, SLOT, REFERENCES, FREE, PLAIN, DIRECTORY}
 use Rattle.rules.specs.Choice.{every}
-use Rattle.rules.specs.Store.{Store, View, view, slot, up, zeros, applyAll}
+use Rattle.rules.specs.Store.{Store, view, up, zeros, applyAll}
 use Rattle.rules.specs.Paths as paths
 use Rattle.rules.specs.Directories.{dirent}
-use Rattle.rules.specs.Sound.{isOpen, openBut}
+use Rattle.rules.specs.Sound.{isOpen}
 use Rattle.rules.specs.Checks.{gains, loses, unnaming}
 use Rattle.rules.specs.Checks as checks
 use Rattle.rules.specs.DecidePaths.{newRecord}
 use Rattle.rules.specs.Effects.{words, nameChanges, unnameChanges, createChanges, linkChanges, unnamedChanges, unlinkChanges, removeChanges}
 use Rattle.rules.specs.declared.ids.Slot.{Slot}
 use Rattle.rules.specs.declared.request.Subject.{Subject}
-use Rattle.rules.specs.declared.decision.DirChange.{DirChange}
 use Rattle.rules.specs.declared.decision.Unnamed.{Unnamed}
 use Rattle.rules.specs.declared.decision.Unnamed.the-variants as unnamed
 use Rattle.preservation.proofs.Tests.{split, upd, upd2, Means, means-every, means-and, means-last, means-eq, means-not}
 use Rattle.preservation.proofs.Tables.{Tables, col, direntRow, fill, fileTo, bytesTo, fileRowTo}
-use Rattle.preservation.proofs.Sound.{All, Sound, SoundBut, openCount}
+use Rattle.preservation.proofs.Sound.{Sound, openCount}
 use Rattle.preservation.proofs.Words.{up-is, up-most, length-most, link-most, Columns, same-columns}
 use Rattle.preservation.proofs.Dirents.{placed}
 use Rattle.preservation.proofs.Link.{linked}

@@ -1,35 +1,32 @@
 -- A directory entry as it is written: its row, and when it may be added to a directory.
 use mathlib.Core.Path.{_≡_, refl, sym, ap, _∙_}
-use mathlib.Core.Bool.{Bool, true, false, cond, not, false≢true, true≢false}
-use mathlib.Core.List.{List, [], _∷_, _++_}
-use Prim.Native.Nat.{ℕ, zero, suc, _+_, _-_, _*_, _%_, _≤_, _<_}
+use mathlib.Core.Bool.{Bool, true, false, not, false≢true, true≢false}
+use mathlib.Core.List.{List, [], _∷_}
+use Prim.Native.Nat.{ℕ, zero, suc, _+_, _-_, _%_, _≤_, _<_}
 use native.Mathlib.Nat.{not-suc-le-zero}
 use native.Mathlib.Omega.{arith}
 use native.Mathlib.Decide.{decLt}
-use lib.Dec.{eqb, ltb}
+use lib.Dec.{ltb}
 use lib.ListN.{length, getD, drop, length-append, List·getD-append, List·getD-eq-default}
 use lib.Seq.{getD-append-add, getD-drop}
-use borrow.Author.Tests.{eqb-true, eq-eqb, ne-eqb, ltb-true, ltb-false, lt-ltb}
+use borrow.Author.Tests.{eqb-true, ltb-false}
 use Rattle.rules.specs.Layout.{SLOTS, DIRENT, DIRENTS, NAME, SLASH, KIND, DIRECTORY}
-use Rattle.rules.specs.Choice.{every, some, implies}
-use Rattle.rules.specs.Scan.{all, first}
-use Rattle.rules.specs.Store.{Store, view, shownOf}
+use Rattle.rules.specs.Store.{Store, view}
 use Rattle.rules.specs.Paths as paths
 use Rattle.rules.specs.Paths.{sameName, sameAt, isDots}
 use Rattle.rules.specs.Directories.{direntAt, direntSlot, isEmpty, isPadding, hasName, direntOf, padded, dirent}
 use Rattle.rules.specs.Sound.{nameSound, nameByteSound}
 use Rattle.rules.specs.Checks.{nameAbsent}
 use Rattle.rules.specs.declared.ids.Slot.{Slot}
-use Rattle.preservation.proofs.Tests.{split, Means, means-every, means-and, means-last, means-imp, means-or, means-eq, means-not, means-test, means-all}
-use Rattle.preservation.proofs.Tables.{Tables, direntRow}
+use Rattle.preservation.proofs.Tests.{means-every, means-and, means-last, means-imp, means-or, means-eq, means-not, means-test, means-all}
+use Rattle.preservation.proofs.Tables.{direntRow}
 use Rattle.preservation.proofs.Scans.{first-none}
 use Rattle.preservation.proofs.Sound.{validRow, sameRow}
-use Rattle.preservation.proofs.Create.{Name}
-use Rattle.preservation.proofs.Changes.{tablesOf, Sized}
+use Rattle.preservation.proofs.Changes.{tablesOf}
 use Rattle.preservation.proofs.Shown.{slot-row, sameRow-to, validRow-to, name-row}
 use Rattle.preservation.proofs.SoundStore.{SoundStore, agree}
 use Rattle.preservation.proofs.NameEffects.{Naming, rowOf}
-use Rattle.preservation.proofs.PathNames.{GoodBytes, GoodName}
+use Rattle.preservation.proofs.PathNames.{GoodName}
 
 -- ---- the 16 bytes
 

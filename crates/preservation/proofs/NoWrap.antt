@@ -1,16 +1,15 @@
 -- No counter of a sound store wraps, but for the version.
-use mathlib.Core.Path.{_≡_, refl, sym, subst, ap, _∙_}
-use mathlib.Core.Bool.{Bool, true, false, cond, not}
-use mathlib.Core.List.{List, [], _∷_}
-use Prim.Native.Nat.{ℕ, zero, suc, _+_, _-_, _≤_, _<_, max}
+use mathlib.Core.Path.{_≡_, subst}
+use mathlib.Core.Bool.{true, cond, not}
+use mathlib.Core.List.{List}
+use Prim.Native.Nat.{ℕ, _+_, _-_, _≤_, _<_}
 use native.Mathlib.Omega.{arith}
 use native.Mathlib.Decide.{ℕ-discrete}
 use lib.Dec.{eqb}
-use lib.ListN.{length}
 use borrow.Author.Tests.{eq-eqb, ne-eqb}
-use Rattle.rules.specs.Layout.{SLOTS, BLOCK, OPENS, DESCRIPTORS, LENGTH, LINKS, SLOT, OFFSET, REFERENCES}
+use Rattle.rules.specs.Layout.{SLOTS, BLOCK, OPENS, DESCRIPTORS, LENGTH, LINKS, OFFSET, REFERENCES}
 use Rattle.rules.specs.Scan.{repeat}
-use Rattle.rules.specs.Store.{Store, View, view, slot, subjectOf, up, plus}
+use Rattle.rules.specs.Store.{Store, view, subjectOf, up, plus}
 use Rattle.rules.specs.Sound.{sound}
 use Rattle.rules.specs.Calls.{Call}
 use Rattle.rules.specs.Checks.{held, sharing, shareOf}
@@ -27,7 +26,7 @@ use Rattle.preservation.specs.Claims.{word, PlainShare, PlainRead, Plain
 use Rattle.preservation.proofs.Words.{up-is, plus-is, length-most, link-most, references-most, offsets-most}
 use Rattle.preservation.proofs.Changes.{tablesOf}
 use Rattle.preservation.proofs.SoundStore.{SoundStore, means-sound}
-use Rattle.preservation.proofs.OpenEffects.{Caller, Opens, Holds, held-open}
+use Rattle.preservation.proofs.OpenEffects.{held-open}
 use Rattle.preservation.proofs.ForkEffects.{Sharing, sharing-some, sharing-start, shared-up}
 use Rattle.preservation.proofs.Granted.{Fit, granting, refusing, unlinking, Granting, nothing, opens, truncates, creates, unlinks, removes, links, changesBits, closes, stores, reads, seeks, duplicates, forks, exits, executes}
 use Rattle.preservation.proofs.Decided.{decide-fit}

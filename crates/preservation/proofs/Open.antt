@@ -1,17 +1,17 @@
 -- One descriptor and one open opened change: open, close.
-use mathlib.Core.Path.{_≡_, refl, sym, subst, ap, _∙_}
-use mathlib.Core.Bool.{Bool, true, false, not, cond, _&&_, _||_, false≢true}
-use Prim.Native.Nat.{ℕ, zero, suc, _+_, _-_, _*_, _/_, _%_, _≤_, _<_}
+use mathlib.Core.Path.{_≡_, refl, sym}
+use mathlib.Core.Bool.{Bool, true, false, _&&_}
+use Prim.Native.Nat.{ℕ, _+_, _-_, _≤_, _<_}
 use native.Mathlib.Omega.{arith}
-use mathlib.Core.List.{List, [], _∷_}
+use mathlib.Core.List.{[], _∷_}
 use lib.ListN.{getD}
-use lib.Dec.{eqb, ltb, leb}
-use borrow.Author.Tests.{eqb-true, eqb-false, eq-eqb, ne-eqb, lt-ltb, le-ltb, ltb-true}
-use Rattle.preservation.proofs.Tests.{split, upd, upd2, updRow, upd-elim, upd-same, upd-other}
+use lib.Dec.{eqb, ltb}
+use borrow.Author.Tests.{eq-eqb, ne-eqb, lt-ltb}
+use Rattle.preservation.proofs.Tests.{split, upd, updRow, upd-elim}
 use Rattle.preservation.proofs.Sums.{ind}
-use Rattle.preservation.proofs.Tables.{Tables, col, direntRow}
-use Rattle.preservation.proofs.Sound.{All, Sound, SoundBut, OpenFile, Process, holderCount, openCount}
-use Rattle.preservation.proofs.Change.{ind-eq, ind-ne, holders-to, holders-at, openCount-change, open-used}
+use Rattle.preservation.proofs.Tables.{Tables, col}
+use Rattle.preservation.proofs.Sound.{All, Sound, SoundBut, OpenFile, openCount}
+use Rattle.preservation.proofs.Change.{ind-eq, ind-ne, holders-to, openCount-change, open-used}
 use Rattle.preservation.proofs.Small.{Held, held}
 use Rattle.preservation.proofs.Link.{loosen, tighten}
 use Rattle.preservation.proofs.Remake.{openCount-at}

@@ -1,17 +1,17 @@
 -- Effects on open files: open, truncate, duplicate, seek and read, write; change bits; execute. Each leaves sound tables.
-use mathlib.Core.Path.{_≡_, refl, sym, ap, _∙_, fun-ext}
-use mathlib.Core.Bool.{Bool, true, false, cond}
-use mathlib.Core.List.{List, [], _∷_, _++_}
-use Prim.Native.Nat.{ℕ, zero, suc, _+_, _-_, _*_, _≤_, _<_, max}
+use mathlib.Core.Path.{_≡_, refl, ap, _∙_}
+use mathlib.Core.Bool.{cond}
+use mathlib.Core.List.{List, [], _∷_}
+use Prim.Native.Nat.{ℕ, _+_, _-_, _≤_, _<_, max}
 use native.Mathlib.Omega.{arith}
 use native.Mathlib.Decide.{decLt}
-use lib.Dec.{eqb, ltb}
+use lib.Dec.{ltb}
 use lib.ListN.{length, getD}
-use borrow.Author.Tests.{eq-eqb, ne-eqb, lt-ltb, le-ltb}
-use Rattle.rules.specs.Layout.{SLOTS, BLOCK, OPENS, PROCESSES, DESCRIPTORS, FILE, OPEN, OWN, BITS-MAX, LABEL-MAX, MODE-MAX, WORD-MAX}
-use Rattle.rules.specs.Layout.{KIND, OWNER, BITS, LABEL, LENGTH, LINKS, VERSION, SLOT, MODE, OFFSET, REFERENCES, USED, USER, DOMAIN, FREE, PLAIN}
+use borrow.Author.Tests.{eq-eqb, lt-ltb, le-ltb}
+use Rattle.rules.specs.Layout.{SLOTS, BLOCK, OPENS, PROCESSES, DESCRIPTORS, BITS-MAX, LABEL-MAX, MODE-MAX}
+use Rattle.rules.specs.Layout.{KIND, OWNER, BITS, LABEL, LENGTH, LINKS, VERSION, SLOT, OFFSET, REFERENCES, USED, DOMAIN, FREE, PLAIN}
 use Rattle.rules.specs.Store as rules
-use Rattle.rules.specs.Store.{Store, change, View, view, up, plus, zeros, applyAll, fileWord, openWord, procWord}
+use Rattle.rules.specs.Store.{Store, change, view, up, zeros, applyAll, fileWord, openWord, procWord}
 use Rattle.rules.specs.DecidePaths.{truncated}
 use Rattle.rules.specs.Effects.{words, openChanges, truncateChanges, duplicateChanges, storeChanges}
 use Rattle.rules.specs.declared.ids.Slot.{Slot}
@@ -19,9 +19,9 @@ use Rattle.rules.specs.declared.ids.Pid.{Pid}
 use Rattle.rules.specs.declared.ids.Fd.{Fd}
 use Rattle.rules.specs.declared.decision.NewOpen.{NewOpen}
 use Rattle.rules.specs.declared.decision.Placement.{Placement}
-use Rattle.preservation.proofs.Tests.{split, upd, upd2, updRow}
-use Rattle.preservation.proofs.Tables.{Tables, col, fileTo, bytesTo, openTo, procTo, openRowTo}
-use Rattle.preservation.proofs.Sound.{All, Sound, SoundBut}
+use Rattle.preservation.proofs.Tests.{upd}
+use Rattle.preservation.proofs.Tables.{Tables, fileTo, bytesTo, openTo, procTo}
+use Rattle.preservation.proofs.Sound.{Sound}
 use Rattle.preservation.proofs.Words.{up-is, up-most, references-most}
 use Rattle.preservation.proofs.Small.{held, Held, seek-sound, bits-sound}
 use Rattle.preservation.proofs.Remake.{remade}
@@ -30,7 +30,7 @@ use Rattle.preservation.proofs.Plain.{wrote, wrote-sound, cut-sound}
 use Rattle.preservation.proofs.Open.{openRow, handed, open-sound}
 use Rattle.preservation.proofs.Processes.{shared, shared-sound, execute-sound}
 use Rattle.preservation.proofs.Table.{overRow, upd-twice, length-zeros, getD-zeros}
-use Rattle.preservation.proofs.Changes.{tablesOf, Sized, Has, has-fileWord, has-clearTo, has-bytesTo, has-openWord, has-openRow, has-openTo, has-descTo, has-procWord}
+use Rattle.preservation.proofs.Changes.{tablesOf, Has, has-fileWord, has-clearTo, has-bytesTo, has-openWord, has-openRow, has-openTo, has-descTo, has-procWord}
 use Rattle.preservation.proofs.SoundStore.{SoundStore, kept}
 
 -- store t has the tables m, and they are sound

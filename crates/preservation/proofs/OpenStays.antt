@@ -1,22 +1,20 @@
 -- A file that stays open stays plain, is not given out as new, and keeps its bytes when it loses its last name.
 use mathlib.Core.Path.{_≡_, refl, sym, ap, _∙_}
-use mathlib.Core.Bool.{Bool, true, false, cond}
+use mathlib.Core.Bool.{true}
 use mathlib.Core.Logic.{_⊎_, inl, inr}
 use mathlib.Core.List.{List, [], _∷_}
-use Prim.Native.Nat.{ℕ, zero, suc, _+_, _-_, _≤_, _<_}
+use Prim.Native.Nat.{ℕ, _-_, _<_}
 use native.Mathlib.Omega.{arith}
-use lib.Dec.{eqb, ltb}
-use lib.ListN.{length, getD}
+use lib.Dec.{ltb}
+use lib.ListN.{length}
 use lib.Seq.{ext-getD}
 use borrow.Author.Tests.{ne-eqb}
-use Rattle.rules.specs.Layout.{SLOTS, BLOCK, DIRENTS, OPENS, KIND, LENGTH, SLOT, REFERENCES, FREE, PLAIN, DIRECTORY}
-use Rattle.rules.specs.Store.{Store, View, view, slot, subjectOf, applyAll, block, tab}
+use Rattle.rules.specs.Layout.{SLOTS, BLOCK, OPENS, KIND, LENGTH, SLOT, REFERENCES, FREE, PLAIN, DIRECTORY}
+use Rattle.rules.specs.Store.{Store, view, slot, applyAll, block}
 use Rattle.rules.specs.Refusals.{GRANTED, refusalNumber}
-use Rattle.rules.specs.Rights.{WRITE}
-use Rattle.rules.specs.Paths.{names, lastName}
-use Rattle.rules.specs.Sound.{policySound, sound, isOpen, openBut, isOn}
+use Rattle.rules.specs.Sound.{policySound, sound, openBut, isOn}
 use Rattle.rules.specs.Calls.{Call, operationOf, operation, wellFormed, formOk}
-use Rattle.rules.specs.Checks.{inUse, nameAbsent, freeSlot}
+use Rattle.rules.specs.Checks.{inUse, freeSlot}
 use Rattle.rules.specs.DecidePaths.{decideCreate, createIn, createRoom}
 use Rattle.rules.specs.Decide.{decideOwn, decide}
 use Rattle.rules.specs.Effects.{createChanges, nameChanges, carryOut}
@@ -37,8 +35,7 @@ use Rattle.rules.specs.declared.decision.Output.the-variants as output
 use Rattle.rules.specs.declared.decision.Effect.{Effect}
 use Rattle.rules.specs.declared.decision.Effect.the-variants as effect
 use Rattle.rules.specs.declared.decision.Decision.{Decision}
-use Rattle.preservation.specs.Claims.{word, IsOpen, isGranted, OpenAfterEach, GivesOut, PlainAfterEach}
-use Rattle.preservation.proofs.Tests.{split}
+use Rattle.preservation.specs.Claims.{word, IsOpen, OpenAfterEach, GivesOut, PlainAfterEach}
 use Rattle.preservation.proofs.Tables.{Tables}
 use Rattle.preservation.proofs.Scans.{any-found}
 use Rattle.preservation.proofs.Remake.{remade}
@@ -47,10 +44,10 @@ use Rattle.preservation.proofs.Shown.{block-length, block-byte}
 use Rattle.preservation.proofs.Counted.{means-on}
 use Rattle.preservation.proofs.SoundStore.{SoundStore, means-sound}
 use Rattle.preservation.proofs.OpenEffects.{Leaves, Caller}
-use Rattle.preservation.proofs.NameEffects.{Names, unlinkedTables, Unnaming, keeps, frees, unlink-leaves, unnaming-is}
+use Rattle.preservation.proofs.NameEffects.{unlinkedTables, Unnaming, keeps, frees, unlink-leaves, unnaming-is}
 use Rattle.preservation.proofs.PathNames.{below-root}
 use Rattle.preservation.proofs.Walked.{WalkFit, reached, stopped}
-use Rattle.preservation.proofs.Granted.{Fit, granting, refusing, need-fit, after-fit, Unlinking, unlinking, unlinks, slot-free, in-use, plain-small}
+use Rattle.preservation.proofs.Granted.{Fit, granting, refusing, need-fit, after-fit, Unlinking, unlinking, slot-free, in-use, plain-small}
 use Rattle.preservation.proofs.Decided.{unlink-fit}
 use Rattle.preservation.proofs.Kept.{step-sound}
 

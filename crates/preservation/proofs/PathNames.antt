@@ -1,19 +1,19 @@
 -- The names of a well formed path: at most 8, each of 1 to 14 bytes other than 0 and slash, and neither "." nor "..".
-use mathlib.Core.Path.{_≡_, refl, sym, ap, _∙_}
+use mathlib.Core.Path.{_≡_, refl, sym, _∙_}
 use mathlib.Core.Bool.{Bool, true, false, cond, not, false≢true}
 use mathlib.Core.List.{List, [], _∷_}
-use Prim.Native.Nat.{ℕ, zero, suc, _+_, _-_, _*_, _≤_, _<_}
+use Prim.Native.Nat.{ℕ, zero, suc, _+_, _-_, _≤_, _<_}
 use native.Mathlib.Nat.{not-suc-le-zero}
 use native.Mathlib.Omega.{arith}
 use lib.Dec.{eqb, leb}
-use lib.ListN.{length, getD, take, drop, length-drop, List·getD-eq-default}
+use lib.ListN.{length, getD, take, drop, length-drop}
 use lib.Seq.{length-take-le, getD-take, getD-drop}
-use borrow.Author.Tests.{eqb-true, eqb-false, leb-true}
+use borrow.Author.Tests.{eqb-true}
 use Rattle.rules.specs.Layout.{NAME, NAMES, SLASH}
 use Rattle.rules.specs.Choice.{every}
-use Rattle.rules.specs.Paths.{Name, isSlash, notSlash, notZero, span, skip, nextName, nameEnd, firstNames, names, isDots, nameOk, namesOk, noZero, shapeOk, endOk, pathOk, isRoot, parentNames, lastName}
+use Rattle.rules.specs.Paths.{Name, isSlash, notSlash, notZero, span, skip, nextName, nameEnd, firstNames, names, isDots, nameOk, namesOk, noZero, shapeOk, endOk, pathOk, isRoot, lastName}
 use Rattle.rules.specs.Calls.{pathBelowRoot}
-use Rattle.preservation.proofs.Tests.{split, Means, means-every, means-and, means-last, means-le, means-not, means-test}
+use Rattle.preservation.proofs.Tests.{split, means-every, means-and, means-last, means-le, means-not, means-test}
 
 -- ---- spans
 

@@ -1,13 +1,11 @@
 -- A plain file's bytes, length and version change: write, and cut.
-use mathlib.Core.Path.{_≡_, refl, sym, subst, ap, _∙_, fun-ext}
-use mathlib.Core.Bool.{Bool, true, false, not, cond, _&&_, _||_, false≢true}
-use Prim.Native.Nat.{ℕ, zero, suc, _+_, _-_, _*_, _/_, _%_, _≤_, _<_}
+use mathlib.Core.Path.{_≡_, refl}
+use Prim.Native.Nat.{ℕ, _-_, _≤_, _<_}
 use native.Mathlib.Omega.{arith}
-use lib.Dec.{eqb, ltb, leb}
-use borrow.Author.Tests.{eqb-true, eqb-false, eq-eqb, ne-eqb, lt-ltb, le-ltb, ltb-true}
-use Rattle.preservation.proofs.Tests.{split, upd, upd2, updRow, upd-elim, upd-same, upd-other}
-use Rattle.preservation.proofs.Tables.{Tables, col, direntRow, rowsOf, fileTo, bytesTo}
-use Rattle.preservation.proofs.Sound.{All, Sound, SoundBut, File, Block, naming}
+use borrow.Author.Tests.{ne-eqb}
+use Rattle.preservation.proofs.Tests.{split, upd}
+use Rattle.preservation.proofs.Tables.{Tables, col, direntRow, fileTo, bytesTo}
+use Rattle.preservation.proofs.Sound.{All, SoundBut, naming}
 use Rattle.preservation.proofs.Change.{file-used}
 use Rattle.preservation.proofs.Remake.{naming-same, remade}
 use Rattle.preservation.proofs.Create.{fileRow}

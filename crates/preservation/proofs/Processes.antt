@@ -1,22 +1,19 @@
 -- Processes: execute, fork, exit.
-use mathlib.Core.Path.{_≡_, refl, sym, subst, ap, _∙_}
-use mathlib.Core.Bool.{Bool, true, false, not, cond, _&&_, _||_, false≢true}
-use Prim.Native.Nat.{ℕ, zero, suc, _+_, _-_, _*_, _/_, _%_, _≤_, _<_}
-use native.Mathlib.Nat.{not-suc-le-zero}
+use mathlib.Core.Path.{_≡_, refl}
+use mathlib.Core.Bool.{true}
+use Prim.Native.Nat.{ℕ, _+_, _-_, _≤_, _<_}
 use native.Mathlib.Omega.{arith}
-use native.Mathlib.Decide.{ℕ-discrete}
-use mathlib.Core.List.{List, [], _∷_}
+use mathlib.Core.List.{[], _∷_}
 use lib.ListN.{getD}
-use lib.Dec.{eqb, ltb, leb}
-use borrow.Author.Tests.{eqb-true, eqb-false, eq-eqb, ne-eqb, lt-ltb, le-ltb, ltb-true}
-use Rattle.preservation.proofs.Tests.{split, upd, upd2, updRow, upd-elim, upd-same, upd-other}
-use Rattle.preservation.proofs.Sums.{ind}
-use Rattle.preservation.proofs.Tables.{Tables, col, direntRow, procTo, procRowTo}
-use Rattle.preservation.proofs.Sound.{All, Sound, SoundBut, OpenFile, Process, openCount}
-use Rattle.preservation.proofs.Change.{ind-eq, ind-ne, open-used, updRow-same, updRow-other, openCount-refs}
+use lib.Dec.{ltb}
+use borrow.Author.Tests.{lt-ltb}
+use Rattle.preservation.proofs.Tests.{split, upd}
+use Rattle.preservation.proofs.Tables.{Tables, procTo, procRowTo}
+use Rattle.preservation.proofs.Sound.{All, SoundBut, Process}
+use Rattle.preservation.proofs.Change.{ind-eq, ind-ne, open-used}
 use Rattle.preservation.proofs.Small.{Held, held}
 use Rattle.preservation.proofs.Open.{handed, handed-sound, openCount-row}
-use Rattle.rules.specs.Layout.{SLOTS, REFERENCES, USED, USER-MAX}
+use Rattle.rules.specs.Layout.{REFERENCES, USED, USER-MAX}
 
 -- ---- the words of process p
 
@@ -84,4 +81,3 @@ shared-sound x m h p j q k e hp hj hq hk u d f =
   where
     o : Held m e
     o = held x m h p j e hp hj d
-

@@ -1,8 +1,8 @@
 -- What a walk from the root says of depths.
-use mathlib.Core.Path.{_≡_, refl, sym, subst, ap, _∙_}
-use Prim.Native.Nat.{ℕ, zero, suc, _+_, _≤_, _<_}
+use mathlib.Core.Path.{_≡_, ap, _∙_}
+use Prim.Native.Nat.{ℕ, suc, _<_}
 use native.Mathlib.Omega.{arith}
-use Rattle.preservation.proofs.Tables.{Tables, col, direntRow}
+use Rattle.preservation.proofs.Tables.{Tables, direntRow}
 use Rattle.preservation.proofs.Sound.{Sound}
 use Rattle.rules.specs.Layout.{SLOTS, KIND, FREE, DIRECTORY}
 

@@ -1,17 +1,15 @@
 -- A slot that no direntRow links and no opened is on gets another record and other bytes: a new file before it has its name, and a freed slot.
-use mathlib.Core.Path.{_≡_, refl, sym, subst, ap, _∙_}
-use mathlib.Core.Bool.{Bool, true, false, not, cond, _&&_, _||_, false≢true}
-use Prim.Native.Nat.{ℕ, zero, suc, _+_, _-_, _*_, _/_, _%_, _≤_, _<_}
+use mathlib.Core.Path.{_≡_, refl, sym, ap, _∙_}
+use mathlib.Core.Bool.{Bool, true, false, _&&_}
+use Prim.Native.Nat.{ℕ, _+_, _-_, _*_, _<_}
 use native.Mathlib.Omega.{arith}
-use lib.Dec.{eqb, ltb, leb}
-use borrow.Author.Tests.{eqb-true, eqb-false, eq-eqb, ne-eqb, lt-ltb, le-ltb, ltb-true}
-use Rattle.preservation.proofs.Tests.{split, upd, upd2, updRow, upd-elim, upd-same, upd-other}
+use lib.Dec.{eqb, ltb}
+use borrow.Author.Tests.{eqb-true, eq-eqb, ne-eqb, lt-ltb}
+use Rattle.preservation.proofs.Tests.{split, upd, upd-other}
 use Rattle.preservation.proofs.Sums.{ind, sum2-same, sum-at}
-use Rattle.preservation.proofs.Tables.{Tables, col, direntRow, rowsOf, fill}
-use Rattle.preservation.proofs.Sound.{All, Sound, SoundBut, File, Block, Dirent, Directory, Depths, OpenFile, naming, linkCount, nameCount, openCount}
-use Rattle.preservation.proofs.Change.{ind-eq, ind-ne, file-used}
-use Rattle.preservation.proofs.Dirents.{naming-at, used-at, used-none}
-use Rattle.preservation.proofs.Link.{loosen, tighten}
+use Rattle.preservation.proofs.Tables.{Tables, col, direntRow, rowsOf}
+use Rattle.preservation.proofs.Sound.{All, SoundBut, File, Block, Directory, Depths, OpenFile, naming, linkCount, openCount}
+use Rattle.preservation.proofs.Dirents.{naming-at, used-none}
 use Rattle.rules.specs.Layout.{SLOTS, KIND, LINKS, SLOT, REFERENCES, DIRECTORY}
 
 -- ---- a group over other columns

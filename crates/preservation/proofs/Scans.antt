@@ -1,14 +1,13 @@
 -- The scans of the rules: what they find, and counts and totals as sums.
 use mathlib.Core.Path.{_≡_, refl, sym, ap, _∙_}
-use mathlib.Core.Bool.{Bool, true, false, cond, false≢true, true≢false}
+use mathlib.Core.Bool.{Bool, true, false, false≢true, true≢false}
 use mathlib.Core.Logic.{_⊎_, inl, inr}
 use Prim.Native.Nat.{ℕ, zero, suc, _+_, _-_, _≤_, _<_}
-use native.Mathlib.Nat.{not-suc-le-zero, eq-or-lt-of-le}
-use native.Mathlib.Numerals.{add-one}
+use native.Mathlib.Nat.{eq-or-lt-of-le}
 use native.Mathlib.Omega.{arith}
-use native.Mathlib.Decide.{decLt, ℕ-discrete}
-use Rattle.rules.specs.Scan.{turns, fold, all, any, count, total, first}
-use Rattle.rules.proofs.Scans.{all-at, all-of, any-yes, any-no, any-done, count-yes, count-no, count-done, total-next, total-done, first-yes, first-no, first-done}
+use native.Mathlib.Decide.{decLt}
+use Rattle.rules.specs.Scan.{any, count, total, first}
+use Rattle.rules.proofs.Scans.{any-yes, any-no, any-done, count-yes, count-no, count-done, total-next, total-done, first-yes, first-no, first-done}
 use Rattle.preservation.proofs.Sums.{sum, ind, sum-same, sum-first}
 
 -- ---- first: k numbers are left

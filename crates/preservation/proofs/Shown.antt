@@ -1,16 +1,16 @@
 -- What the view shows of a slot, as bytes of the tables; and the directory entries of a list of bytes as rows.
-use mathlib.Core.Path.{_≡_, refl, sym, ap, _∙_}
-use mathlib.Core.Bool.{Bool, true, false, cond, not, false≢true, true≢false}
+use mathlib.Core.Path.{_≡_, refl, sym, _∙_}
+use mathlib.Core.Bool.{Bool, true, false, cond, not, false≢true}
 use mathlib.Core.List.{List, [], _∷_}
 use Prim.Native.Nat.{ℕ, zero, suc, _+_, _-_, _*_, _≤_, _<_}
 use native.Mathlib.Omega.{arith}
 use native.Mathlib.Decide.{decLt}
-use lib.Dec.{eqb, ltb, leb}
-use lib.ListN.{length, getD, take, drop, length-drop, List·getD-eq-default}
+use lib.Dec.{eqb, ltb}
+use lib.ListN.{length, getD, drop, length-drop, List·getD-eq-default}
 use lib.Seq.{length-take-le, getD-take, getD-drop}
 use borrow.Author.Tests.{eqb-true, eq-eqb, ne-eqb}
-use Rattle.rules.specs.Layout.{SLOTS, BLOCK, DIRENT, DIRENTS, NAME, POINT, FILE, KIND, LENGTH, FREE, PLAIN, DIRECTORY}
-use Rattle.rules.specs.Choice.{every, some, implies}
+use Rattle.rules.specs.Layout.{SLOTS, BLOCK, DIRENT, NAME, POINT, FILE, KIND, LENGTH, FREE, PLAIN}
+use Rattle.rules.specs.Choice.{every, some}
 use Rattle.rules.specs.Scan.{all}
 use Rattle.rules.specs.Store.{Tree, tab, block, hidden, shownOf}
 use Rattle.rules.specs.Paths.{sameName, sameAt, isDots}
@@ -18,7 +18,7 @@ use Rattle.rules.specs.Directories.{direntAt, direntSlot, isEmpty, isPadding}
 use Rattle.rules.specs.Sound.{allZero, nameByteSound, nameSound, usedSound, direntSound}
 use Rattle.rules.proofs.Scans.{all-at, all-of}
 use Rattle.preservation.proofs.Tests.{split, Means, means-every, means-and, means-last, means-cond, means-eq, means-lt, means-not, means-test, means-within, means-same}
-use Rattle.preservation.proofs.Tables.{col, rowsOf, direntRow}
+use Rattle.preservation.proofs.Tables.{col}
 use Rattle.preservation.proofs.Table.{tab-in, tab-out}
 use Rattle.preservation.proofs.Sound.{All, Dirent, validRow, validByte, sameRow}
 
@@ -94,7 +94,7 @@ validRow-to r r′ e = rw (
   e 0 (omega arith),
   all-same (validByte r) (validByte r′) NAME (validByte-to r r′ e),
   sameRow-to r r′ (λ k. getD (POINT ∷ []) k 0) (λ k. getD (POINT ∷ []) k 0) e (λ k _. refl),
-  sameRow-to r r′ (λ k. getD (POINT ∷ POINT ∷ []) k 0) (λ k. getD (POINT ∷ POINT ∷ []) k 0) e (λ k _. refl)
+  sameRow-to r r′ (λ k. getD (POINT ∷ POINT ∷ []) k 0) (λ k. getD (POINT ∷ POINT ∷ []) k 0) e (λ k _. refl),
 )
 
 pub name-row : (n : List ℕ) → nameSound n ≡ validRow (λ k. getD n k 0)

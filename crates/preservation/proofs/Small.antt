@@ -1,14 +1,10 @@
 -- Changes of one row: duplicate, seek, change bits.
-use mathlib.Core.Path.{_≡_, refl, sym, subst, ap, _∙_}
-use mathlib.Core.Bool.{Bool, true, false, not, cond, _&&_, _||_}
-use Prim.Native.Nat.{ℕ, zero, suc, _+_, _*_, _/_, _%_, _≤_, _<_}
+use mathlib.Core.Path.{_≡_, refl}
+use Prim.Native.Nat.{ℕ, _+_, _≤_, _<_}
 use native.Mathlib.Omega.{arith}
-use lib.Dec.{eqb, ltb, leb}
-use borrow.Author.Tests.{eqb-true, eqb-false, eq-eqb, ne-eqb, lt-ltb, ltb-true}
-use Rattle.preservation.proofs.Tests.{split, upd, upd2, updRow, upd-elim}
-use Rattle.preservation.proofs.Sums.{ind}
-use Rattle.preservation.proofs.Tables.{Tables, col, direntRow, fileTo, openTo, descTo}
-use Rattle.preservation.proofs.Sound.{Sound, SoundBut, File, Block, Dirent, Directory, Depths, OpenFile, Process, holderCount, openCount}
+use Rattle.preservation.proofs.Tests.{split, upd-elim}
+use Rattle.preservation.proofs.Tables.{Tables, col, fileTo, openTo, descTo}
+use Rattle.preservation.proofs.Sound.{SoundBut}
 use Rattle.preservation.proofs.Change.{ind-eq, ind-ne, holders-to, holders-at, openCount-refs, file-used, open-used}
 use Rattle.rules.specs.Layout.{KIND, BITS, SLOT, OFFSET, REFERENCES, USED, FREE}
 

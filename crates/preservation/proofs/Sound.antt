@@ -1,11 +1,11 @@
 -- What the soundness test means: a record of statements about the tables as functions, one for each group of the paper's sentences. A group that
 -- speaks of one row is a record over that row's words; a group that counts, or follows names, is over just the columns that it reads.
 use mathlib.Core.Path.{_≡_}
-use mathlib.Core.Bool.{Bool, true, false, not, cond, _&&_}
+use mathlib.Core.Bool.{Bool, true, not, cond, _&&_}
 use Prim.Native.Nat.{ℕ, zero, suc, _+_, _*_, _≤_, _<_}
-use mathlib.Core.List.{List, [], _∷_}
+use mathlib.Core.List.{[], _∷_}
 use lib.ListN.{getD}
-use lib.Dec.{eqb, ltb, leb}
+use lib.Dec.{eqb, ltb}
 use Rattle.rules.specs.Choice.{every, some, implies}
 use Rattle.rules.specs.Scan.{all, first}
 use Rattle.rules.specs.Layout.{SLOTS, BLOCK, DIRENT, DIRENTS, OPENS, PROCESSES, DESCRIPTORS, NAME, NAMES, SLASH, POINT}

@@ -1,25 +1,23 @@
 -- A store passes the soundness test just where its tables have the right sizes and are `Sound`.
 use mathlib.Core.Path.{_≡_, refl, sym, ap, _∙_}
-use mathlib.Core.Bool.{Bool, true, false, cond, not, false≢true}
+use mathlib.Core.Bool.{Bool, true, false, cond, false≢true}
 use mathlib.Core.List.{List, [], _∷_}
-use Prim.Native.Nat.{ℕ, zero, suc, _+_, _-_, _*_, _≤_, _<_}
+use Prim.Native.Nat.{ℕ, _+_, _-_, _*_, _≤_, _<_}
 use native.Mathlib.Omega.{arith}
 use native.Mathlib.Decide.{decLt, ℕ-discrete}
-use lib.Dec.{eqb, ltb, leb}
+use lib.Dec.{ltb}
 use lib.ListN.{length, getD, drop}
 use lib.Seq.{getD-drop}
-use borrow.Author.Tests.{eq-eqb, ne-eqb, lt-ltb}
-use Rattle.rules.specs.Layout.{SLOTS, BLOCK, DIRENT, DIRENTS, NAME, NAMES, OPENS, PROCESSES, FILE, OPEN}
+use borrow.Author.Tests.{lt-ltb}
+use Rattle.rules.specs.Layout.{SLOTS, BLOCK, DIRENT, DIRENTS, NAMES, OPENS, PROCESSES, FILE, OPEN}
 use Rattle.rules.specs.Layout.{KIND, OWNER, BITS, LABEL, LENGTH, LINKS, VERSION, SLOT, MODE, OFFSET, REFERENCES, USED, USER, DOMAIN, FREE, PLAIN, DIRECTORY}
-use Rattle.rules.specs.Choice.{every, some}
-use Rattle.rules.specs.Scan.{all}
-use Rattle.rules.specs.Store.{Store, Tree, View, view, tree, tab, block, shownOf, slot}
+use Rattle.rules.specs.Choice.{some}
+use Rattle.rules.specs.Store.{Store, view, tab, block, shownOf}
 use Rattle.rules.specs.Directories.{direntAt}
-use Rattle.rules.specs.Walk.{isDirectory, isPlain}
-use Rattle.rules.specs.Sound.{sizesSound, recordSound, allZero, direntsSound, linksSound, climbs, directorySound, isOpen, plainSound, kindSound, slotSound, openSound, procSound, tablesSound, storeSound, policySound, sound}
+use Rattle.rules.specs.Sound.{sizesSound, allZero, direntsSound, linksSound, directorySound, isOpen, plainSound, kindSound, slotSound, openSound, procSound, tablesSound, storeSound, policySound, sound}
 use Rattle.preservation.proofs.Tests.{Means, means-every, means-and, means-last, means-cond, means-choice, means-or, means-eq, means-lt, means-le, means-test, means-all, means-within, means-same}
 use Rattle.preservation.proofs.Tables.{Tables, col, direntRow}
-use Rattle.preservation.proofs.Sound.{All, Sound, SoundBut, File, Block, Directory, Depths, OpenFile, Process, nameCount, linkCount, depthWithin, openCount, holderCount}
+use Rattle.preservation.proofs.Sound.{All, Sound, File, Block, Directory, OpenFile, Process, nameCount, linkCount, depthWithin, openCount, holderCount}
 use Rattle.preservation.proofs.Tree.{depths-from, depth-is}
 use Rattle.preservation.proofs.Changes.{tablesOf, Sized, Has}
 use Rattle.preservation.proofs.Shown.{block-length, block-byte, shown-whole, shown-plain, means-zeros}
@@ -180,8 +178,16 @@ module _ (s : Store) (z : Sized s) where
           omega arith
 
       slots : (d : ℕ) → d < SLOTS → OfSlot d
-      slots d hd = (h .files d hd, (((λ q. rw q (h .root-links)), h .links d hd), ((λ e. ((h .dirs d hd e, (h .lengths d hd e, b .tail-zero e)), (once d hd e, deep d hd e))),
-          λ n. ((λ e. (b .length-most n, (h .alive d hd (λ q. omega (arith, hd)) e, b .past-zero n))), λ o c hc _. b .past-zero n c hc (free n o)))))
+      slots d hd = (
+        h .files d hd,
+        (
+          ((λ q. rw q (h .root-links)), h .links d hd),
+          (
+            (λ e. ((h .dirs d hd e, (h .lengths d hd e, b .tail-zero e)), (once d hd e, deep d hd e))),
+            λ n. ((λ e. (b .length-most n, (h .alive d hd (λ q. omega (arith, hd)) e, b .past-zero n))), λ o c hc _. b .past-zero n c hc (free n o)),
+          ),
+        ),
+      )
         where
           b : Block (file d KIND) (file d LENGTH) (tab BLOCK (s .contents) d)
           b = h .blocks d hd

@@ -1,8 +1,7 @@
 -- The store as tables: five functions of a row and a column. All of `Sound` is said of these, so no proof about it sees a list or an index.
-use mathlib.Core.Path.{_≡_, refl, sym, subst, ap}
-use mathlib.Core.Bool.{Bool, true, false, not, cond, _&&_, _||_}
-use Prim.Native.Nat.{ℕ, zero, suc, _+_, _*_, _/_, _%_, _≤_, _<_}
-use lib.Dec.{eqb, ltb, leb}
+use mathlib.Core.Bool.{cond}
+use Prim.Native.Nat.{ℕ, _+_, _*_, _/_, _%_}
+use lib.Dec.{eqb, ltb}
 use Rattle.preservation.proofs.Tests.{upd, upd2, updRow}
 
 -- As in the view: the files' records, the open files, the processes' own words and their descriptors, each by row and named column. `byte` is

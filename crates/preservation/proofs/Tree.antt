@@ -1,17 +1,16 @@
 -- The tree: the depth that the test computes, and the depths of the record.
-use mathlib.Core.Path.{_≡_, refl, sym, subst, ap, _∙_}
-use mathlib.Core.Bool.{Bool, true, false, not, cond, _&&_, _||_, false≢true}
-use Prim.Native.Nat.{ℕ, zero, suc, _+_, _-_, _*_, _/_, _%_, _≤_, _<_}
+use mathlib.Core.Path.{_≡_, refl, sym, ap, _∙_}
+use mathlib.Core.Bool.{true}
+use Prim.Native.Nat.{ℕ, zero, suc, _-_, _≤_, _<_}
 use native.Mathlib.Nat.{not-suc-le-zero}
 use native.Mathlib.Omega.{arith}
-use native.Mathlib.Decide.{decLt, ℕ-discrete}
-use lib.Dec.{eqb, ltb, leb}
-use borrow.Author.Tests.{eqb-true, eqb-false, eq-eqb, ne-eqb, lt-ltb, le-ltb, ltb-true, ltb-false}
+use native.Mathlib.Decide.{ℕ-discrete}
+use lib.Dec.{eqb, ltb}
+use borrow.Author.Tests.{eqb-true, eq-eqb, ne-eqb, lt-ltb, ltb-true}
 use Rattle.preservation.proofs.Tests.{split, and-left, and-right}
 use Rattle.preservation.proofs.Scans.{first-is}
-use Rattle.preservation.proofs.Sums.{ind, count, count2, sum-some, Some, sum2-some, Some2, sum2-rows, ind-more, sum-at}
+use Rattle.preservation.proofs.Sums.{ind, count, sum-some, Some, sum2-some, Some2, sum2-rows, ind-more, sum-at}
 use Rattle.preservation.proofs.Sound.{All, Depths, naming, linkCount, parent, depthWithin}
-use Rattle.preservation.proofs.Change.{ind-eq}
 use Rattle.rules.specs.Layout.{SLOTS, DIRECTORY}
 
 -- ---- the parent

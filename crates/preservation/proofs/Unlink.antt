@@ -1,17 +1,13 @@
 -- A name taken away: the direntRow becomes empty.
-use mathlib.Core.Path.{_≡_, refl, sym, subst, ap, _∙_}
-use mathlib.Core.Bool.{Bool, true, false, not, cond, _&&_, _||_, false≢true}
-use Prim.Native.Nat.{ℕ, zero, suc, _+_, _-_, _*_, _/_, _%_, _≤_, _<_}
+use mathlib.Core.Path.{_≡_, refl, sym, _∙_}
+use Prim.Native.Nat.{ℕ, suc, _-_, _≤_, _<_}
 use native.Mathlib.Omega.{arith}
-use lib.Dec.{eqb, ltb, leb}
-use borrow.Author.Tests.{eqb-true, eqb-false, eq-eqb, ne-eqb, lt-ltb, le-ltb, ltb-true}
-use Rattle.preservation.proofs.Tests.{split, upd, upd2, updRow, upd-elim, upd-same, upd-other}
-use Rattle.preservation.proofs.Sums.{ind}
-use Rattle.preservation.proofs.Tables.{Tables, col, direntRow, rowsOf, fill}
-use Rattle.preservation.proofs.Sound.{All, Sound, SoundBut, Dirent, Depths, linkCount}
+use Rattle.preservation.proofs.Tests.{split, upd, upd-other}
+use Rattle.preservation.proofs.Tables.{Tables, col, direntRow, fill}
+use Rattle.preservation.proofs.Sound.{SoundBut, Dirent, Depths}
 use Rattle.preservation.proofs.Change.{ind-eq, ind-ne}
 use Rattle.preservation.proofs.Dirents.{placed, Fits, placed-files, placed-blocks, placed-dirs, placed-lengths, placed-links, placed-other-slot, placed-here-slot, naming-at, used-at}
-use Rattle.preservation.proofs.Link.{loosen, ind-zero, ind-some}
+use Rattle.preservation.proofs.Link.{ind-some}
 use Rattle.rules.specs.Layout.{SLOTS, KIND, LENGTH, LINKS, DIRECTORY, WORD-MAX}
 
 abbrev pub noRow : ℕ → ℕ

@@ -1,19 +1,18 @@
 -- What a walk has found when it reaches a location.
-use mathlib.Core.Path.{_≡_, refl, sym, ap, _∙_}
-use mathlib.Core.Bool.{Bool, true, false, true≢false}
+use mathlib.Core.Path.{_≡_, refl, sym, _∙_}
+use mathlib.Core.Bool.{Bool, true, false}
 use mathlib.Core.List.{List, [], _∷_}
-use Prim.Native.Nat.{ℕ, zero, suc, _+_, _-_, _*_, _≤_, _<_}
+use Prim.Native.Nat.{ℕ, suc, _+_, _-_, _<_}
 use native.Mathlib.Omega.{arith}
-use native.Mathlib.Decide.{ℕ-discrete}
 use lib.Dec.{eqb, ltb}
-use lib.ListN.{length, getD, take}
+use lib.ListN.{length, getD}
 use lib.Seq.{length-take-le}
 use borrow.Author.Tests.{eqb-true, ltb-true}
 use Rattle.rules.specs.Layout.{SLOTS, DIRENTS, NAME, KIND, DIRECTORY}
 use Rattle.rules.specs.Store.{Store, view, slot}
-use Rattle.rules.specs.Paths.{Name, names, parentNames, lastName}
+use Rattle.rules.specs.Paths.{Name, names, parentNames}
 use Rattle.rules.specs.Directories.{direntOf, direntSlot, hasName}
-use Rattle.rules.specs.Walk.{isDirectory, bitsAllow, labelAllows, needAt, onReached, searched, entered, lookup, walk, ROOT, walkPath, enterParent, walkParent}
+use Rattle.rules.specs.Walk.{isDirectory, bitsAllow, labelAllows, needAt, onReached, searched, lookup, walk, ROOT, walkPath, enterParent, walkParent}
 use Rattle.rules.specs.Rights.{SEARCH}
 use Rattle.rules.specs.declared.ids.Slot.{Slot}
 use Rattle.rules.specs.declared.request.Subject.{Subject}
@@ -22,13 +21,13 @@ use Rattle.rules.specs.declared.decision.Location.{Location}
 use Rattle.rules.specs.declared.decision.Walk.{Walk}
 use Rattle.rules.specs.declared.decision.Walk.the-variants.{Reached, Stopped}
 use Rattle.preservation.proofs.Tests.{means-all, means-eq}
-use Rattle.preservation.proofs.Tables.{Tables, direntRow}
+use Rattle.preservation.proofs.Tables.{direntRow}
 use Rattle.preservation.proofs.Scans.{first-passes}
 use Rattle.preservation.proofs.Sound.{sameRow}
 use Rattle.preservation.proofs.Changes.{tablesOf}
 use Rattle.preservation.proofs.SoundStore.{SoundStore}
 use Rattle.preservation.proofs.NameEffects.{Names}
-use Rattle.preservation.proofs.PathNames.{GoodBytes, GoodName, GoodPath, Each, each-take}
+use Rattle.preservation.proofs.PathNames.{GoodName, GoodPath, Each, each-take}
 use Rattle.preservation.proofs.NewName.{slot-at, has-row}
 use Rattle.preservation.proofs.Reach.{Reach, root, down, reach-small}
 

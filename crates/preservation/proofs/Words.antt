@@ -1,18 +1,18 @@
 -- The words of sound tables are small, so that counters go up without wrapping; and tables that agree in every column are sound together.
-use mathlib.Core.Path.{_≡_, refl, sym, ap, _∙_, fun-ext}
-use mathlib.Core.Bool.{Bool, true, false, cond, not, _&&_}
-use mathlib.Core.List.{List, [], _∷_}
-use Prim.Native.Nat.{ℕ, zero, suc, _+_, _-_, _*_, _%_, _^_, _≤_, _<_}
+use mathlib.Core.Path.{_≡_, fun-ext}
+use mathlib.Core.Bool.{Bool, true, false, not}
+use mathlib.Core.List.{[], _∷_}
+use Prim.Native.Nat.{ℕ, _+_, _-_, _*_, _≤_, _<_}
 use native.Mathlib.Omega.{arith}
 use native.Mathlib.Decide.{ℕ-discrete}
-use lib.Dec.{eqb, ltb}
+use lib.Dec.{eqb}
 use lib.ListN.{getD}
-use Rattle.rules.specs.Layout.{SLOTS, BLOCK, DIRENTS, OPENS, PROCESSES, DESCRIPTORS, FILE, NAME}
-use Rattle.rules.specs.Layout.{KIND, OWNER, BITS, LABEL, LENGTH, LINKS, VERSION, SLOT, OFFSET, REFERENCES, DIRECTORY, WORD-MAX}
+use Rattle.rules.specs.Layout.{SLOTS, BLOCK, DIRENTS, OPENS, PROCESSES, DESCRIPTORS, NAME}
+use Rattle.rules.specs.Layout.{KIND, OWNER, BITS, LABEL, LENGTH, LINKS, VERSION, OFFSET, REFERENCES, DIRECTORY, WORD-MAX}
 use Rattle.rules.specs.Store.{up, plus}
 use Rattle.preservation.proofs.Sums.{sum, ind, sum-most}
 use Rattle.preservation.proofs.Tables.{Tables, col, direntRow}
-use Rattle.preservation.proofs.Sound.{All, Sound, SoundBut, naming, nameCount, linkCount, holderCount}
+use Rattle.preservation.proofs.Sound.{SoundBut, naming, nameCount, linkCount, holderCount}
 
 pub up-is : (n : ℕ) → n < WORD-MAX → up n ≡ n + 1
 unfolding up

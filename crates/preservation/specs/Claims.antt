@@ -16,7 +16,6 @@ use Rattle.rules.specs.Checks.{shareOf}
 use Rattle.rules.specs.Decide.{decide}
 use Rattle.rules.specs.Effects.{fdOf, shared}
 use Rattle.rules.specs.Step.{step, final}
-use Rattle.rules.specs.declared.ids.Pid.{Pid}
 use Rattle.rules.specs.declared.decision.Share.{Share}
 use Rattle.rules.specs.declared.decision.Share.the-variants as share
 use Rattle.rules.specs.declared.decision.Output.{Output}
