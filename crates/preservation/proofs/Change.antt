@@ -10,12 +10,6 @@ use Rattle.preservation.proofs.Sums.{count2, ind, sum-change, sum2-chan
 use Rattle.preservation.proofs.Sound.{holderCount, openCount, File, OpenFile}
 use Rattle.rules.specs.Layout.{SLOTS, FREE, PLAIN, USER-MAX, WORD-MAX}
 
-pub upd2-same : (f : ℕ → ℕ → ℕ) (j c v : ℕ) → upd2 f j c v j c ≡ v
-upd2-same f j c v = rw (eq-eqb c c refl, eq-eqb j j refl)
-
-pub upd2-other : (f : ℕ → ℕ → ℕ) (j c v i k : ℕ) → (i ≡ j → k ≡ c → ⊥) → upd2 f j c v i k ≡ f i k
-upd2-other f j c v i k n = split k c (λ a e. split i j (λ b d. absurd (n b a)) (λ b d. rw (e, d))) (λ a e. rw e)
-
 pub updRow-same : (f : ℕ → ℕ → ℕ) (j c v : ℕ) → updRow f j c v j c ≡ v
 updRow-same f j c v = rw (eq-eqb j j refl, eq-eqb c c refl)
 

@@ -182,9 +182,6 @@ unfolding descOf
 desc-past P p k h = rw (le-ltb k DESCRIPTORS h)
 
 module _ {s : Store} {m : Tables} (h : Has s m) where
-  row-of : ℕ → ℕ → ℕ
-  row-of = tab PROCESS (s .processes)
-
   heads : headOf (tab PROCESS (s .processes)) ≡ m .proc
   heads = sym (proc-head (s .processes)) ∙ proc-is h
 

@@ -19,10 +19,6 @@ ind false = 0
 abbrev pub count : ℕ → (ℕ → Bool) → ℕ
 count n p = sum n (λ i. ind (p i))
 
--- one turn of a loop that counts
-pub sum-next : (i : ℕ) (f : ℕ → ℕ) → sum (i + 1) f ≡ sum i f + f i
-sum-next i f = unfold sum in rw add-one
-
 -- the first summand apart
 pub sum-first : (n : ℕ) (f : ℕ → ℕ) → sum (suc n) f ≡ f 0 + sum n (λ j. f (suc j))
 unfolding sum
@@ -120,9 +116,6 @@ sum2-change n k f g a b l m h =
 pub sum2-at : (n k : ℕ) (f : ℕ → ℕ → ℕ) (a b : ℕ) → a < n → b < k → f a b ≤ sum2 n k f
 sum2-at n k f a b l m = omega (arith, sum-at n (λ i. sum k (f i)) a l, sum-at k (f a) b m)
 
-pub sum2-none : (n k : ℕ) (f : ℕ → ℕ → ℕ) → ((i j : ℕ) → i < n → j < k → f i j ≡ 0) → sum2 n k f ≡ 0
-sum2-none n k f h = sum-none n (λ i. sum k (f i)) (λ i l. sum-none k (f i) (λ j m. h i j l m))
-
 -- at most one of two dirents counts where the sum is at most 1
 pub sum2-rows : (n k : ℕ) (f : ℕ → ℕ → ℕ) (a b c d : ℕ) → a < n → b < k → c < n → d < k → (a ≡ c → ⊥) → f a b + f c d ≤ sum2 n k f
 sum2-rows n k f a b c d la lb lc ld ne = omega (arith, sum-two n (λ i. sum k (f i)) a c la lc ne, sum-at k (f a) b lb, sum-at k (f c) d ld)
@@ -145,10 +138,6 @@ sum2-some n k f h =
 pub ind-true : (b : Bool) → b ≡ true → ind b ≡ 1
 ind-true true e = refl
 ind-true false e = absurd (false≢true e)
-
-pub ind-false : (b : Bool) → (b ≡ true → ⊥) → ind b ≡ 0
-ind-false true n = absurd (n refl)
-ind-false false n = refl
 
 pub ind-more : (b : Bool) → 0 < ind b → b ≡ true
 ind-more true h = refl
