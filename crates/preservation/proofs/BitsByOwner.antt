@@ -6,7 +6,7 @@ use mathlib.Core.List.{List}
 use Prim.Native.Nat.{ℕ, _+_, _-_, _≤_}
 use native.Mathlib.Omega.{arith}
 use native.Mathlib.Decide.{ℕ-discrete}
-use Rattle.rules.specs.Layout.{KIND, OWNER, BITS, FREE, OFFSET}
+use Rattle.rules.specs.Layout.{BLOCK, KIND, OWNER, BITS, FREE, OFFSET}
 use Rattle.rules.specs.Store.{Store, view, slot, subjectOf, plus}
 use Rattle.rules.specs.Rights.{owns}
 use Rattle.rules.specs.Sound.{sound}
@@ -94,7 +94,7 @@ module _ (s : Store) (h : SoundStore s) (c : Call) (f : ℕ) where
   bits-owner (stores e at o l) = leaves-bits (write-leaves s h (c .bytes) _ (placed-well s h c e at o l)) (unfold wrote in refl)
   bits-owner (reads e n o l) = leaves-bits (move-leaves s h e (plus (view s .opened e OFFSET) n) o (offset e n l)) refl
     where
-      offset : (e n : ℕ) → tablesOf s .opened e OFFSET + n ≤ 512 → plus (view s .opened e OFFSET) n ≤ 512
+      offset : (e n : ℕ) → tablesOf s .opened e OFFSET + n ≤ BLOCK → plus (view s .opened e OFFSET) n ≤ BLOCK
       offset e n l = unfold tablesOf in rw (plus-is (view s .opened e OFFSET) n (omega (arith, l))) l
   bits-owner (seeks e n o l) = leaves-bits (move-leaves s h e n o l) refl
   bits-owner (duplicates i j e o hj g) = unfold tablesOf in leaves-bits (duplicate-leaves s h (c .process) i j e o hj g) (unfold shared handed in refl)

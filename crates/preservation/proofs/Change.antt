@@ -8,7 +8,7 @@ use borrow.Author.Tests.{eq-eqb, ne-eqb, lt-ltb}
 use Rattle.preservation.proofs.Tests.{split, upd, upd2, updRow, upd-other, upd-same}
 use Rattle.preservation.proofs.Sums.{count2, ind, sum-change, sum2-change, sum2-at, ind-true}
 use Rattle.preservation.proofs.Sound.{holderCount, openCount, File, OpenFile}
-use Rattle.rules.specs.Layout.{SLOTS, FREE, PLAIN, USER-MAX, WORD-MAX}
+use Rattle.rules.specs.Layout.{SLOTS, BLOCK, OPENS, PROCESSES, DESCRIPTORS, FREE, PLAIN, KIND-MAX, USER-MAX, BITS-MAX, LABEL-MAX, MODE-MAX, WORD-MAX}
 
 pub updRow-same : (f : ℕ → ℕ → ℕ) (j c v : ℕ) → updRow f j c v j c ≡ v
 updRow-same f j c v = rw (eq-eqb j j refl, eq-eqb c c refl)
@@ -22,39 +22,30 @@ ind-eq a b e = ind-true (eqb a b) (eq-eqb a b e)
 pub ind-ne : (a b : ℕ) → (a ≡ b → ⊥) → ind (eqb a b) ≡ 0
 ind-ne a b n = rw (ne-eqb a b n)
 
-pub holders-to : (desc : ℕ → ℕ → ℕ) (p k v e : ℕ) → p < 8 → k < 8 → holderCount (updRow desc p k v) e + ind (eqb (desc p k) (e + 1)) ≡ holderCount desc e + ind (eqb v (e + 1))
+pub holders-to : (desc : ℕ → ℕ → ℕ) (p k v e : ℕ) → p < PROCESSES → k < DESCRIPTORS → holderCount (updRow desc p k v) e + ind (eqb (desc p k) (e + 1)) ≡ holderCount desc e + ind (eqb v (e + 1))
 unfolding holderCount
 holders-to desc p k v e hp hk =
     let q : ind (eqb (updRow desc p k v p k) (e + 1)) ≡ ind (eqb v (e + 1)) = ap (λ (x : ℕ). ind (eqb x (e + 1))) (updRow-same desc p k v) in
-    let c : count2 8 8 (λ i j. eqb (updRow desc p k v i j) (e + 1)) + ind (eqb (desc p k) (e + 1)) ≡ count2 8 8 (λ i j. eqb (desc i j) (e + 1)) + ind (eqb (updRow desc p k v p k) (e + 1))
-    = sum2-change 8 8 (λ i j. ind (eqb (desc i j) (e + 1))) (λ i j. ind (eqb (updRow desc p k v i j) (e + 1))) p k hp hk (λ i j _ _ n. ap (λ (x : ℕ). ind (eqb x (e + 1))) (updRow-other desc p k v i j n)) in
+    let c : count2 PROCESSES DESCRIPTORS (λ i j. eqb (updRow desc p k v i j) (e + 1)) + ind (eqb (desc p k) (e + 1)) ≡ count2 PROCESSES DESCRIPTORS (λ i j. eqb (desc i j) (e + 1)) + ind (eqb (updRow desc p k v p k) (e + 1))
+    = sum2-change PROCESSES DESCRIPTORS (λ i j. ind (eqb (desc i j) (e + 1))) (λ i j. ind (eqb (updRow desc p k v i j) (e + 1))) p k hp hk (λ i j _ _ n. ap (λ (x : ℕ). ind (eqb x (e + 1))) (updRow-other desc p k v i j n)) in
     omega arith
 
-pub holders-at : (desc : ℕ → ℕ → ℕ) (p k e : ℕ) → p < 8 → k < 8 → desc p k ≡ e + 1 → 0 < holderCount desc e
+pub holders-at : (desc : ℕ → ℕ → ℕ) (p k e : ℕ) → p < PROCESSES → k < DESCRIPTORS → desc p k ≡ e + 1 → 0 < holderCount desc e
 unfolding holderCount
-holders-at desc p k e hp hk q = omega (arith, sum2-at 8 8 (λ i j. ind (eqb (desc i j) (e + 1))) p k hp hk, ind-eq (desc p k) (e + 1) q)
+holders-at desc p k e hp hk q = omega (arith, sum2-at PROCESSES DESCRIPTORS (λ i j. ind (eqb (desc i j) (e + 1))) p k hp hk, ind-eq (desc p k) (e + 1) q)
 
--- ---- open open-files on a slot
+-- ---- open files on a slot
 
 -- slot, refs and the changed slot′, refs′ differ at e only
-pub openCount-change : (slot refs slot′ refs′ : ℕ → ℕ) (e s : ℕ) → e < 32 → ((i : ℕ) → (i ≡ e → ⊥) → slot′ i ≡ slot i) → ((i : ℕ) → (i ≡ e → ⊥) → refs′ i ≡ refs i) →
+pub openCount-change : (slot refs slot′ refs′ : ℕ → ℕ) (e s : ℕ) → e < OPENS → ((i : ℕ) → (i ≡ e → ⊥) → slot′ i ≡ slot i) → ((i : ℕ) → (i ≡ e → ⊥) → refs′ i ≡ refs i) →
     openCount slot′ refs′ s + ind (eqb (slot e) s && ltb 0 (refs e)) ≡ openCount slot refs s + ind (eqb (slot′ e) s && ltb 0 (refs′ e))
 unfolding openCount
 openCount-change slot refs slot′ refs′ e s he a b =
-    sum-change 32 (λ i. ind (eqb (slot i) s && ltb 0 (refs i))) (λ i. ind (eqb (slot′ i) s && ltb 0 (refs′ i))) e he (λ i _ n. rw (a i n, b i n))
-
--- refs at e changed to v, not 0 before and not 0 after
-pub openCount-refs : (slot refs : ℕ → ℕ) (e v s : ℕ) → e < 32 → (refs e ≡ 0 → ⊥) → (v ≡ 0 → ⊥) → openCount slot (upd refs e v) s ≡ openCount slot refs s
-openCount-refs slot refs e v s he o n =
-    let a : ltb 0 (refs e) ≡ true = lt-ltb 0 (refs e) (omega arith) in
-    let b : ltb 0 v ≡ true = lt-ltb 0 v (omega arith) in
-    let c = openCount-change slot refs slot (upd refs e v) e s he (λ i _. refl) (λ i q. upd-other refs e v i q) in
-    let d : ind (eqb (slot e) s && ltb 0 (refs e)) ≡ ind (eqb (slot e) s && ltb 0 (upd refs e v e)) = rw (upd-same refs e v, a, b) in
-    omega arith
+    sum-change OPENS (λ i. ind (eqb (slot i) s && ltb 0 (refs i))) (λ i. ind (eqb (slot′ i) s && ltb 0 (refs′ i))) e he (λ i _ n. rw (a i n, b i n))
 
 -- ---- a row that is in use: nothing is owed of a free one
 
-pub file-used : {kind owner bits label length links version : ℕ} → (kind ≡ FREE → ⊥) → kind ≤ 2 → owner ≤ USER-MAX → bits ≤ 7 → label ≤ 15 → version ≤ WORD-MAX → File kind owner bits label length links version
+pub file-used : {kind owner bits label length links version : ℕ} → (kind ≡ FREE → ⊥) → kind ≤ KIND-MAX → owner ≤ USER-MAX → bits ≤ BITS-MAX → label ≤ LABEL-MAX → version ≤ WORD-MAX → File kind owner bits label length links version
 file-used u k o b l t = record {
   kind-most = k;
   owner-most = o;
@@ -68,7 +59,7 @@ file-used u k o b l t = record {
   links-zero = λ z. absurd (u z);
 }
 
-pub open-used : {kind : ℕ → ℕ} {slot mode offset refs : ℕ} → (refs ≡ 0 → ⊥) → slot < SLOTS → kind slot ≡ PLAIN → 0 < mode → mode ≤ 4 → offset ≤ 512 → OpenFile kind slot mode offset refs
+pub open-used : {kind : ℕ → ℕ} {slot mode offset refs : ℕ} → (refs ≡ 0 → ⊥) → slot < SLOTS → kind slot ≡ PLAIN → 0 < mode → mode ≤ MODE-MAX → offset ≤ BLOCK → OpenFile kind slot mode offset refs
 open-used u s k ml mm p = record {
   slot-zero = λ z. absurd (u z);
   mode-zero = λ z. absurd (u z);

@@ -118,15 +118,15 @@ has-clearTo {s} {m} h i ws hi l =
     (sets (s .contents) (BLOCK * i + 0) (zeros BLOCK)) (upd (m .byte) i (λ _. 0)) (length-sets (s .contents) (BLOCK * i + 0) (zeros BLOCK)) (cleared-bytes h i hi)
 
 -- 16 bytes over directory entry p
-over-fill : (g : ℕ → ℕ) (p : ℕ) (vs : List ℕ) → length vs ≡ 16 → overRow g (16 * p) vs ≡ fill g p (λ k. getD vs k 0)
-over-fill g p vs l = fun-ext (λ b. at b (decLt b (16 * p)) (decLt b (16 * p + 16)))
+over-fill : (g : ℕ → ℕ) (p : ℕ) (vs : List ℕ) → length vs ≡ DIRENT → overRow g (DIRENT * p) vs ≡ fill g p (λ k. getD vs k 0)
+over-fill g p vs l = fun-ext (λ b. at b (decLt b (DIRENT * p)) (decLt b (DIRENT * p + DIRENT)))
   where
-    at : (b : ℕ) → Dec (b < 16 * p) → Dec (b < 16 * p + 16) → overRow g (16 * p) vs b ≡ fill g p (λ k. getD vs k 0) b
-    at b (yes q) r = rw (lt-ltb b (16 * p) q, ne-eqb (b / 16) p (λ y. omega arith))
+    at : (b : ℕ) → Dec (b < DIRENT * p) → Dec (b < DIRENT * p + DIRENT) → overRow g (DIRENT * p) vs b ≡ fill g p (λ k. getD vs k 0) b
+    at b (yes q) r = rw (lt-ltb b (DIRENT * p) q, ne-eqb (b / DIRENT) p (λ y. omega arith))
     at b (no q) (yes r) =
-        let e : b % 16 ≡ b - 16 * p = omega arith in
-        rw (le-ltb b (16 * p) (omega arith), lt-ltb b (16 * p + length vs) (omega arith), eq-eqb (b / 16) p (omega arith), e)
-    at b (no q) (no r) = rw (le-ltb b (16 * p) (omega arith), le-ltb b (16 * p + length vs) (omega arith), ne-eqb (b / 16) p (λ y. omega arith))
+        let e : b % DIRENT ≡ b - DIRENT * p = omega arith in
+        rw (le-ltb b (DIRENT * p) (omega arith), lt-ltb b (DIRENT * p + length vs) (omega arith), eq-eqb (b / DIRENT) p (omega arith), e)
+    at b (no q) (no r) = rw (le-ltb b (DIRENT * p) (omega arith), le-ltb b (DIRENT * p + length vs) (omega arith), ne-eqb (b / DIRENT) p (λ y. omega arith))
 
 pub has-dirent : {s : Store} {m : Tables} → Has s m → (d p : ℕ) (vs : List ℕ) (r : ℕ → ℕ) → d < SLOTS → p < DIRENTS → length vs ≡ DIRENT → ((k : ℕ) → getD vs k 0 ≡ r k) → Has (change (rules.bytesTo d (DIRENT * p) vs) s) (bytesTo d (fill (m .byte d) p r) m)
 has-dirent {s} {m} h d p vs r hd hp l e =

@@ -57,9 +57,6 @@ module _ (s : Store) (h : SoundStore s) (p : Pid) (i : Fd) where
     unfolding closing tablesOf
     closing-is e d r = by (every (eqb (view s .tree .file (view s .opened e SLOT) LINKS) 0 ∷ not (openBut (view s .opened) e (view s .opened e SLOT)) ∷ [])) refl
       where
-        on : ℕ
-        on = view s .opened e SLOT
-
         open-elsewhere : openBut (view s .opened) e (view s .opened e SLOT) ≡ true → Releasing (release.Gone e)
         open-elsewhere t =
             let f = any-found (isOn (view s .opened) e (view s .opened e SLOT)) OPENS (unfold openBut in t) in
@@ -74,10 +71,6 @@ module _ (s : Store) (h : SoundStore s) (p : Pid) (i : Fd) where
         gone true t q z = open-elsewhere t
         gone false t (no n) z = named e d r (omega arith)
         gone false t (yes q) z = absurd (false≢true (sym z ∙ unfold every in rw (eq-eqb (view s .tree .file (view s .opened e SLOT) LINKS) 0 q, t)))
-
-        not-open : (b : Bool) → not b ≡ true → b ≡ false
-        not-open true q = absurd (false≢true q)
-        not-open false q = refl
 
         by : (b : Bool) → every (eqb (view s .tree .file (view s .opened e SLOT) LINKS) 0 ∷ not (openBut (view s .opened) e (view s .opened e SLOT)) ∷ []) ≡ b →
             Releasing (cond b (release.Freed e (slot (view s .opened e SLOT)) (checks.freed (view s .tree) (slot (view s .opened e SLOT)))) (release.Gone e))
@@ -163,7 +156,7 @@ close-leaves s h p i hp hi u (frees e d r l none) = from-leaves {m = freed (tabl
       (view s .opened e SLOT) (words (checks.freed (view s .tree) (slot (view s .opened e SLOT)))) (slot-small (tablesOf s) (h .tables) (p .0) (i .0) e hp hi (λ z. omega (arith, u, z)) d) refl;
   sound = close-frees (tablesOf s) (h .tables) (p .0) (i .0) e hp hi (λ z. omega (arith, u, z)) d r l none (up (tablesOf s .file (tablesOf s .opened e SLOT) VERSION)) (up-most (tablesOf s .file (tablesOf s .opened e SLOT) VERSION));
 }) (unfold freed remade in refl) (unfold freed remade in refl)
-    (unfold freed in steady-freed (handed (p .0) (i .0) 0 e (λ _. 0) (tablesOf s)) (tablesOf s .opened e SLOT) (fileRow 0 0 0 0 0 0 (up (tablesOf s .file (tablesOf s .opened e SLOT) VERSION))) (λ _. 0) refl)
+    (unfold freed in steady-freed (handed (p .0) (i .0) 0 e (λ _. 0) (tablesOf s)) (tablesOf s .opened e SLOT) (fileRow FREE 0 0 0 0 0 (up (tablesOf s .file (tablesOf s .opened e SLOT) VERSION))) (λ _. 0) refl)
 
 -- ---- exit
 

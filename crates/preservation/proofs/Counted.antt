@@ -46,13 +46,6 @@ module _ (D : List ℕ) (rows : ℕ → ℕ → ℕ) (agree : (i k : ℕ) → k 
 -- ---- all directories: pl d are the rows of directory d
 
 module _ (t : Tree) (pl : ℕ → ℕ → ℕ → ℕ) (agree : (d : ℕ) → d < SLOTS → t .file d KIND ≡ DIRECTORY → (i k : ℕ) → k < DIRENT → getD (direntAt (t .shown d) i) k 0 ≡ pl d i k) where
-  kind : ℕ → ℕ
-  kind = col (t .file) KIND
-
-  none : (b : Bool) → b ≡ false → (c : Bool) → ind (b && c) ≡ 0
-  none true e c = absurd (true≢false e)
-  none false e c = refl
-
   from-one : (s d : ℕ) → d < SLOTS → linksFrom t s d ≡ count DIRENTS (naming (col (t .file) KIND) pl s d)
   unfolding linksFrom
   from-one s d h = split (t .file d KIND) DIRECTORY

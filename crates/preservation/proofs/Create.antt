@@ -15,7 +15,7 @@ use Rattle.preservation.proofs.Dirents.{placed, Fits, used-at}
 use Rattle.preservation.proofs.Link.{loosen, tighten, linked, linked-sound}
 use Rattle.preservation.proofs.Unlink.{unlinked, unlinked-sound}
 use Rattle.preservation.proofs.Remake.{remade, remade-sound, remade-depths, Bare, Fresh}
-use Rattle.rules.specs.Layout.{SLOTS, OPENS, KIND, LENGTH, LINKS, VERSION, SLOT, REFERENCES, FREE, PLAIN, DIRECTORY, USER-MAX, WORD-MAX}
+use Rattle.rules.specs.Layout.{SLOTS, BLOCK, DIRENTS, DIRENT, OPENS, NAME, NAMES, KIND, LENGTH, LINKS, VERSION, FREE, PLAIN, DIRECTORY, SLOT, REFERENCES, KIND-MAX, USER-MAX, BITS-MAX, LABEL-MAX, WORD-MAX}
 
 -- a record by its words
 abbrev pub fileRow : (kind owner bits label length links version : ℕ) → ℕ → ℕ
@@ -26,13 +26,13 @@ fileRow kind owner bits label length links version c = getD (kind ∷ owner ∷ 
 pub record Name (m : Tables) (d p : ℕ) (r : ℕ → ℕ) (y : ℕ) : Type 0 where
   pub dir-small : d < SLOTS
   pub dir-kind : m .file d KIND ≡ DIRECTORY
-  pub dirent-small : p < 16
-  pub dirent-empty : direntRow (m .byte) d p 14 ≡ 0
-  pub row-slot : r 14 ≡ y
-  pub row-last : r 15 ≡ 0
-  pub row-end : (k : ℕ) → 16 ≤ k → r k ≡ 0
+  pub dirent-small : p < DIRENTS
+  pub dirent-empty : direntRow (m .byte) d p NAME ≡ 0
+  pub row-slot : r NAME ≡ y
+  pub row-last : r (NAME + 1) ≡ 0
+  pub row-end : (k : ℕ) → DIRENT ≤ k → r k ≡ 0
   pub row-valid : validRow r ≡ true
-  pub row-new : (q : ℕ) → q < 16 → (direntRow (m .byte) d q 14 ≡ 0 → ⊥) → sameRow (direntRow (m .byte) d q) r ≡ true → ⊥
+  pub row-new : (q : ℕ) → q < DIRENTS → (direntRow (m .byte) d q NAME ≡ 0 → ⊥) → sameRow (direntRow (m .byte) d q) r ≡ true → ⊥
 
 pub name-fits : (m : Tables) (d p : ℕ) (r : ℕ → ℕ) (t y : ℕ) → Name m d p r y → t ≤ WORD-MAX → y < SLOTS → (y ≡ 0 → ⊥) → (m .file y KIND ≡ FREE → ⊥) → Fits m d p r t y
 name-fits m d p r t y n ht hy n0 u = record {
@@ -66,7 +66,7 @@ unfoldable pub created : (d p : ℕ) → (ℕ → ℕ) → (t y k owner bits lab
 created d p r t y k owner bits label m = linked d p r t y (remade y (fileRow k owner bits label 0 0 (m .file y VERSION)) (m .byte y) m)
 
 module _ (m : Tables) (h : Sound m) (d p : ℕ) (r : ℕ → ℕ) (t y k owner bits label : ℕ) (n : Name m d p r y) (ht : t ≤ WORD-MAX) (hy : y < SLOTS) (free : m .file y KIND ≡ FREE)
-    (k1 : 0 < k) (k2 : k ≤ 2) (ho : owner ≤ USER-MAX) (hb : bits ≤ 7) (hl : label ≤ 15) (deep : k ≡ 2 → h .depths .depth d < 8) where
+    (k1 : 0 < k) (k2 : k ≤ KIND-MAX) (ho : owner ≤ USER-MAX) (hb : bits ≤ BITS-MAX) (hl : label ≤ LABEL-MAX) (deep : k ≡ DIRECTORY → h .depths .depth d < NAMES) where
   abbrev row : ℕ → ℕ
   row = fileRow k owner bits label 0 0 (m .file y VERSION)
 
@@ -76,7 +76,7 @@ module _ (m : Tables) (h : Sound m) (d p : ℕ) (r : ℕ → ℕ) (t y k owner b
   not-dir : d ≡ y → ⊥
   not-dir z = omega (arith, n .dir-kind, rw (← z) at free)
 
-  zeros : (b : ℕ) → b < 512 → m .byte y b ≡ 0
+  zeros : (b : ℕ) → b < BLOCK → m .byte y b ≡ 0
   zeros b l = h .blocks y hy .past-zero (λ z. omega arith) b l (omega (arith, h .files y hy .length-zero free))
 
   bare : Bare m y
@@ -104,7 +104,7 @@ module _ (m : Tables) (h : Sound m) (d p : ℕ) (r : ℕ → ℕ) (t y k owner b
       (n .row-slot) (name .dirent-empty) not-dir (remade-depths m y row (m .byte y) (loosen y m h) bare fresh (h .depths))
       (rw (eq-eqb y y refl) (λ z. record {
         no-links = rw (eq-eqb y y refl);
-        no-dirents = λ q hq. rw (eq-eqb y y refl) (zeros (16 * q + 14) (omega arith));
+        no-dirents = λ q hq. rw (eq-eqb y y refl) (zeros (DIRENT * q + NAME) (omega arith));
         not-deep = rw (ne-eqb d y not-dir) (deep z);
       }))
     where
@@ -127,12 +127,12 @@ module _ (m : Tables) (h : Sound m) (d p : ℕ) (r : ℕ → ℕ) (t y k owner b
 -- ---- free a slot: its version goes to t
 
 unfoldable pub freed : (y t : ℕ) → Tables → Tables
-freed y t m = remade y (fileRow 0 0 0 0 0 0 t) (λ _. 0) m
+freed y t m = remade y (fileRow FREE 0 0 0 0 0 t) (λ _. 0) m
 
 pub freed-sound : (m : Tables) (y t : ℕ) → SoundBut y m → Bare m y → t ≤ WORD-MAX → Sound (freed y t m)
 unfolding freed remade
 freed-sound m y t h a ht = tighten y (freed y t m)
-    (remade-sound m y (fileRow 0 0 0 0 0 0 t) (λ _. 0) h a (record {
+    (remade-sound m y (fileRow FREE 0 0 0 0 0 t) (λ _. 0) h a (record {
       file-row = record { kind-most = omega arith; owner-most = omega arith; bits-most = omega arith; label-most = omega arith; version-most = ht; owner-zero = λ _. refl; bits-zero = λ _. refl; label-zero = λ _. refl; length-zero = λ _. refl; links-zero = λ _. refl };
       block-row = record { length-most = λ _. omega arith; past-zero = λ _ b l _. refl; tail-zero = λ _ b l _. refl };
       links-row = refl;
@@ -143,7 +143,7 @@ freed-sound m y t h a ht = tighten y (freed y t m)
 
 -- ---- unlink: directory d loses entry p, which names y
 
-module _ (m : Tables) (h : Sound m) (d p t y : ℕ) (hd : d < SLOTS) (kd : m .file d KIND ≡ DIRECTORY) (hp : p < 16) (e : direntRow (m .byte) d p 14 ≡ y) (n0 : y ≡ 0 → ⊥) (ht : t ≤ WORD-MAX) where
+module _ (m : Tables) (h : Sound m) (d p t y : ℕ) (hd : d < SLOTS) (kd : m .file d KIND ≡ DIRECTORY) (hp : p < DIRENTS) (e : direntRow (m .byte) d p NAME ≡ y) (n0 : y ≡ 0 → ⊥) (ht : t ≤ WORD-MAX) where
   pub target-small : y < SLOTS
   target-small = rw e at (h .dirs d hd kd .dirents p hp .slot-small)
 
@@ -165,7 +165,7 @@ module _ (m : Tables) (h : Sound m) (d p t y : ℕ) (hd : d < SLOTS) (kd : m .fi
 
 -- ---- remove directory
 
-pub remove-sound : (m : Tables) → Sound m → (d p t y t′ : ℕ) → d < SLOTS → m .file d KIND ≡ DIRECTORY → p < 16 → direntRow (m .byte) d p 14 ≡ y → (y ≡ 0 → ⊥) → t ≤ WORD-MAX →
+pub remove-sound : (m : Tables) → Sound m → (d p t y t′ : ℕ) → d < SLOTS → m .file d KIND ≡ DIRECTORY → p < DIRENTS → direntRow (m .byte) d p NAME ≡ y → (y ≡ 0 → ⊥) → t ≤ WORD-MAX →
     m .file y KIND ≡ DIRECTORY → m .file y LENGTH ≡ 0 → t′ ≤ WORD-MAX → Sound (freed y t′ (unlinked d p t y m))
 unfolding unlinked placed
 remove-sound m h d p t y t′ hd kd hp e n0 ht k z0 ht′ =
@@ -180,8 +180,8 @@ remove-sound m h d p t y t′ hd kd hp e n0 ht k z0 ht′ =
     hy : y < SLOTS
     hy = rw e at (h .dirs d hd kd .dirents p hp .slot-small)
 
-    empty : (q : ℕ) → q < 16 → direntRow (m .byte) y q 14 ≡ 0
-    empty q hq = elim (ℕ-discrete (direntRow (m .byte) y q 14) 0) [ yes z ↦ z | no z ↦ absurd (omega (arith, used-at (direntRow (m .byte) y) q hq z, h .lengths y hy k)) ]
+    empty : (q : ℕ) → q < DIRENTS → direntRow (m .byte) y q NAME ≡ 0
+    empty q hq = elim (ℕ-discrete (direntRow (m .byte) y q NAME) 0) [ yes z ↦ z | no z ↦ absurd (omega (arith, used-at (direntRow (m .byte) y) q hq z, h .lengths y hy k)) ]
 
     other : y ≡ d → ⊥
     other z = n0 (sym e ∙ rw z at (empty p hp))

@@ -7,7 +7,7 @@ use native.Mathlib.Omega.{arith}
 use lib.Dec.{eqb, ltb, leb}
 use lib.ListN.{length}
 use borrow.Author.Tests.{eqb-true, ltb-true, leb-true}
-use Rattle.rules.specs.Layout.{SLOTS, BLOCK, DIRENTS, OPENS, PROCESSES, DESCRIPTORS, BITS-MAX, LABEL-MAX, KIND-MAX, MODE-MAX}
+use Rattle.rules.specs.Layout.{SLOTS, BLOCK, DIRENTS, OPENS, PROCESSES, DESCRIPTORS, KIND-MAX, USER-MAX, BITS-MAX, LABEL-MAX, MODE-MAX}
 use Rattle.rules.specs.Layout.{KIND, OWNER, LABEL, LENGTH, SLOT, MODE, OFFSET, USER, DOMAIN, PLAIN, DIRECTORY}
 use Rattle.rules.specs.Choice.{every}
 use Rattle.rules.specs.Store.{Store, view, slot, subjectOf}
@@ -117,7 +117,7 @@ module _ (Q : List ℕ) (s : Store) (h : SoundStore s) (c : Call) (safe : policy
 
   -- ---- 2. Create, 3. Make directory
 
-  user-most : tablesOf s .proc (c .process .0) USER ≤ 65535
+  user-most : tablesOf s .proc (c .process .0) USER ≤ USER-MAX
   user-most = h .tables .procs (c .process .0) (u .small) .user-most
 
   create-fit : (kind bits : ℕ) → 0 < kind → kind ≤ KIND-MAX → bits ≤ BITS-MAX → GoodPath (c .path) → 0 < length (names (c .path)) → Fit (Granting s h c) (decideCreate Q (view s) (c .process) kind bits (c .path))
@@ -209,8 +209,8 @@ module _ (Q : List ℕ) (s : Store) (h : SoundStore s) (c : Call) (safe : policy
     where
       within : (e : ℕ) → Held (tablesOf s) e → tablesOf s .opened e OFFSET + min size (remaining (view s) e) ≤ BLOCK
       within e o =
-          let a : tablesOf s .opened e OFFSET ≤ BLOCK = offsets-most 64 (tablesOf s) (h .tables) e (o .small) in
-          let b : tablesOf s .file (tablesOf s .opened e SLOT) LENGTH ≤ BLOCK = length-most 64 (tablesOf s) (h .tables) (tablesOf s .opened e SLOT) (h .tables .open-files e (o .small) .slot-small (o .open-refs)) in
+          let a : tablesOf s .opened e OFFSET ≤ BLOCK = offsets-most SLOTS (tablesOf s) (h .tables) e (o .small) in
+          let b : tablesOf s .file (tablesOf s .opened e SLOT) LENGTH ≤ BLOCK = length-most SLOTS (tablesOf s) (h .tables) (tablesOf s .opened e SLOT) (h .tables .open-files e (o .small) .slot-small (o .open-refs)) in
           unfold tablesOf in (omega (arith, a, b))
 
   write-fit : (i : Fd) → Fit (Granting s h c) (decideWrite (view s) (c .process) i (length (c .bytes)))

@@ -1,4 +1,4 @@
--- One direntRow of a directory changed: what links, creates, unlinks and removes share.
+-- One entry of a directory changed: what link, create, unlink and remove share.
 use mathlib.Core.Path.{_≡_, refl, sym, ap, _∙_, fun-ext}
 use mathlib.Core.Bool.{true, false, not, _&&_}
 use Prim.Native.Nat.{ℕ, _+_, _-_, _*_, _/_, _%_, _≤_, _<_}
@@ -11,30 +11,30 @@ use Rattle.preservation.proofs.Sums.{ind, count, sum-change, sum2-chang
 use Rattle.preservation.proofs.Tables.{Tables, col, direntRow, rowsOf, fill, fileTo, bytesTo}
 use Rattle.preservation.proofs.Sound.{All, SoundBut, File, Block, Dirent, Directory, naming, linkCount, nameCount, sameRow}
 use Rattle.preservation.proofs.Change.{ind-eq, file-used}
-use Rattle.rules.specs.Layout.{NAME, SLOTS, KIND, OWNER, BITS, LABEL, LENGTH, LINKS, VERSION, FREE, DIRECTORY, WORD-MAX}
+use Rattle.rules.specs.Layout.{SLOTS, DIRENTS, DIRENT, NAME, KIND, OWNER, BITS, LABEL, LENGTH, LINKS, VERSION, FREE, DIRECTORY, WORD-MAX}
 
--- ---- a block with one direntRow changed, as rows
+-- ---- a block with one entry changed, as rows
 
-fill-at : (g : ℕ → ℕ) (p : ℕ) (r : ℕ → ℕ) → ((k : ℕ) → 16 ≤ k → r k ≡ 0) → (q k : ℕ) → rowsOf (fill g p r) q k ≡ upd (rowsOf g) p r q k
-fill-at g p r w q k = go (decLt k 16)
+fill-at : (g : ℕ → ℕ) (p : ℕ) (r : ℕ → ℕ) → ((k : ℕ) → DIRENT ≤ k → r k ≡ 0) → (q k : ℕ) → rowsOf (fill g p r) q k ≡ upd (rowsOf g) p r q k
+fill-at g p r w q k = go (decLt k DIRENT)
   where
-    go : Dec (k < 16) → rowsOf (fill g p r) q k ≡ upd (rowsOf g) p r q k
+    go : Dec (k < DIRENT) → rowsOf (fill g p r) q k ≡ upd (rowsOf g) p r q k
     go (yes l) =
-        let a : (16 * q + k) / 16 ≡ q = omega arith in
-        let b : (16 * q + k) % 16 ≡ k = omega arith in
-        let c : ltb k 16 ≡ true = lt-ltb k 16 l in
+        let a : (DIRENT * q + k) / DIRENT ≡ q = omega arith in
+        let b : (DIRENT * q + k) % DIRENT ≡ k = omega arith in
+        let c : ltb k DIRENT ≡ true = lt-ltb k DIRENT l in
         split q p (λ e t. rw (c, a, b, t)) (λ e t. rw (c, a, t, c))
     go (no n) =
-        let c : ltb k 16 ≡ false = le-ltb k 16 (omega arith) in
+        let c : ltb k DIRENT ≡ false = le-ltb k DIRENT (omega arith) in
         split q p (λ e t. rw (c, t) (sym (w k (omega arith)))) (λ e t. rw (c, t, c))
 
-pub rows-fill : (g : ℕ → ℕ) (p : ℕ) (r : ℕ → ℕ) → ((k : ℕ) → 16 ≤ k → r k ≡ 0) → rowsOf (fill g p r) ≡ upd (rowsOf g) p r
+pub rows-fill : (g : ℕ → ℕ) (p : ℕ) (r : ℕ → ℕ) → ((k : ℕ) → DIRENT ≤ k → r k ≡ 0) → rowsOf (fill g p r) ≡ upd (rowsOf g) p r
 rows-fill g p r w = fun-ext (λ q. fun-ext (λ k. fill-at g p r w q k))
 
-pub tail-fill : (g : ℕ → ℕ) (p : ℕ) (r : ℕ → ℕ) (b : ℕ) → p < 16 → 256 ≤ b → fill g p r b ≡ g b
-tail-fill g p r b hp hb = let n : b / 16 ≡ p → ⊥ = λ e. omega arith in rw (ne-eqb (b / 16) p n)
+pub tail-fill : (g : ℕ → ℕ) (p : ℕ) (r : ℕ → ℕ) (b : ℕ) → p < DIRENTS → DIRENTS * DIRENT ≤ b → fill g p r b ≡ g b
+tail-fill g p r b hp hb = let n : b / DIRENT ≡ p → ⊥ = λ e. omega arith in rw (ne-eqb (b / DIRENT) p n)
 
--- ---- links
+-- ---- names
 
 pub sameRow-sym : (r t : ℕ → ℕ) → sameRow r t ≡ true → sameRow t r ≡ true
 unfolding sameRow
@@ -43,7 +43,7 @@ sameRow-sym r t e =
     (λ k h. sym (means-all NAME (λ k. eqb (r k) (t k)) (λ k. r k ≡ t k) (λ k. means-eq (r k) (t k)) .holds e k h))
 
 pub dir-fill : (kind : ℕ → ℕ) (rows : ℕ → ℕ → ℕ) (p : ℕ) (r : ℕ → ℕ) → Directory kind rows → Dirent kind r →
-    ((r 14 ≡ 0 → ⊥) → (q : ℕ) → q < 16 → (rows q 14 ≡ 0 → ⊥) → sameRow (rows q) r ≡ true → ⊥) → Directory kind (upd rows p r)
+    ((r NAME ≡ 0 → ⊥) → (q : ℕ) → q < DIRENTS → (rows q NAME ≡ 0 → ⊥) → sameRow (rows q) r ≡ true → ⊥) → Directory kind (upd rows p r)
 dir-fill kind rows p r d pl new = record {
   dirents = λ q hq. upd-elim (Dirent kind) rows p r q (λ _. pl) (λ _. d .dirents q hq);
   different = λ a ha b hb n. split a p
@@ -53,38 +53,38 @@ dir-fill kind rows p r d pl new = record {
 
 -- ---- counts
 
-pub used-to : (rows : ℕ → ℕ → ℕ) (p : ℕ) (r : ℕ → ℕ) → p < 16 → nameCount (upd rows p r) + ind (not (eqb (rows p 14) 0)) ≡ nameCount rows + ind (not (eqb (r 14) 0))
+pub used-to : (rows : ℕ → ℕ → ℕ) (p : ℕ) (r : ℕ → ℕ) → p < DIRENTS → nameCount (upd rows p r) + ind (not (eqb (rows p NAME) 0)) ≡ nameCount rows + ind (not (eqb (r NAME) 0))
 unfolding nameCount
 used-to rows p r hp =
-    let c : count 16 (λ q. not (eqb (upd rows p r q 14) 0)) + ind (not (eqb (rows p 14) 0)) ≡ count 16 (λ q. not (eqb (rows q 14) 0)) + ind (not (eqb (upd rows p r p 14) 0))
-    = sum-change 16 (λ q. ind (not (eqb (rows q 14) 0))) (λ q. ind (not (eqb (upd rows p r q 14) 0))) p hp (λ q _ n. ap (λ (t : ℕ → ℕ). ind (not (eqb (t 14) 0))) (upd-other rows p r q n)) in
-    let e : ind (not (eqb (upd rows p r p 14) 0)) ≡ ind (not (eqb (r 14) 0)) = ap (λ (t : ℕ → ℕ). ind (not (eqb (t 14) 0))) (upd-same rows p r) in
+    let c : count DIRENTS (λ q. not (eqb (upd rows p r q NAME) 0)) + ind (not (eqb (rows p NAME) 0)) ≡ count DIRENTS (λ q. not (eqb (rows q NAME) 0)) + ind (not (eqb (upd rows p r p NAME) 0))
+    = sum-change DIRENTS (λ q. ind (not (eqb (rows q NAME) 0))) (λ q. ind (not (eqb (upd rows p r q NAME) 0))) p hp (λ q _ n. ap (λ (t : ℕ → ℕ). ind (not (eqb (t NAME) 0))) (upd-other rows p r q n)) in
+    let e : ind (not (eqb (upd rows p r p NAME) 0)) ≡ ind (not (eqb (r NAME) 0)) = ap (λ (t : ℕ → ℕ). ind (not (eqb (t NAME) 0))) (upd-same rows p r) in
     omega arith
 
-pub used-at : (rows : ℕ → ℕ → ℕ) (p : ℕ) → p < 16 → (rows p 14 ≡ 0 → ⊥) → 0 < nameCount rows
+pub used-at : (rows : ℕ → ℕ → ℕ) (p : ℕ) → p < DIRENTS → (rows p NAME ≡ 0 → ⊥) → 0 < nameCount rows
 unfolding nameCount
 used-at rows p hp n =
-    let e : ind (not (eqb (rows p 14) 0)) ≡ 1 = rw (ne-eqb (rows p 14) 0 n) in
-    omega (arith, sum-at 16 (λ q. ind (not (eqb (rows q 14) 0))) p hp)
+    let e : ind (not (eqb (rows p NAME) 0)) ≡ 1 = rw (ne-eqb (rows p NAME) 0 n) in
+    omega (arith, sum-at DIRENTS (λ q. ind (not (eqb (rows q NAME) 0))) p hp)
 
-pub used-none : (rows : ℕ → ℕ → ℕ) → All 16 (λ p. rows p 14 ≡ 0) → nameCount rows ≡ 0
+pub used-none : (rows : ℕ → ℕ → ℕ) → All DIRENTS (λ p. rows p NAME ≡ 0) → nameCount rows ≡ 0
 unfolding nameCount
-used-none rows n = sum-none 16 (λ q. ind (not (eqb (rows q 14) 0))) (λ p hp. rw (n p hp))
+used-none rows n = sum-none DIRENTS (λ q. ind (not (eqb (rows q NAME) 0))) (λ p hp. rw (n p hp))
 
--- direntRow and direntRow′ differ at direntRow p of d only
-pub naming-change : (kind : ℕ → ℕ) (pl pl′ : ℕ → ℕ → ℕ → ℕ) (d p s : ℕ) → d < SLOTS → p < 16 → kind d ≡ DIRECTORY → ((i j : ℕ) → (i ≡ d → j ≡ p → ⊥) → pl′ i j 14 ≡ pl i j 14) →
-    linkCount kind pl′ s + ind (eqb (pl d p 14) s) ≡ linkCount kind pl s + ind (eqb (pl′ d p 14) s)
+-- pl and pl′ differ at entry p of d only
+pub naming-change : (kind : ℕ → ℕ) (pl pl′ : ℕ → ℕ → ℕ → ℕ) (d p s : ℕ) → d < SLOTS → p < DIRENTS → kind d ≡ DIRECTORY → ((i j : ℕ) → (i ≡ d → j ≡ p → ⊥) → pl′ i j NAME ≡ pl i j NAME) →
+    linkCount kind pl′ s + ind (eqb (pl d p NAME) s) ≡ linkCount kind pl s + ind (eqb (pl′ d p NAME) s)
 unfolding linkCount
 naming-change kind pl pl′ d p s hd hp k o =
-    rw (eq-eqb (kind d) DIRECTORY k) at (sum2-change SLOTS 16 (λ i j. ind (naming kind pl s i j)) (λ i j. ind (naming kind pl′ s i j)) d p hd hp (λ i j _ _ n. ap (λ (x : ℕ). ind (eqb (kind i) DIRECTORY && eqb x s)) (o i j n)))
+    rw (eq-eqb (kind d) DIRECTORY k) at (sum2-change SLOTS DIRENTS (λ i j. ind (naming kind pl s i j)) (λ i j. ind (naming kind pl′ s i j)) d p hd hp (λ i j _ _ n. ap (λ (x : ℕ). ind (eqb (kind i) DIRECTORY && eqb x s)) (o i j n)))
 
-pub naming-at : (kind : ℕ → ℕ) (pl : ℕ → ℕ → ℕ → ℕ) (d p s : ℕ) → d < SLOTS → p < 16 → kind d ≡ DIRECTORY → pl d p 14 ≡ s → 0 < linkCount kind pl s
+pub naming-at : (kind : ℕ → ℕ) (pl : ℕ → ℕ → ℕ → ℕ) (d p s : ℕ) → d < SLOTS → p < DIRENTS → kind d ≡ DIRECTORY → pl d p NAME ≡ s → 0 < linkCount kind pl s
 unfolding linkCount
 naming-at kind pl d p s hd hp k e =
-    let q : ind (naming kind pl s d p) ≡ 1 = rw (eq-eqb (kind d) DIRECTORY k) (ind-eq (pl d p 14) s e) in
-    omega (arith, sum2-at SLOTS 16 (λ i j. ind (naming kind pl s i j)) d p hd hp)
+    let q : ind (naming kind pl s d p) ≡ 1 = rw (eq-eqb (kind d) DIRECTORY k) (ind-eq (pl d p NAME) s e) in
+    omega (arith, sum2-at SLOTS DIRENTS (λ i j. ind (naming kind pl s i j)) d p hd hp)
 
--- ---- direntRow p of directory d becomes r; d's length z and version t; slot y has c links
+-- ---- entry p of directory d becomes r; d's length z and version t; slot y has c links
 
 unfoldable pub placed : (d p : ℕ) → (ℕ → ℕ) → (z t y c : ℕ) → Tables → Tables
 placed d p r z t y c m = fileTo y LINKS c (fileTo d VERSION t (fileTo d LENGTH z (bytesTo d (fill (m .byte d) p r) m)))
@@ -93,10 +93,10 @@ placed d p r z t y c m = fileTo y LINKS c (fileTo d VERSION t (fileTo d LENGTH z
 pub record Fits (m : Tables) (d p : ℕ) (r : ℕ → ℕ) (t y : ℕ) : Type 0 where
   pub dir-small : d < SLOTS
   pub dir-kind : m .file d KIND ≡ DIRECTORY
-  pub dirent-small : p < 16
-  pub row-end : (k : ℕ) → 16 ≤ k → r k ≡ 0
+  pub dirent-small : p < DIRENTS
+  pub row-end : (k : ℕ) → DIRENT ≤ k → r k ≡ 0
   pub row-dirent : Dirent (col (m .file) KIND) r
-  pub row-new : (r 14 ≡ 0 → ⊥) → (q : ℕ) → q < 16 → (direntRow (m .byte) d q 14 ≡ 0 → ⊥) → sameRow (direntRow (m .byte) d q) r ≡ true → ⊥
+  pub row-new : (r NAME ≡ 0 → ⊥) → (q : ℕ) → q < DIRENTS → (direntRow (m .byte) d q NAME ≡ 0 → ⊥) → sameRow (direntRow (m .byte) d q) r ≡ true → ⊥
   pub version-small : t ≤ WORD-MAX
   pub file-used : m .file y KIND ≡ FREE → ⊥
   pub file-root : y ≡ 0 → ⊥
@@ -126,12 +126,12 @@ module _ (x : ℕ) (m : Tables) (h : SoundBut x m) (d p : ℕ) (r : ℕ → ℕ)
       (λ q e. rw (e, rows-fill (m .byte d) p r (f .row-end)) (dir-fill (col (m .file) KIND) (direntRow (m .byte) d) p r (h .dirs d (f .dir-small) (f .dir-kind)) (f .row-dirent) (f .row-new)))
       (λ q e. rw e (h .dirs i hi k))
 
-  pub placed-lengths : z + ind (not (eqb (direntRow (m .byte) d p 14) 0)) ≡ m .file d LENGTH + ind (not (eqb (r 14) 0)) → All SLOTS (λ i. m .file i KIND ≡ DIRECTORY → upd (col (m .file) LENGTH) d z i ≡ nameCount (direntRow byte′ i))
+  pub placed-lengths : z + ind (not (eqb (direntRow (m .byte) d p NAME) 0)) ≡ m .file d LENGTH + ind (not (eqb (r NAME) 0)) → All SLOTS (λ i. m .file i KIND ≡ DIRECTORY → upd (col (m .file) LENGTH) d z i ≡ nameCount (direntRow byte′ i))
   placed-lengths a i hi k = split i d
       (λ q e. rw (e, rows-fill (m .byte d) p r (f .row-end)) (omega (arith, used-to (direntRow (m .byte) d) p r (f .dirent-small), h .lengths d (f .dir-small) (f .dir-kind))))
       (λ q e. rw e (h .lengths i hi k))
 
-  -- the dirents of the changed store
+  -- the entries of the changed tables
   pub placed-other : (i j : ℕ) → (i ≡ d → j ≡ p → ⊥) → direntRow byte′ i j ≡ direntRow (m .byte) i j
   placed-other i j n = split i d
       (λ q e. rw (e, rows-fill (m .byte d) p r (f .row-end), upd-other (direntRow (m .byte) d) p r j (n q), q))
@@ -140,16 +140,16 @@ module _ (x : ℕ) (m : Tables) (h : SoundBut x m) (d p : ℕ) (r : ℕ → ℕ)
   pub placed-here : direntRow byte′ d p ≡ r
   placed-here = rw (eq-eqb d d refl, rows-fill (m .byte d) p r (f .row-end), upd-same (direntRow (m .byte) d) p r)
 
-  -- and their SLOTS
-  pub placed-other-slot : (i j : ℕ) → (i ≡ d → j ≡ p → ⊥) → direntRow byte′ i j 14 ≡ direntRow (m .byte) i j 14
-  placed-other-slot i j n = ap (λ (row : ℕ → ℕ). row 14) (placed-other i j n)
+  -- and their slots
+  pub placed-other-slot : (i j : ℕ) → (i ≡ d → j ≡ p → ⊥) → direntRow byte′ i j NAME ≡ direntRow (m .byte) i j NAME
+  placed-other-slot i j n = ap (λ (row : ℕ → ℕ). row NAME) (placed-other i j n)
 
-  pub placed-here-slot : direntRow byte′ d p 14 ≡ r 14
-  placed-here-slot = ap (λ (row : ℕ → ℕ). row 14) placed-here
+  pub placed-here-slot : direntRow byte′ d p NAME ≡ r NAME
+  placed-here-slot = ap (λ (row : ℕ → ℕ). row NAME) placed-here
 
-  pub placed-links : All SLOTS (λ s. (s ≡ 0 → ⊥) → upd (col (m .file) LINKS) y c s + ind (eqb (direntRow (m .byte) d p 14) s) ≡ m .file s LINKS + ind (eqb (r 14) s)) →
+  pub placed-links : All SLOTS (λ s. (s ≡ 0 → ⊥) → upd (col (m .file) LINKS) y c s + ind (eqb (direntRow (m .byte) d p NAME) s) ≡ m .file s LINKS + ind (eqb (r NAME) s)) →
       All SLOTS (λ s. (s ≡ 0 → ⊥) → upd (col (m .file) LINKS) y c s ≡ linkCount (col (m .file) KIND) (direntRow byte′) s)
   placed-links a s hs n =
       let b = naming-change (col (m .file) KIND) (direntRow (m .byte)) (direntRow byte′) d p s (f .dir-small) (f .dirent-small) (f .dir-kind) placed-other-slot in
-      let e : ind (eqb (direntRow byte′ d p 14) s) ≡ ind (eqb (r 14) s) = ap (λ (v : ℕ). ind (eqb v s)) placed-here-slot in
+      let e : ind (eqb (direntRow byte′ d p NAME) s) ≡ ind (eqb (r NAME) s) = ap (λ (v : ℕ). ind (eqb v s)) placed-here-slot in
       omega (arith, a s hs n, h .links s hs n)

@@ -5,7 +5,7 @@ use mathlib.Core.List.{List, [], _∷_}
 use Prim.Native.Nat.{ℕ, _+_, _-_, _≤_, max}
 use native.Mathlib.Omega.{arith}
 use lib.ListN.{length}
-use Rattle.rules.specs.Layout.{BLOCK, LENGTH, SLOT, OFFSET, USER, DOMAIN}
+use Rattle.rules.specs.Layout.{BLOCK, LENGTH, SLOT, OFFSET, USER, DOMAIN, USER-MAX, LABEL-MAX}
 use Rattle.rules.specs.Store.{Store, view, slot, subjectOf, plus}
 use Rattle.rules.specs.Sound.{sound}
 use Rattle.rules.specs.Calls.{Call}
@@ -40,11 +40,11 @@ module _ (s : Store) (h : SoundStore s) (c : Call) where
     offset-is = plus-is at (length (c .bytes)) (omega arith);
   }
 
-  pub caller-user : Caller (tablesOf s) (c .process) → view s .proc (c .process .0) USER ≤ 65535
+  pub caller-user : Caller (tablesOf s) (c .process) → view s .proc (c .process .0) USER ≤ USER-MAX
   unfolding tablesOf
   caller-user u = h .tables .procs (c .process .0) (u .small) .user-most
 
-  pub caller-label : Caller (tablesOf s) (c .process) → view s .proc (c .process .0) DOMAIN ≤ 15
+  pub caller-label : Caller (tablesOf s) (c .process) → view s .proc (c .process .0) DOMAIN ≤ LABEL-MAX
   unfolding tablesOf
   caller-label u = h .tables .procs (c .process .0) (u .small) .label-most
 

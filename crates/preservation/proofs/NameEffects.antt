@@ -8,7 +8,7 @@ use native.Mathlib.Decide.{decLt, ℕ-discrete}
 use lib.Dec.{eqb}
 use lib.ListN.{length, getD}
 use borrow.Author.Tests.{eq-eqb, ne-eqb}
-use Rattle.rules.specs.Layout.{SLOTS, DIRENT, DIRENTS, NAME, OPENS, KIND-MAX, BITS-MAX, LABEL-MAX, USER-MAX}
+use Rattle.rules.specs.Layout.{SLOTS, DIRENTS, DIRENT, OPENS, NAME, NAMES, KIND-MAX, USER-MAX, BITS-MAX, LABEL-MAX}
 use Rattle.rules.specs.Layout.{KIND, LABEL, LENGTH, LINKS, VERSION, SLOT, REFERENCES, FREE, PLAIN, DIRECTORY}
 use Rattle.rules.specs.Choice.{every}
 use Rattle.rules.specs.Store.{Store, view, up, zeros, applyAll}
@@ -88,7 +88,7 @@ module _ (s : Store) (h : SoundStore s) where
     pub owner-most : owner ≤ USER-MAX
     pub bits-most : bits ≤ BITS-MAX
     pub label-most : label ≤ LABEL-MAX
-    pub not-deep : kind ≡ DIRECTORY → h .tables .depths .depth (d .0) < 8
+    pub not-deep : kind ≡ DIRECTORY → h .tables .depths .depth (d .0) < NAMES
 
   abbrev pub withFile : (name : paths.Name) (d : Slot) (i : ℕ) (y : Slot) (kind owner bits label : ℕ) → Tables
   withFile name d i y kind owner bits label = direntTo (d .0) i (rowOf name y) (tablesOf s .file (d .0) LENGTH + 1) (up (tablesOf s .file (d .0) VERSION))
@@ -211,8 +211,8 @@ module _ (s : Store) (h : SoundStore s) where
   unlink-leaves d i y n k (frees l o) = record {
     has = has-clearTo (has-unnamed d i y n) (y .0) (words (checks.freed (view s .tree) y)) (named-small d i y n) refl;
     sound = unfold freed remade in same-columns SLOTS (freed (y .0) (up (tablesOf s .file (y .0) VERSION)) (unlinked (d .0) i (up (tablesOf s .file (d .0) VERSION)) (y .0) (tablesOf s)))
-        (upd (withoutName d i .file) (y .0) (fileRow 0 0 0 0 0 0 (up (tablesOf s .file (y .0) VERSION))))
-        (freeColumns d i y (tablesOf s .file (y .0) LINKS - 1) (fileRow 0 0 0 0 0 0 (up (tablesOf s .file (y .0) VERSION))))
+        (upd (withoutName d i .file) (y .0) (fileRow FREE 0 0 0 0 0 (up (tablesOf s .file (y .0) VERSION))))
+        (freeColumns d i y (tablesOf s .file (y .0) LINKS - 1) (fileRow FREE 0 0 0 0 0 (up (tablesOf s .file (y .0) VERSION))))
         (unlink-frees (tablesOf s) (h .tables) (d .0) i (up (tablesOf s .file (d .0) VERSION)) (y .0) (n .dir-small) (n .dir-kind) (n .dirent-small) (n .there) (n .not-root) (up-most (tablesOf s .file (d .0) VERSION)) k l o
         (up (tablesOf s .file (y .0) VERSION)) (up-most (tablesOf s .file (y .0) VERSION)));
   }
@@ -223,8 +223,8 @@ module _ (s : Store) (h : SoundStore s) where
   remove-leaves d i y n k l = record {
     has = has-clearTo (has-unnamed d i y n) (y .0) (words (checks.freed (view s .tree) y)) (named-small d i y n) refl;
     sound = unfold freed remade in same-columns SLOTS (freed (y .0) (up (tablesOf s .file (y .0) VERSION)) (unlinked (d .0) i (up (tablesOf s .file (d .0) VERSION)) (y .0) (tablesOf s)))
-        (upd (withoutName d i .file) (y .0) (fileRow 0 0 0 0 0 0 (up (tablesOf s .file (y .0) VERSION))))
-        (freeColumns d i y (tablesOf s .file (y .0) LINKS - 1) (fileRow 0 0 0 0 0 0 (up (tablesOf s .file (y .0) VERSION))))
+        (upd (withoutName d i .file) (y .0) (fileRow FREE 0 0 0 0 0 (up (tablesOf s .file (y .0) VERSION))))
+        (freeColumns d i y (tablesOf s .file (y .0) LINKS - 1) (fileRow FREE 0 0 0 0 0 (up (tablesOf s .file (y .0) VERSION))))
         (remove-sound (tablesOf s) (h .tables) (d .0) i (up (tablesOf s .file (d .0) VERSION)) (y .0) (up (tablesOf s .file (y .0) VERSION)) (n .dir-small) (n .dir-kind) (n .dirent-small) (n .there) (n .not-root)
         (up-most (tablesOf s .file (d .0) VERSION)) k l (up-most (tablesOf s .file (y .0) VERSION)));
   }

@@ -2,12 +2,12 @@
 use mathlib.Core.Path.{_≡_, subst}
 use mathlib.Core.Bool.{true, cond, not}
 use mathlib.Core.List.{List}
-use Prim.Native.Nat.{ℕ, _+_, _-_, _≤_, _<_}
+use Prim.Native.Nat.{ℕ, _+_, _-_, _*_, _≤_, _<_}
 use native.Mathlib.Omega.{arith}
 use native.Mathlib.Decide.{ℕ-discrete}
 use lib.Dec.{eqb}
 use borrow.Author.Tests.{eq-eqb, ne-eqb}
-use Rattle.rules.specs.Layout.{SLOTS, BLOCK, OPENS, DESCRIPTORS, LENGTH, LINKS, OFFSET, REFERENCES}
+use Rattle.rules.specs.Layout.{SLOTS, BLOCK, DIRENTS, OPENS, PROCESSES, DESCRIPTORS, LENGTH, LINKS, OFFSET, REFERENCES}
 use Rattle.rules.specs.Scan.{repeat}
 use Rattle.rules.specs.Store.{Store, view, subjectOf, up, plus}
 use Rattle.rules.specs.Sound.{sound}
@@ -37,16 +37,16 @@ module _ (s : Store) (h : SoundStore s) where
   length-goes-up f l = let a : tablesOf s .file f LENGTH ≤ BLOCK = length-most SLOTS (tablesOf s) (h .tables) f l in up-is (word s f LENGTH) (unfold tablesOf in (omega (arith, a)))
 
   pub links-go-up : (f : ℕ) → f < SLOTS → up (word s f LINKS) ≡ word s f LINKS + 1
-  links-go-up f l = let a : tablesOf s .file f LINKS ≤ 1024 = link-most SLOTS (tablesOf s) (h .tables) f l in up-is (word s f LINKS) (unfold tablesOf in (omega (arith, a)))
+  links-go-up f l = let a : tablesOf s .file f LINKS ≤ DIRENTS * SLOTS = link-most SLOTS (tablesOf s) (h .tables) f l in up-is (word s f LINKS) (unfold tablesOf in (omega (arith, a)))
 
   pub references-go-up : (e : ℕ) → e < OPENS → up (view s .opened e REFERENCES) ≡ view s .opened e REFERENCES + 1
-  references-go-up e l = let a : tablesOf s .opened e REFERENCES ≤ 64 = references-most SLOTS (tablesOf s) (h .tables) e l in up-is (view s .opened e REFERENCES) (unfold tablesOf in (omega (arith, a)))
+  references-go-up e l = let a : tablesOf s .opened e REFERENCES ≤ DESCRIPTORS * PROCESSES = references-most SLOTS (tablesOf s) (h .tables) e l in up-is (view s .opened e REFERENCES) (unfold tablesOf in (omega (arith, a)))
 
   pub offset-goes-on : (e n : ℕ) → e < OPENS → n ≤ BLOCK → plus (view s .opened e OFFSET) n ≡ view s .opened e OFFSET + n
   offset-goes-on e n l b = let a : tablesOf s .opened e OFFSET ≤ BLOCK = offsets-most SLOTS (tablesOf s) (h .tables) e l in plus-is (view s .opened e OFFSET) n (unfold tablesOf in (omega (arith, a)))
 
   -- each turn of a fork
-  share-sums : (p q : Pid) (u l : ℕ) (hp : p .0 < 8) (hq : q .0 < 8) (i : ℕ) → i < DESCRIPTORS → (t : Store) → Sharing p q u l hp hq s i t → PlainShare (view t) (shareOf (view t) p (fdOf i))
+  share-sums : (p q : Pid) (u l : ℕ) (hp : p .0 < PROCESSES) (hq : q .0 < PROCESSES) (i : ℕ) → i < DESCRIPTORS → (t : Store) → Sharing p q u l hp hq s i t → PlainShare (view t) (shareOf (view t) p (fdOf i))
   unfolding shareOf held
   share-sums p q u l hp hq i hi t c = by (ℕ-discrete (view t .desc (p .0) i) 0)
     where

@@ -1,4 +1,4 @@
--- One descriptor and one open opened change: open, close.
+-- One descriptor and one open file change: open, close.
 use mathlib.Core.Path.{_≡_, refl, sym}
 use mathlib.Core.Bool.{Bool, true, false, _&&_}
 use Prim.Native.Nat.{ℕ, _+_, _-_, _≤_, _<_}
@@ -16,18 +16,18 @@ use Rattle.preservation.proofs.Small.{Held, held}
 use Rattle.preservation.proofs.Link.{loosen, tighten}
 use Rattle.preservation.proofs.Remake.{openCount-at}
 use Rattle.preservation.proofs.Create.{freed, freed-sound}
-use Rattle.rules.specs.Layout.{OPENS, SLOTS, KIND, LINKS, SLOT, REFERENCES, USED, PLAIN, WORD-MAX}
+use Rattle.rules.specs.Layout.{SLOTS, OPENS, PROCESSES, DESCRIPTORS, KIND, LINKS, PLAIN, SLOT, MODE, OFFSET, REFERENCES, USED, MODE-MAX, WORD-MAX}
 
--- an open opened by its words
+-- an open file by its words
 abbrev pub openRow : (slot mode offset refs : ℕ) → ℕ → ℕ
 openRow slot mode offset refs c = getD (slot ∷ mode ∷ offset ∷ refs ∷ []) c 0
 
--- descriptor k of process p becomes v, opened e becomes row
+-- descriptor k of process p becomes v, open file e becomes row
 unfoldable pub handed : (p k v e : ℕ) → (ℕ → ℕ) → Tables → Tables
 handed p k v e row m = record { file = m .file; byte = m .byte; opened = upd (m .opened) e row; proc = m .proc; desc = updRow (m .desc) p k v }
 
-pub handed-sound : (x : ℕ) (m : Tables) → SoundBut x m → (p k v e : ℕ) (row : ℕ → ℕ) → p < 8 → k < 8 → (m .proc p USED ≡ 0 → ⊥) → v ≤ 32 → OpenFile (col (m .file) KIND) (row 0) (row 1) (row 2) (row 3) →
-    All 32 (λ i. upd (m .opened) e row i REFERENCES + ind (eqb (m .desc p k) (i + 1)) ≡ m .opened i REFERENCES + ind (eqb v (i + 1))) →
+pub handed-sound : (x : ℕ) (m : Tables) → SoundBut x m → (p k v e : ℕ) (row : ℕ → ℕ) → p < PROCESSES → k < DESCRIPTORS → (m .proc p USED ≡ 0 → ⊥) → v ≤ OPENS → OpenFile (col (m .file) KIND) (row SLOT) (row MODE) (row OFFSET) (row REFERENCES) →
+    All OPENS (λ i. upd (m .opened) e row i REFERENCES + ind (eqb (m .desc p k) (i + 1)) ≡ m .opened i REFERENCES + ind (eqb v (i + 1))) →
     All SLOTS (λ s. (s ≡ x → ⊥) → openCount (col (m .opened) SLOT) (col (m .opened) REFERENCES) s ≤ openCount (col (upd (m .opened) e row) SLOT) (col (upd (m .opened) e row) REFERENCES) s) → SoundBut x (handed p k v e row m)
 unfolding handed
 handed-sound x m h p k v e row hp hk u hv w counts more = record {
@@ -48,7 +48,7 @@ handed-sound x m h p k v e row hp hk u hv w counts more = record {
         active-most = r .active-most;
         user-most = r .user-most;
         label-most = r .label-most;
-        desc-most = λ c hc. upd-elim (λ y. y ≤ 32) (m .desc p) k v c (λ _. hv) (λ _. s .desc-most c hc);
+        desc-most = λ c hc. upd-elim (λ y. y ≤ OPENS) (m .desc p) k v c (λ _. hv) (λ _. s .desc-most c hc);
         user-zero = r .user-zero;
         label-zero = r .label-zero;
         desc-zero = λ z. absurd (u (rw q at z));
@@ -56,16 +56,16 @@ handed-sound x m h p k v e row hp hk u hv w counts more = record {
       (λ q t. rw t (h .procs i hi));
 }
 
--- the counts of open open-files, row by row
-pub openCount-row : (m : Tables) (e : ℕ) (row : ℕ → ℕ) (s : ℕ) → e < 32 →
-    openCount (col (upd (m .opened) e row) SLOT) (col (upd (m .opened) e row) REFERENCES) s + ind (eqb (m .opened e SLOT) s && ltb 0 (m .opened e REFERENCES)) ≡ openCount (col (m .opened) SLOT) (col (m .opened) REFERENCES) s + ind (eqb (row 0) s && ltb 0 (row 3))
+-- the counts of open files, row by row
+pub openCount-row : (m : Tables) (e : ℕ) (row : ℕ → ℕ) (s : ℕ) → e < OPENS →
+    openCount (col (upd (m .opened) e row) SLOT) (col (upd (m .opened) e row) REFERENCES) s + ind (eqb (m .opened e SLOT) s && ltb 0 (m .opened e REFERENCES)) ≡ openCount (col (m .opened) SLOT) (col (m .opened) REFERENCES) s + ind (eqb (row SLOT) s && ltb 0 (row REFERENCES))
 openCount-row m e row s he =
     rw (eq-eqb e e refl) at (openCount-change (col (m .opened) SLOT) (col (m .opened) REFERENCES) (col (upd (m .opened) e row) SLOT) (col (upd (m .opened) e row) REFERENCES) e s he (λ i q. rw (ne-eqb i e q)) (λ i q. rw (ne-eqb i e q)))
 
 -- ---- open
 
-pub open-sound : (x : ℕ) (m : Tables) → SoundBut x m → (p k e s mode : ℕ) → p < 8 → k < 8 → e < 32 → s < SLOTS → (m .proc p USED ≡ 0 → ⊥) → m .desc p k ≡ 0 → m .opened e REFERENCES ≡ 0 → m .file s KIND ≡ PLAIN →
-    0 < mode → mode ≤ 4 → SoundBut x (handed p k (e + 1) e (openRow s mode 0 1) m)
+pub open-sound : (x : ℕ) (m : Tables) → SoundBut x m → (p k e s mode : ℕ) → p < PROCESSES → k < DESCRIPTORS → e < OPENS → s < SLOTS → (m .proc p USED ≡ 0 → ⊥) → m .desc p k ≡ 0 → m .opened e REFERENCES ≡ 0 → m .file s KIND ≡ PLAIN →
+    0 < mode → mode ≤ MODE-MAX → SoundBut x (handed p k (e + 1) e (openRow s mode 0 1) m)
 open-sound x m h p k e s mode hp hk he hs u d f ks m1 m4 =
     handed-sound x m h p k (e + 1) e (openRow s mode 0 1) hp hk u (omega arith) (open-used (λ z. omega arith) hs ks m1 m4 (omega arith))
     (λ i hi. split i e
@@ -79,12 +79,9 @@ open-sound x m h p k e s mode hp hk he hs u d f ks m1 m4 =
 
 -- ---- close: descriptor k of process p, which holds e, is emptied
 
-module _ (m : Tables) (h : Sound m) (p k e : ℕ) (hp : p < 8) (hk : k < 8) (u : m .proc p USED ≡ 0 → ⊥) (d : m .desc p k ≡ e + 1) where
+module _ (m : Tables) (h : Sound m) (p k e : ℕ) (hp : p < PROCESSES) (hk : k < DESCRIPTORS) (u : m .proc p USED ≡ 0 → ⊥) (d : m .desc p k ≡ e + 1) where
   o : Held m e
   o = held SLOTS m h p k e hp hk d
-
-  abbrev on : ℕ
-  on = m .opened e SLOT
 
   w : SoundBut (m .opened e SLOT) m
   w = loosen (m .opened e SLOT) m h
@@ -99,7 +96,7 @@ module _ (m : Tables) (h : Sound m) (p k e : ℕ) (hp : p < 8) (hk : k < 8) (u :
   false-and true = refl
   false-and false = refl
 
-  counts : (r : ℕ → ℕ) → r REFERENCES + 1 ≡ m .opened e REFERENCES → (i : ℕ) → i < 32 → upd (m .opened) e r i REFERENCES + ind (eqb (m .desc p k) (i + 1)) ≡ m .opened i REFERENCES + ind (eqb 0 (i + 1))
+  counts : (r : ℕ → ℕ) → r REFERENCES + 1 ≡ m .opened e REFERENCES → (i : ℕ) → i < OPENS → upd (m .opened) e r i REFERENCES + ind (eqb (m .desc p k) (i + 1)) ≡ m .opened i REFERENCES + ind (eqb 0 (i + 1))
   counts r z i hi = split i e
       (λ q t. rw (t, q) (omega (arith, ind-eq (m .desc p k) (e + 1) d, ind-ne 0 (e + 1) (λ y. omega arith))))
       (λ q t. rw t (omega (arith, ind-ne (m .desc p k) (i + 1) (λ y. q (omega arith)), ind-ne 0 (i + 1) (λ y. omega arith))))

@@ -10,12 +10,12 @@ use Rattle.preservation.proofs.Change.{file-used}
 use Rattle.preservation.proofs.Remake.{naming-same, remade}
 use Rattle.preservation.proofs.Create.{fileRow}
 use Rattle.preservation.proofs.Words.{same-columns}
-use Rattle.rules.specs.Layout.{SLOTS, OWNER, BITS, LABEL, LINKS, KIND, LENGTH, VERSION, PLAIN, DIRECTORY, WORD-MAX}
+use Rattle.rules.specs.Layout.{SLOTS, BLOCK, DIRENTS, KIND, OWNER, BITS, LABEL, LENGTH, LINKS, VERSION, PLAIN, DIRECTORY, WORD-MAX}
 
 unfoldable pub wrote : (s : ℕ) → (ℕ → ℕ) → (z t : ℕ) → Tables → Tables
 wrote s g z t m = fileTo s VERSION t (fileTo s LENGTH z (bytesTo s g m))
 
-pub wrote-sound : (x : ℕ) (m : Tables) → SoundBut x m → (s : ℕ) (g : ℕ → ℕ) (z t : ℕ) → m .file s KIND ≡ PLAIN → z ≤ 512 → All 512 (λ b. z ≤ b → g b ≡ 0) → t ≤ WORD-MAX → SoundBut x (wrote s g z t m)
+pub wrote-sound : (x : ℕ) (m : Tables) → SoundBut x m → (s : ℕ) (g : ℕ → ℕ) (z t : ℕ) → m .file s KIND ≡ PLAIN → z ≤ BLOCK → All BLOCK (λ b. z ≤ b → g b ≡ 0) → t ≤ WORD-MAX → SoundBut x (wrote s g z t m)
 unfolding wrote
 wrote-sound x m h s g z t k hz g0 ht = record {
   files = λ i hi. split i s
@@ -45,7 +45,7 @@ wrote-sound x m h s g z t k hz g0 ht = record {
     plain : (i : ℕ) → i ≡ s → m .file i KIND ≡ DIRECTORY → ⊥
     plain i q a = omega (arith, rw q at a)
 
-    same : (n i j : ℕ) → i < SLOTS → j < 16 → naming (col (m .file) KIND) (direntRow (upd (m .byte) s g)) n i j ≡ naming (col (m .file) KIND) (direntRow (m .byte)) n i j
+    same : (n i j : ℕ) → i < SLOTS → j < DIRENTS → naming (col (m .file) KIND) (direntRow (upd (m .byte) s g)) n i j ≡ naming (col (m .file) KIND) (direntRow (m .byte)) n i j
     same n i j _ _ = split i s (λ q e. rw (ne-eqb (m .file i KIND) DIRECTORY (plain i q))) (λ q e. rw e)
 
 -- ---- cut: a record with length 0 and no bytes

@@ -4,12 +4,12 @@ use Prim.Native.Nat.{ℕ, suc, _<_}
 use native.Mathlib.Omega.{arith}
 use Rattle.preservation.proofs.Tables.{Tables, direntRow}
 use Rattle.preservation.proofs.Sound.{Sound}
-use Rattle.rules.specs.Layout.{SLOTS, KIND, FREE, DIRECTORY}
+use Rattle.rules.specs.Layout.{SLOTS, DIRENTS, NAME, KIND, FREE, DIRECTORY}
 
 -- slot d is reached from the root by k names
 pub data Reach (m : Tables) : ℕ → ℕ → Type 0 where
   root : Reach m 0 0
-  down : {k u : ℕ} (p : ℕ) → Reach m k u → m .file u KIND ≡ DIRECTORY → p < 16 → (direntRow (m .byte) u p 14 ≡ 0 → ⊥) → Reach m (suc k) (direntRow (m .byte) u p 14)
+  down : {k u : ℕ} (p : ℕ) → Reach m k u → m .file u KIND ≡ DIRECTORY → p < DIRENTS → (direntRow (m .byte) u p NAME ≡ 0 → ⊥) → Reach m (suc k) (direntRow (m .byte) u p NAME)
 
 pub reach-small : (m : Tables) → Sound m → {k d : ℕ} → Reach m k d → d < SLOTS
 reach-small m h root = omega arith

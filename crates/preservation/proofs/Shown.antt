@@ -131,9 +131,6 @@ module _ (D : List ℕ) (rows : ℕ → ℕ → ℕ) (agree : (i k : ℕ) → k 
       })
       (λ u. (u .last-zero, ((λ q. u .empty-zero q), λ n. (u .valid n, (u .slot-small, u .slot-used n)))))
     where
-      slot : ℕ
-      slot = rows i NAME
-
       valid-row : nameSound (direntAt D i) ≡ validRow (rows i)
       valid-row = name-row (direntAt D i) ∙ validRow-to (λ k. getD (direntAt D i) k 0) (rows i) (λ k l. agree i k (omega arith))
 

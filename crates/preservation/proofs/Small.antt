@@ -1,4 +1,4 @@
--- Changes of one row: duplicate, seek, change bits.
+-- Changes of one word: seek, change bits.
 use mathlib.Core.Path.{_≡_, refl}
 use Prim.Native.Nat.{ℕ, _+_, _≤_, _<_}
 use native.Mathlib.Omega.{arith}
@@ -6,21 +6,21 @@ use Rattle.preservation.proofs.Tests.{split, upd-elim}
 use Rattle.preservation.proofs.Tables.{Tables, col, fileTo, openTo, descTo}
 use Rattle.preservation.proofs.Sound.{SoundBut}
 use Rattle.preservation.proofs.Change.{ind-eq, ind-ne, holders-to, holders-at, openCount-refs, file-used, open-used}
-use Rattle.rules.specs.Layout.{KIND, BITS, SLOT, OFFSET, REFERENCES, USED, FREE}
+use Rattle.rules.specs.Layout.{BLOCK, OPENS, PROCESSES, DESCRIPTORS, KIND, BITS, FREE, SLOT, OFFSET, REFERENCES, USED, BITS-MAX}
 
--- the opened that a descriptor links is open
+-- the open file that a descriptor holds is in use
 pub record Held (m : Tables) (e : ℕ) : Type 0 where
-  pub small : e < 32
+  pub small : e < OPENS
   pub open-refs : m .opened e REFERENCES ≡ 0 → ⊥
 
-pub held : (x : ℕ) (m : Tables) (h : SoundBut x m) (p k e : ℕ) → p < 8 → k < 8 → m .desc p k ≡ e + 1 → Held m e
+pub held : (x : ℕ) (m : Tables) (h : SoundBut x m) (p k e : ℕ) → p < PROCESSES → k < DESCRIPTORS → m .desc p k ≡ e + 1 → Held m e
 held x m h p k e hp hk q =
-    let l : e < 32 = omega (arith, h .procs p hp .desc-most k hk) in
+    let l : e < OPENS = omega (arith, h .procs p hp .desc-most k hk) in
     record { small = l; open-refs = λ z. omega (arith, holders-at (m .desc) p k e hp hk q, h .refs e l) }
 
 -- ---- seek
 
-pub seek-sound : (x : ℕ) (m : Tables) → SoundBut x m → (e v : ℕ) → (m .opened e REFERENCES ≡ 0 → ⊥) → v ≤ 512 → SoundBut x (openTo e OFFSET v m)
+pub seek-sound : (x : ℕ) (m : Tables) → SoundBut x m → (e v : ℕ) → (m .opened e REFERENCES ≡ 0 → ⊥) → v ≤ BLOCK → SoundBut x (openTo e OFFSET v m)
 seek-sound x m h e v o l = record {
   files = h .files;
   root-kind = h .root-kind;
@@ -42,7 +42,7 @@ seek-sound x m h e v o l = record {
 
 -- ---- change bits
 
-pub bits-sound : (x : ℕ) (m : Tables) → SoundBut x m → (s v : ℕ) → (m .file s KIND ≡ FREE → ⊥) → v ≤ 7 → SoundBut x (fileTo s BITS v m)
+pub bits-sound : (x : ℕ) (m : Tables) → SoundBut x m → (s v : ℕ) → (m .file s KIND ≡ FREE → ⊥) → v ≤ BITS-MAX → SoundBut x (fileTo s BITS v m)
 bits-sound x m h s v u l = record {
   files = λ i hi. split i s
       (λ q t. let r = h .files i hi in rw t (file-used (rw q u) (r .kind-most) (r .owner-most) l (r .label-most) (r .version-most)))
@@ -60,4 +60,3 @@ bits-sound x m h s v u l = record {
   refs = h .refs;
   procs = h .procs;
 }
-

@@ -63,9 +63,6 @@ module _ (s : Store) (z : Sized s) where
   unfolding directorySound
   means-directory d h e = means-every (means-and dirents (means-and (means-or (means-eq d 0) (means-eq (file d LINKS) 1)) (means-last (means-climbs (view s .tree) rows agree NAMES d))))
     where
-      D : List ℕ
-      D = shownOf (s .files) (s .contents) d
-
       whole : shownOf (s .files) (s .contents) d ≡ block (s .contents) d
       whole = shown-whole (s .files) (s .contents) d (λ q. omega (arith, e))
 

@@ -116,7 +116,7 @@ sum2-change n k f g a b l m h =
 pub sum2-at : (n k : ℕ) (f : ℕ → ℕ → ℕ) (a b : ℕ) → a < n → b < k → f a b ≤ sum2 n k f
 sum2-at n k f a b l m = omega (arith, sum-at n (λ i. sum k (f i)) a l, sum-at k (f a) b m)
 
--- at most one of two dirents counts where the sum is at most 1
+-- two summands of different rows
 pub sum2-rows : (n k : ℕ) (f : ℕ → ℕ → ℕ) (a b c d : ℕ) → a < n → b < k → c < n → d < k → (a ≡ c → ⊥) → f a b + f c d ≤ sum2 n k f
 sum2-rows n k f a b c d la lb lc ld ne = omega (arith, sum-two n (λ i. sum k (f i)) a c la lc ne, sum-at k (f a) b lb, sum-at k (f c) d ld)
 

@@ -2,6 +2,7 @@
 use mathlib.Core.Bool.{cond}
 use Prim.Native.Nat.{ℕ, _+_, _*_, _/_, _%_}
 use lib.Dec.{eqb, ltb}
+use Rattle.rules.specs.Layout.{DIRENT}
 use Rattle.preservation.proofs.Tests.{upd, upd2, updRow}
 
 -- As in the view: the files' records, the open files, the processes' own words and their descriptors, each by row and named column. `byte` is
@@ -19,7 +20,7 @@ col f c i = f i c
 
 -- the directory entries of a block of bytes: entry p, byte k; 0 for k over 15, so that two entries never share a byte
 abbrev pub rowsOf : (ℕ → ℕ) → ℕ → ℕ → ℕ
-rowsOf bytes p k = cond (ltb k 16) (bytes (16 * p + k)) 0
+rowsOf bytes p k = cond (ltb k DIRENT) (bytes (DIRENT * p + k)) 0
 
 -- byte k of entry p of directory d
 abbrev pub direntRow : (ℕ → ℕ → ℕ) → ℕ → ℕ → ℕ → ℕ
@@ -27,7 +28,7 @@ direntRow byte d = rowsOf (byte d)
 
 -- the block with entry p holding the 16 bytes of r
 abbrev pub fill : (ℕ → ℕ) → ℕ → (ℕ → ℕ) → ℕ → ℕ
-fill bytes p r b = cond (eqb (b / 16) p) (r (b % 16)) (bytes b)
+fill bytes p r b = cond (eqb (b / DIRENT) p) (r (b % DIRENT)) (bytes b)
 
 -- ---- primitive changes
 

@@ -1,4 +1,4 @@
--- A name taken away: the direntRow becomes empty.
+-- A name taken away: the entry becomes empty.
 use mathlib.Core.Path.{_≡_, refl, sym, _∙_}
 use Prim.Native.Nat.{ℕ, suc, _-_, _≤_, _<_}
 use native.Mathlib.Omega.{arith}
@@ -8,7 +8,7 @@ use Rattle.preservation.proofs.Sound.{SoundBut, Dirent, Depths}
 use Rattle.preservation.proofs.Change.{ind-eq, ind-ne}
 use Rattle.preservation.proofs.Dirents.{placed, Fits, placed-files, placed-blocks, placed-dirs, placed-lengths, placed-links, placed-other-slot, placed-here-slot, naming-at, used-at}
 use Rattle.preservation.proofs.Link.{ind-some}
-use Rattle.rules.specs.Layout.{SLOTS, KIND, LENGTH, LINKS, DIRECTORY, WORD-MAX}
+use Rattle.rules.specs.Layout.{SLOTS, DIRENTS, NAME, KIND, LENGTH, LINKS, DIRECTORY, WORD-MAX}
 
 abbrev pub noRow : ℕ → ℕ
 noRow k = 0
@@ -19,7 +19,7 @@ no-dirent kind = record { last-zero = refl; slot-small = omega arith; empty-zero
 unfoldable pub unlinked : (d p t y : ℕ) → Tables → Tables
 unlinked d p t y m = placed d p noRow (m .file d LENGTH - 1) t y (m .file y LINKS - 1) m
 
-module _ (m : Tables) (d p t y : ℕ) (h : SoundBut y m) (hd : d < SLOTS) (kd : m .file d KIND ≡ DIRECTORY) (hp : p < 16) (e : direntRow (m .byte) d p 14 ≡ y) (n0 : y ≡ 0 → ⊥) (ht : t ≤ WORD-MAX) where
+module _ (m : Tables) (d p t y : ℕ) (h : SoundBut y m) (hd : d < SLOTS) (kd : m .file d KIND ≡ DIRECTORY) (hp : p < DIRENTS) (e : direntRow (m .byte) d p NAME ≡ y) (n0 : y ≡ 0 → ⊥) (ht : t ≤ WORD-MAX) where
   unlinked-fits : Fits m d p noRow t y
   unlinked-fits = record {
     dir-small = hd;
@@ -46,7 +46,7 @@ module _ (m : Tables) (d p t y : ℕ) (h : SoundBut y m) (hd : d < SLOTS) (kd : 
       b : ℕ → ℕ → ℕ
       b = upd (m .byte) d (fill (m .byte d) p noRow)
 
-      keep : (u : ℕ) → u < SLOTS → m .file u KIND ≡ DIRECTORY → (q : ℕ) → q < 16 → (u ≡ d → q ≡ p → ⊥) → (direntRow b u q 14 ≡ 0 → ⊥) → m .file (direntRow b u q 14) KIND ≡ DIRECTORY → h .depths .depth (direntRow b u q 14) ≡ suc (h .depths .depth u)
+      keep : (u : ℕ) → u < SLOTS → m .file u KIND ≡ DIRECTORY → (q : ℕ) → q < DIRENTS → (u ≡ d → q ≡ p → ⊥) → (direntRow b u q NAME ≡ 0 → ⊥) → m .file (direntRow b u q NAME) KIND ≡ DIRECTORY → h .depths .depth (direntRow b u q NAME) ≡ suc (h .depths .depth u)
       keep u hu ku q hq o = rw (placed-other-slot y m h d p noRow 0 t y 0 unlinked-fits u q o) (h .depths .depth-step u hu ku q hq)
 
   pub unlinked-sound : SoundBut y (unlinked d p t y m)
@@ -57,10 +57,10 @@ module _ (m : Tables) (d p t y : ℕ) (h : SoundBut y m) (hd : d < SLOTS) (kd : 
     root-links = upd-other (col (m .file) LINKS) y c 0 (λ q. n0 (sym q)) ∙ h .root-links;
     blocks = placed-blocks y m h d p noRow z t y c f;
     dirs = placed-dirs y m h d p noRow z t y c f;
-    lengths = placed-lengths y m h d p noRow z t y c f (omega (arith, ind-some (direntRow (m .byte) d p 14) (rw e n0), used-at (direntRow (m .byte) d) p hp (rw e n0), h .lengths d hd kd));
+    lengths = placed-lengths y m h d p noRow z t y c f (omega (arith, ind-some (direntRow (m .byte) d p NAME) (rw e n0), used-at (direntRow (m .byte) d) p hp (rw e n0), h .lengths d hd kd));
     links = placed-links y m h d p noRow z t y c f (λ s hs n. split s y
-        (λ q w. rw (w, q) (omega (arith, ind-eq (direntRow (m .byte) d p 14) y e, ind-ne 0 y (λ a. n0 (sym a)), naming-at (col (m .file) KIND) (direntRow (m .byte)) d p y hd hp kd e, h .links y (rw q at hs) n0)))
-        (λ q w. rw w (omega (arith, ind-ne (direntRow (m .byte) d p 14) s (λ a. q (sym a ∙ e)), ind-ne 0 s (λ a. n (sym a))))));
+        (λ q w. rw (w, q) (omega (arith, ind-eq (direntRow (m .byte) d p NAME) y e, ind-ne 0 y (λ a. n0 (sym a)), naming-at (col (m .file) KIND) (direntRow (m .byte)) d p y hd hp kd e, h .links y (rw q at hs) n0)))
+        (λ q w. rw w (omega (arith, ind-ne (direntRow (m .byte) d p NAME) s (λ a. q (sym a ∙ e)), ind-ne 0 s (λ a. n (sym a))))));
     once = λ i hi q k n. rw (upd-other (col (m .file) LINKS) y c i q) (h .once i hi q k n);
     depths = unlinked-depths;
     alive = λ i hi q k. rw (upd-other (col (m .file) LINKS) y c i q) (h .alive i hi q k);
