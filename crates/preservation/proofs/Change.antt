@@ -1,11 +1,11 @@
 -- How the counts change where one row of a table changes.
 use mathlib.Core.Path.{_≡_, refl, ap}
-use mathlib.Core.Bool.{true, _&&_}
+use mathlib.Core.Bool.{_&&_}
 use Prim.Native.Nat.{ℕ, _+_, _≤_, _<_}
 use native.Mathlib.Omega.{arith}
 use lib.Dec.{eqb, ltb}
-use borrow.Author.Tests.{eq-eqb, ne-eqb, lt-ltb}
-use Rattle.preservation.proofs.Tests.{split, upd, upd2, updRow, upd-other, upd-same}
+use borrow.Author.Tests.{eq-eqb, ne-eqb}
+use Rattle.preservation.proofs.Tests.{split, updRow}
 use Rattle.preservation.proofs.Sums.{count2, ind, sum-change, sum2-change, sum2-at, ind-true}
 use Rattle.preservation.proofs.Sound.{holderCount, openCount, File, OpenFile}
 use Rattle.rules.specs.Layout.{SLOTS, BLOCK, OPENS, PROCESSES, DESCRIPTORS, FREE, PLAIN, KIND-MAX, USER-MAX, BITS-MAX, LABEL-MAX, MODE-MAX, WORD-MAX}

@@ -214,9 +214,6 @@ exit-leaves s h p hp u = record {
     c : Closing s (p .0) DESCRIPTORS (repeat (released p) 0 DESCRIPTORS s)
     c = closing-all s p DESCRIPTORS 0 s hp refl (record { sound = h; used = u; gone = λ j hj. absurd (not-suc-le-zero hj); steady = λ f. inr (refl, refl) })
 
-    t : Store
-    t = repeat (released p) 0 DESCRIPTORS s
-
     m : Tables
     m = tablesOf (repeat (released p) 0 DESCRIPTORS s)
 

@@ -52,9 +52,6 @@ pub record Naming (m : Tables) (name : paths.Name) (d : Slot) (i : ℕ) (y : Slo
   pub fits : Name m (d .0) i (rowOf name y) (y .0)
 
 module _ (s : Store) (h : SoundStore s) where
-  abbrev m : Tables
-  m = tablesOf s
-
   longer : (d : ℕ) → d < SLOTS → up (tablesOf s .file d LENGTH) ≡ tablesOf s .file d LENGTH + 1
   longer d hd = up-is (tablesOf s .file d LENGTH) (omega (arith, length-most SLOTS (tablesOf s) (h .tables) d hd))
 

@@ -8,7 +8,7 @@ use native.Mathlib.Omega.{arith}
 use lib.Dec.{eqb, leb}
 use lib.ListN.{length, getD, take, drop, length-drop}
 use lib.Seq.{length-take-le, getD-take, getD-drop}
-use borrow.Author.Tests.{eqb-true}
+use borrow.Author.Tests.{eqb-true, eq-eqb}
 use Rattle.rules.specs.Layout.{NAME, NAMES, PATH, SLASH}
 use Rattle.rules.specs.Choice.{every}
 use Rattle.rules.specs.Paths.{Name, isSlash, notSlash, notZero, span, skip, nextName, nameEnd, firstNames, names, isDots, nameOk, namesOk, noZero, shapeOk, endOk, pathOk, isRoot, lastName}
@@ -47,7 +47,7 @@ not-true false e f = false≢true f
 
 clean-path : (p : List ℕ) → noZero p ≡ true → Clean p
 unfolding noZero Clean notZero
-clean-path p e k h z = not-true (eqb (getD p k 0) 0) (span-at notZero p k (rw (eqb-true (span notZero p) (length p) e) h)) (borrow.Author.Tests.eq-eqb (getD p k 0) 0 z)
+clean-path p e k h z = not-true (eqb (getD p k 0) 0) (span-at notZero p k (rw (eqb-true (span notZero p) (length p) e) h)) (eq-eqb (getD p k 0) 0 z)
 
 clean-drop : (p : List ℕ) (n : ℕ) → Clean p → Clean (drop n p)
 unfolding Clean
@@ -64,9 +64,6 @@ next-good : (p : List ℕ) → Clean p → 0 < length (nextName p) → GoodBytes
 unfolding nextName skip
 next-good p c h = record { some-byte = h; no-zero = λ k hk z. at k hk (λ g. tail k g (sym (same k hk) ∙ z)); no-slash = λ k hk z. slash k hk (sym (same k hk) ∙ z) }
   where
-    q : List ℕ
-    q = drop (span isSlash p) p
-
     size : length (take (span notSlash (drop (span isSlash p) p)) (drop (span isSlash p) p)) ≡ span notSlash (drop (span isSlash p) p)
     size = length-take-le (span notSlash (drop (span isSlash p) p)) (drop (span isSlash p) p) (span-most notSlash (drop (span isSlash p) p))
 
@@ -80,7 +77,7 @@ next-good p c h = record { some-byte = h; no-zero = λ k hk z. at k hk (λ g. ta
     at k hk f = f (omega (arith, rw size at hk, span-most notSlash (drop (span isSlash p) p)))
 
     slash : (k : ℕ) → k < length (take (span notSlash (drop (span isSlash p) p)) (drop (span isSlash p) p)) → getD (drop (span isSlash p) p) k 0 ≡ SLASH → ⊥
-    slash k hk z = not-true (eqb (getD (drop (span isSlash p) p) k 0) SLASH) (unfold notSlash in span-at notSlash (drop (span isSlash p) p) k (rw size at hk)) (borrow.Author.Tests.eq-eqb (getD (drop (span isSlash p) p) k 0) SLASH z)
+    slash k hk z = not-true (eqb (getD (drop (span isSlash p) p) k 0) SLASH) (unfold notSlash in span-at notSlash (drop (span isSlash p) p) k (rw size at hk)) (eq-eqb (getD (drop (span isSlash p) p) k 0) SLASH z)
 
 -- ---- all of them
 

@@ -12,7 +12,7 @@ use Rattle.rules.specs.Step.{refusedReply, replyTo, storeAfter, outcomeOf, act,
 use Rattle.rules.specs.declared.refusal.Refusal.the-variants.{Unsound}
 use Rattle.rules.specs.declared.decision.Decision.{Decision}
 use Rattle.rules.specs.declared.decision.Decision.the-variants.{Refused, Granted}
-use Rattle.preservation.specs.Claims.{isGranted}
+use Rattle.preservation.specs.Claims.{IsGranted}
 
 decided-store : (s : Store) (c : Call) (d : Decision) → (outcomeOf s c d .reply .refusal ≡ GRANTED → ⊥) → outcomeOf s c d .store ≡ s
 unfolding outcomeOf replyTo storeAfter
@@ -25,7 +25,7 @@ decided-buffer s c (Refused r k) f = refl
 decided-buffer s c (Granted n o e) f = absurd (f refl)
 
 module _ (Q : List ℕ) (s : Store) (c : Call) where
-  pub refused-store : (isGranted Q s c → ⊥) → step Q s c .store ≡ s
+  pub refused-store : (IsGranted Q s c → ⊥) → step Q s c .store ≡ s
   unfolding step act
   refused-store = by (sound Q s)
     where
@@ -33,7 +33,7 @@ module _ (Q : List ℕ) (s : Store) (c : Call) where
       by true = unfold act in decided-store s c (decide Q (view s) c)
       by false = λ _. refl
 
-  pub refused-buffer : (isGranted Q s c → ⊥) → step Q s c .reply .buffer ≡ c .buffer
+  pub refused-buffer : (IsGranted Q s c → ⊥) → step Q s c .reply .buffer ≡ c .buffer
   unfolding step act
   refused-buffer = by (sound Q s)
     where

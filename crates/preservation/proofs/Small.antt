@@ -1,12 +1,12 @@
 -- Changes of one word: seek, change bits.
-use mathlib.Core.Path.{_≡_, refl}
+use mathlib.Core.Path.{_≡_}
 use Prim.Native.Nat.{ℕ, _+_, _≤_, _<_}
 use native.Mathlib.Omega.{arith}
-use Rattle.preservation.proofs.Tests.{split, upd-elim}
-use Rattle.preservation.proofs.Tables.{Tables, col, fileTo, openTo, descTo}
+use Rattle.preservation.proofs.Tests.{split}
+use Rattle.preservation.proofs.Tables.{Tables, fileTo, openTo}
 use Rattle.preservation.proofs.Sound.{SoundBut}
-use Rattle.preservation.proofs.Change.{ind-eq, ind-ne, holders-to, holders-at, openCount-refs, file-used, open-used}
-use Rattle.rules.specs.Layout.{BLOCK, OPENS, PROCESSES, DESCRIPTORS, KIND, BITS, FREE, SLOT, OFFSET, REFERENCES, USED, BITS-MAX}
+use Rattle.preservation.proofs.Change.{holders-at, file-used, open-used}
+use Rattle.rules.specs.Layout.{BLOCK, OPENS, PROCESSES, DESCRIPTORS, KIND, BITS, FREE, OFFSET, REFERENCES, BITS-MAX}
 
 -- the open file that a descriptor holds is in use
 pub record Held (m : Tables) (e : ℕ) : Type 0 where

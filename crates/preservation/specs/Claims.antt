@@ -1,5 +1,5 @@
--- What may be relied on, for every policy Q, every store s and every call c. `step Q s c` is the call: its reply, and the store after it.
--- Each statement here is proved in proofs/.
+-- What may be relied on, for every policy Q, every store s and every call c: the record `Claims` below, which proofs/Proved.antt proves.
+-- `step Q s c` is the call: its reply, and the store after it. `A → ⊥` says that A does not hold.
 use Prim.Native.Nat.{ℕ, _+_, _≤_, _<_, max}
 use mathlib.Core.Path.{_≡_}
 use mathlib.Core.Bool.{true}
@@ -24,15 +24,18 @@ use Rattle.rules.specs.declared.decision.Effect.{Effect}
 use Rattle.rules.specs.declared.decision.Effect.the-variants as effect
 use Rattle.rules.specs.declared.decision.Decision.the-variants.{Granted}
 
--- a word of the record of slot f; the caller's user
+-- ---- the words of the claims
+
+-- a word of the record of slot f
 abbrev pub word : Store → ℕ → ℕ → ℕ
 word s f column = view s .tree .file f column
 
+-- the caller's user
 abbrev pub callerUser : Store → Call → ℕ
 callerUser s c = view s .proc (c .process .0) USER
 
-abbrev pub isGranted : List ℕ → Store → Call → Type 0
-isGranted Q s c = step Q s c .reply .refusal ≡ GRANTED
+abbrev pub IsGranted : List ℕ → Store → Call → Type 0
+IsGranted Q s c = step Q s c .reply .refusal ≡ GRANTED
 
 -- some open file names slot f
 abbrev pub IsOpen : Store → ℕ → Type 0
@@ -47,14 +50,15 @@ OpenAfterEach Q s f (c ∷ cs) = IsOpen (step Q s c .store) f × OpenAfterEach Q
 
 -- call c, 2 (create) or 3 (make directory), gives out slot f
 abbrev pub GivesOut : List ℕ → Store → Call → ℕ → Type 0
-GivesOut Q s c f = ((c .call ≡ 2) ⊎ (c .call ≡ 3)) × (isGranted Q s c × (step Q s c .reply .value ≡ f))
+GivesOut Q s c f = ((c .call ≡ 2) ⊎ (c .call ≡ 3)) × (IsGranted Q s c × (step Q s c .reply .value ≡ f))
 
 -- after every call of the list slot f is plain, and no call gives it out
 unfoldable pub PlainAfterEach : List ℕ → Store → ℕ → List Call → Type 0
 PlainAfterEach Q s f [] = Unit {0}
 PlainAfterEach Q s f (c ∷ cs) = (word (step Q s c .store) f KIND ≡ PLAIN) × ((GivesOut Q s c f → ⊥) × PlainAfterEach Q (step Q s c .store) f cs)
 
--- ---- the numbers that a granted call writes are plain sums: nothing is lost to the 32 bits of a word
+-- ---- the numbers that a granted call writes are plain sums: nothing is lost to the 32 bits of a word. A number that only goes down, or is
+-- copied, is no sum; the version is left out, since it may wrap.
 
 -- a share of an open file has one reference more
 unfoldable pub PlainShare : View → Share → Type 0
@@ -93,9 +97,9 @@ pub record Claims : Type 0 where
   pub call-keeps-sound : (Q : List ℕ) (s : Store) (c : Call) → sound Q s ≡ true → sound Q (step Q s c .store) ≡ true
   pub calls-keep-sound : (Q : List ℕ) (s : Store) (cs : List Call) → sound Q s ≡ true → sound Q (final Q s cs) ≡ true
   -- 1. A refused call leaves every table and the buffer as they were, whether the store is sound or not.
-  pub refused-leaves-store : (Q : List ℕ) (s : Store) (c : Call) → (isGranted Q s c → ⊥) → step Q s c .store ≡ s
-  pub refused-leaves-buffer : (Q : List ℕ) (s : Store) (c : Call) → (isGranted Q s c → ⊥) → step Q s c .reply .buffer ≡ c .buffer
-  -- 2. Where a slot is in use before and after a call, and its bits differ, the caller was user 0 or its owner.
+  pub refused-leaves-store : (Q : List ℕ) (s : Store) (c : Call) → (IsGranted Q s c → ⊥) → step Q s c .store ≡ s
+  pub refused-leaves-buffer : (Q : List ℕ) (s : Store) (c : Call) → (IsGranted Q s c → ⊥) → step Q s c .reply .buffer ≡ c .buffer
+  -- 2. Where a slot is in use before and after a call, whichever call it is, and its bits differ, the caller was user 0 or its owner.
   pub bits-by-owner : (Q : List ℕ) (s : Store) (c : Call) (f : ℕ) → (word s f KIND ≡ FREE → ⊥) → (word (step Q s c .store) f KIND ≡ FREE → ⊥) → (word (step Q s c .store) f BITS ≡ word s f BITS → ⊥) →
       (callerUser s c ≡ 0) ⊎ (callerUser s c ≡ word s f OWNER)
   -- 3. While after every call some open file names f, slot f stays plain, and no call gives it out as new.
