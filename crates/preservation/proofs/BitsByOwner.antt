@@ -29,7 +29,7 @@ use Rattle.preservation.proofs.Remake.{remade}
 use Rattle.preservation.proofs.Plain.{wrote}
 use Rattle.preservation.proofs.Open.{handed}
 use Rattle.preservation.proofs.Processes.{shared}
-use Rattle.preservation.proofs.Changes.{tablesOf}
+use Rattle.preservation.proofs.StoreChanges.{tablesOf}
 use Rattle.preservation.proofs.SoundStore.{SoundStore, means-sound}
 use Rattle.preservation.proofs.OpenEffects.{Leaves, open-leaves, truncate-leaves, move-leaves, duplicate-leaves, bits-leaves, execute-leaves, write-leaves}
 use Rattle.preservation.proofs.NameEffects.{link-leaves, create-leaves, unlinkedTables, Unnaming, keeps, frees, unlink-leaves, unnaming-is, remove-leaves}
@@ -37,7 +37,7 @@ use Rattle.preservation.proofs.CloseEffects.{Steady, close-leaves, rele
 use Rattle.preservation.proofs.ForkEffects.{fork-leaves}
 use Rattle.preservation.proofs.Granted.{Fit, granting, refusing, unlinking, Granting, nothing, opens, truncates, creates, unlinks, removes, links, changesBits, closes, stores, reads, seeks, duplicates, forks, exits, executes}
 use Rattle.preservation.proofs.Decided.{decide-fit}
-use Rattle.preservation.proofs.Kept.{placed-well, caller-user, caller-label}
+use Rattle.preservation.proofs.Preserved.{placed-well, caller-user, caller-label}
 
 module _ (s : Store) (h : SoundStore s) (c : Call) (f : ℕ) where
   -- what is claimed of the store t after the call

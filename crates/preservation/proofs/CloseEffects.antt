@@ -26,15 +26,15 @@ use Rattle.preservation.proofs.Tests.{split, upd, updRow, Means, means-
 use Rattle.preservation.proofs.Tables.{Tables, descTo}
 use Rattle.preservation.proofs.Scans.{any-found, any-none}
 use Rattle.preservation.proofs.Sound.{Sound}
-use Rattle.preservation.proofs.Change.{updRow-same, updRow-other}
+use Rattle.preservation.proofs.Counts.{updRow-same, updRow-other}
 use Rattle.preservation.proofs.Words.{up-most}
-use Rattle.preservation.proofs.Small.{Held}
-use Rattle.preservation.proofs.Small as small
+use Rattle.preservation.proofs.OneWord.{Held}
+use Rattle.preservation.proofs.OneWord as word
 use Rattle.preservation.proofs.Remake.{remade}
 use Rattle.preservation.proofs.Create.{fileRow, freed}
 use Rattle.preservation.proofs.Open.{handed, close-keeps, close-named, close-open, close-frees, slot-small}
 use Rattle.preservation.proofs.Processes.{retire-sound}
-use Rattle.preservation.proofs.Changes.{tablesOf, Has, has-clearTo, has-openRow, has-openZero, has-descTo, has-procZero, desc-past}
+use Rattle.preservation.proofs.StoreChanges.{tablesOf, Has, has-clearTo, has-openRow, has-openZero, has-descTo, has-procZero, desc-past}
 use Rattle.preservation.proofs.Counted.{means-on}
 use Rattle.preservation.proofs.SoundStore.{SoundStore, kept}
 use Rattle.preservation.proofs.OpenEffects.{Leaves, leaves-sound, its-tables}
@@ -88,7 +88,7 @@ module _ (s : Store) (h : SoundStore s) (p : Pid) (i : Fd) where
     dropping-is e d = by (ltb 1 (view s .opened e REFERENCES)) refl
       where
         o : Held (tablesOf s) e
-        o = small.held SLOTS (tablesOf s) (h .tables) (p .0) (i .0) e hp hi d
+        o = word.held SLOTS (tablesOf s) (h .tables) (p .0) (i .0) e hp hi d
 
         by : (b : Bool) → ltb 1 (view s .opened e REFERENCES) ≡ b → Releasing (cond b (release.Kept e (view s .opened e REFERENCES - 1)) (closing (view s) e (slot (view s .opened e SLOT))))
         by true t = keeps e d (unfold tablesOf in ltb-true 1 (view s .opened e REFERENCES) t)
@@ -140,19 +140,19 @@ close-leaves s h p i hp hi u (nothing q) = from-leaves {m = descTo (p .0) (i .0)
   sound = subst (λ (d : ℕ → ℕ → ℕ). Sound (record { file = tablesOf s .file; byte = tablesOf s .byte; opened = tablesOf s .opened; proc = tablesOf s .proc; desc = d })) (sym (updRow-id (tablesOf s .desc) (p .0) (i .0) 0 q)) (h .tables);
 }) refl refl (λ f. inr (refl, refl))
 close-leaves s h p i hp hi u (keeps e d l) = from-leaves {m = handed (p .0) (i .0) 0 e (upd (tablesOf s .opened e) REFERENCES (tablesOf s .opened e REFERENCES - 1)) (tablesOf s)} (record {
-  has = unfold tablesOf in has-openRow (has-descTo (its-tables s h) (p .0) (i .0) 0 hp hi) e REFERENCES (view s .opened e REFERENCES - 1) (small.held SLOTS (tablesOf s) (h .tables) (p .0) (i .0) e hp hi d .small) (omega arith);
+  has = unfold tablesOf in has-openRow (has-descTo (its-tables s h) (p .0) (i .0) 0 hp hi) e REFERENCES (view s .opened e REFERENCES - 1) (word.held SLOTS (tablesOf s) (h .tables) (p .0) (i .0) e hp hi d .small) (omega arith);
   sound = unfold tablesOf in close-keeps (tablesOf s) (h .tables) (p .0) (i .0) e hp hi (λ z. omega (arith, u, z)) d l;
 }) refl refl (λ f. inr (refl, refl))
 close-leaves s h p i hp hi u (named e d r l) = from-leaves {m = handed (p .0) (i .0) 0 e (λ _. 0) (tablesOf s)} (record {
-  has = has-openZero (has-descTo (its-tables s h) (p .0) (i .0) 0 hp hi) e (small.held SLOTS (tablesOf s) (h .tables) (p .0) (i .0) e hp hi d .small);
+  has = has-openZero (has-descTo (its-tables s h) (p .0) (i .0) 0 hp hi) e (word.held SLOTS (tablesOf s) (h .tables) (p .0) (i .0) e hp hi d .small);
   sound = close-named (tablesOf s) (h .tables) (p .0) (i .0) e hp hi (λ z. omega (arith, u, z)) d r l;
 }) refl refl (λ f. inr (refl, refl))
 close-leaves s h p i hp hi u (stays e d r j hj n a b) = from-leaves {m = handed (p .0) (i .0) 0 e (λ _. 0) (tablesOf s)} (record {
-  has = has-openZero (has-descTo (its-tables s h) (p .0) (i .0) 0 hp hi) e (small.held SLOTS (tablesOf s) (h .tables) (p .0) (i .0) e hp hi d .small);
+  has = has-openZero (has-descTo (its-tables s h) (p .0) (i .0) 0 hp hi) e (word.held SLOTS (tablesOf s) (h .tables) (p .0) (i .0) e hp hi d .small);
   sound = close-open (tablesOf s) (h .tables) (p .0) (i .0) e hp hi (λ z. omega (arith, u, z)) d r j hj n a b;
 }) refl refl (λ f. inr (refl, refl))
 close-leaves s h p i hp hi u (frees e d r l none) = from-leaves {m = freed (tablesOf s .opened e SLOT) (up (tablesOf s .file (tablesOf s .opened e SLOT) VERSION)) (handed (p .0) (i .0) 0 e (λ _. 0) (tablesOf s))} (record {
-  has = unfold tablesOf freed in has-clearTo (has-openZero (has-descTo (its-tables s h) (p .0) (i .0) 0 hp hi) e (small.held SLOTS (tablesOf s) (h .tables) (p .0) (i .0) e hp hi d .small))
+  has = unfold tablesOf freed in has-clearTo (has-openZero (has-descTo (its-tables s h) (p .0) (i .0) 0 hp hi) e (word.held SLOTS (tablesOf s) (h .tables) (p .0) (i .0) e hp hi d .small))
       (view s .opened e SLOT) (words (checks.freed (view s .tree) (slot (view s .opened e SLOT)))) (slot-small (tablesOf s) (h .tables) (p .0) (i .0) e hp hi (λ z. omega (arith, u, z)) d) refl;
   sound = close-frees (tablesOf s) (h .tables) (p .0) (i .0) e hp hi (λ z. omega (arith, u, z)) d r l none (up (tablesOf s .file (tablesOf s .opened e SLOT) VERSION)) (up-most (tablesOf s .file (tablesOf s .opened e SLOT) VERSION));
 }) (unfold freed remade in refl) (unfold freed remade in refl)

@@ -20,7 +20,7 @@ use Rattle.preservation.proofs.Sums.{ind, count, sum-same, sum-none, su
 use Rattle.preservation.proofs.Scans.{first-same, any-found, any-passes, total-sum, count-sum}
 use Rattle.preservation.proofs.Tables.{col}
 use Rattle.preservation.proofs.Sound.{naming, linkCount, nameCount, parent, depthWithin, openCount, holderCount}
-use Rattle.preservation.proofs.Change.{ind-eq}
+use Rattle.preservation.proofs.Counts.{ind-eq}
 use Rattle.preservation.proofs.Remake.{openCount-at}
 use Rattle.preservation.proofs.Shown.{slot-row, same-tests}
 

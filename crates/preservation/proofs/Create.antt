@@ -10,7 +10,7 @@ use lib.Dec.{eqb}
 use borrow.Author.Tests.{eq-eqb, ne-eqb}
 use Rattle.preservation.proofs.Tables.{Tables, col, direntRow}
 use Rattle.preservation.proofs.Sound.{Sound, SoundBut, validRow, sameRow, openCount}
-use Rattle.preservation.proofs.Change.{file-used}
+use Rattle.preservation.proofs.Counts.{file-used}
 use Rattle.preservation.proofs.Dirents.{placed, Fits, used-at}
 use Rattle.preservation.proofs.Link.{loosen, tighten, linked, linked-sound}
 use Rattle.preservation.proofs.Unlink.{unlinked, unlinked-sound}

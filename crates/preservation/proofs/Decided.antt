@@ -36,9 +36,9 @@ use Rattle.rules.specs.declared.decision.Decision.{Decision}
 use Rattle.rules.specs.declared.decision.Decision.the-variants.{Granted}
 use Rattle.rules.specs.Checks as checks
 use Rattle.preservation.proofs.Tests.{means-every, means-and, means-last, means-le, means-test}
-use Rattle.preservation.proofs.Small.{Held}
+use Rattle.preservation.proofs.OneWord.{Held}
 use Rattle.preservation.proofs.Words.{offsets-most, length-most}
-use Rattle.preservation.proofs.Changes.{tablesOf}
+use Rattle.preservation.proofs.StoreChanges.{tablesOf}
 use Rattle.preservation.proofs.SoundStore.{SoundStore}
 use Rattle.preservation.proofs.OpenEffects.{Caller, Opens, held-open}
 use Rattle.preservation.proofs.NameEffects.{Creates}

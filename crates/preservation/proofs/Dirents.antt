@@ -10,7 +10,7 @@ use Rattle.preservation.proofs.Tests.{split, upd, upd-elim, upd-same, u
 use Rattle.preservation.proofs.Sums.{ind, count, sum-change, sum2-change, sum2-at, sum-at, sum-none}
 use Rattle.preservation.proofs.Tables.{Tables, col, direntRow, rowsOf, fill, fileTo, bytesTo}
 use Rattle.preservation.proofs.Sound.{All, SoundBut, File, Block, Dirent, Directory, naming, linkCount, nameCount, sameRow}
-use Rattle.preservation.proofs.Change.{ind-eq, file-used}
+use Rattle.preservation.proofs.Counts.{ind-eq, file-used}
 use Rattle.rules.specs.Layout.{SLOTS, DIRENTS, DIRENT, NAME, KIND, OWNER, BITS, LABEL, LENGTH, LINKS, VERSION, FREE, DIRECTORY, WORD-MAX}
 
 -- ---- a block with one entry changed, as rows

@@ -19,13 +19,13 @@ use Rattle.rules.specs.declared.decision.Share.the-variants as share
 use Rattle.rules.proofs.Scans.{repeat-step, repeat-done}
 use Rattle.preservation.proofs.Tables.{Tables, procRowTo}
 use Rattle.preservation.proofs.Sound.{All, Sound}
-use Rattle.preservation.proofs.Change.{updRow-other}
+use Rattle.preservation.proofs.Counts.{updRow-other}
 use Rattle.preservation.proofs.Words.{up-is, references-most}
-use Rattle.preservation.proofs.Small.{Held}
-use Rattle.preservation.proofs.Small as small
+use Rattle.preservation.proofs.OneWord.{Held}
+use Rattle.preservation.proofs.OneWord as word
 use Rattle.preservation.proofs.Open.{handed}
 use Rattle.preservation.proofs.Processes.{procRow, spawn-sound, shared, shared-sound}
-use Rattle.preservation.proofs.Changes.{tablesOf, Sized, Has, has-openRow, has-descTo, has-procTo}
+use Rattle.preservation.proofs.StoreChanges.{tablesOf, Sized, Has, has-openRow, has-descTo, has-procTo}
 use Rattle.preservation.proofs.SoundStore.{SoundStore}
 use Rattle.preservation.proofs.OpenEffects.{Leaves}
 use Rattle.preservation.proofs.CloseEffects.{updRow-id}
@@ -58,7 +58,7 @@ module _ (p q : Pid) (u l : ℕ) (hp : p .0 < PROCESSES) (hq : q .0 < PROCESSES)
 
     module _ (e : ℕ) (z : tablesOf t .desc (p .0) i ≡ e + 1) where
       pub shared-held : Held (spawned (tablesOf t)) e
-      shared-held = small.held SLOTS (spawned (tablesOf t)) (c .sound) (p .0) i e hp hi z
+      shared-held = word.held SLOTS (spawned (tablesOf t)) (c .sound) (p .0) i e hp hi z
 
       pub shared-up : up (tablesOf t .opened e REFERENCES) ≡ tablesOf t .opened e REFERENCES + 1
       shared-up = up-is (tablesOf t .opened e REFERENCES) (omega (arith, references-most SLOTS (spawned (tablesOf t)) (c .sound) e (shared-held .small)))

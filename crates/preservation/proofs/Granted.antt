@@ -38,8 +38,8 @@ use Rattle.rules.specs.declared.decision.Decision.the-variants.{Refused, Grante
 use Rattle.rules.proofs.Scans.{all-at}
 use Rattle.preservation.proofs.Tests.{means-every, means-and, means-last, means-or, means-eq, means-le, means-lt, means-test}
 use Rattle.preservation.proofs.Scans.{first-passes}
-use Rattle.preservation.proofs.Small.{Held}
-use Rattle.preservation.proofs.Changes.{tablesOf, desc-past}
+use Rattle.preservation.proofs.OneWord.{Held}
+use Rattle.preservation.proofs.StoreChanges.{tablesOf, desc-past}
 use Rattle.preservation.proofs.SoundStore.{SoundStore}
 use Rattle.preservation.proofs.OpenEffects.{Caller, Opens, Holds}
 use Rattle.preservation.proofs.NameEffects.{Naming, Creates, Names}

@@ -9,7 +9,7 @@ use Rattle.preservation.proofs.Tests.{split, upd, upd-elim, upd-same, u
 use Rattle.preservation.proofs.Sums.{ind}
 use Rattle.preservation.proofs.Tables.{Tables, col, direntRow, fill}
 use Rattle.preservation.proofs.Sound.{All, Sound, SoundBut, Depths, openCount}
-use Rattle.preservation.proofs.Change.{ind-eq, ind-ne}
+use Rattle.preservation.proofs.Counts.{ind-eq, ind-ne}
 use Rattle.preservation.proofs.Dirents.{placed, Fits, placed-files, placed-blocks, placed-dirs, placed-lengths, placed-links, placed-other-slot, placed-here-slot, naming-at}
 use Rattle.rules.specs.Layout.{SLOTS, DIRENTS, NAME, NAMES, KIND, LENGTH, LINKS, PLAIN, DIRECTORY, SLOT, REFERENCES}
 

@@ -17,7 +17,7 @@ use Rattle.preservation.proofs.Tests.{Means, means-every, means-and, me
 use Rattle.preservation.proofs.Tables.{col}
 use Rattle.preservation.proofs.Sound.{All, File, Dirent, Directory, OpenFile, Process, sameRow, nameCount, holderCount}
 use Rattle.preservation.proofs.Dirents.{sameRow-sym}
-use Rattle.preservation.proofs.Changes.{Sized}
+use Rattle.preservation.proofs.StoreChanges.{Sized}
 use Rattle.preservation.proofs.Shown.{means-zeros, means-dirent, means-empty, same-row}
 use Rattle.preservation.proofs.Counted.{names-counted, holders-counted}
 

@@ -26,14 +26,15 @@ use Rattle.rules.specs.declared.decision.Unnamed.the-variants as unnamed
 use Rattle.preservation.proofs.Tests.{split, upd, upd2, Means, means-every, means-and, means-last, means-eq, means-not}
 use Rattle.preservation.proofs.Tables.{Tables, col, direntRow, fill, fileTo, bytesTo, fileRowTo}
 use Rattle.preservation.proofs.Sound.{Sound, openCount}
-use Rattle.preservation.proofs.Words.{up-is, up-most, length-most, link-most, Columns, same-columns}
+use Rattle.preservation.proofs.Words.{up-is, up-most, length-most, link-most}
+use Rattle.preservation.proofs.Columns.{Columns, same-columns}
 use Rattle.preservation.proofs.Dirents.{placed}
 use Rattle.preservation.proofs.Link.{linked}
 use Rattle.preservation.proofs.Unlink.{unlinked, noRow}
 use Rattle.preservation.proofs.Remake.{remade, openCount-at}
 use Rattle.preservation.proofs.Create.{Name, fileRow, link-sound, created, create-sound, freed, unlink-sound, unlink-frees, remove-sound, target-small}
-use Rattle.preservation.proofs.Table.{upd-same-value, length-zeros, getD-zeros}
-use Rattle.preservation.proofs.Changes.{tablesOf, Has, has-fileWord, has-fileTo, has-clearTo, has-dirent}
+use Rattle.preservation.proofs.FlatList.{upd-same-value, length-zeros, getD-zeros}
+use Rattle.preservation.proofs.StoreChanges.{tablesOf, Has, has-fileWord, has-fileTo, has-clearTo, has-dirent}
 use Rattle.preservation.proofs.Counted.{means-open}
 use Rattle.preservation.proofs.SoundStore.{SoundStore}
 use Rattle.preservation.proofs.OpenEffects.{Leaves, its-tables}

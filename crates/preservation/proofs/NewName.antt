@@ -22,7 +22,7 @@ use Rattle.preservation.proofs.Tests.{means-every, means-and, means-las
 use Rattle.preservation.proofs.Tables.{direntRow}
 use Rattle.preservation.proofs.Scans.{first-none}
 use Rattle.preservation.proofs.Sound.{validRow, sameRow}
-use Rattle.preservation.proofs.Changes.{tablesOf}
+use Rattle.preservation.proofs.StoreChanges.{tablesOf}
 use Rattle.preservation.proofs.Shown.{slot-row, sameRow-to, validRow-to, name-row}
 use Rattle.preservation.proofs.SoundStore.{SoundStore, agree}
 use Rattle.preservation.proofs.NameEffects.{Naming, rowOf}

@@ -24,13 +24,13 @@ use Rattle.rules.specs.declared.decision.Decision.{Decision}
 use Rattle.rules.specs.declared.decision.Decision.the-variants.{Refused, Granted}
 use Rattle.preservation.specs.Claims.{word, PlainShare, PlainRead, PlainSums}
 use Rattle.preservation.proofs.Words.{up-is, plus-is, length-most, link-most, references-most, offsets-most}
-use Rattle.preservation.proofs.Changes.{tablesOf}
+use Rattle.preservation.proofs.StoreChanges.{tablesOf}
 use Rattle.preservation.proofs.SoundStore.{SoundStore, means-sound}
 use Rattle.preservation.proofs.OpenEffects.{held-open}
-use Rattle.preservation.proofs.ForkEffects.{Sharing, sharing-some, sharing-start, shared-up}
+use Rattle.preservation.proofs.ForkEffects.{Sharing, sharing-some, sharing-start, shared-held, shared-up}
 use Rattle.preservation.proofs.Granted.{Fit, granting, refusing, unlinking, Granting, nothing, opens, truncates, creates, unlinks, removes, links, changesBits, closes, stores, reads, seeks, duplicates, forks, exits, executes}
 use Rattle.preservation.proofs.Decided.{decide-fit}
-use Rattle.preservation.proofs.Kept.{placed-well, caller-user, caller-label}
+use Rattle.preservation.proofs.Preserved.{placed-well, caller-user, caller-label}
 
 module _ (s : Store) (h : SoundStore s) where
   pub length-goes-up : (f : ℕ) → f < SLOTS → up (word s f LENGTH) ≡ word s f LENGTH + 1
@@ -52,7 +52,8 @@ module _ (s : Store) (h : SoundStore s) where
     where
       by : Dec (view t .desc (p .0) i ≡ 0) → PlainShare (view t) (cond (not (eqb (view t .desc (p .0) i) 0)) (sharing (view t) (view t .desc (p .0) i - 1)) share.Nothing)
       by (yes e) = rw (eq-eqb (view t .desc (p .0) i) 0 e) (unfold PlainShare in tt)
-      by (no n) = rw (ne-eqb (view t .desc (p .0) i) 0 n) (unfold PlainShare tablesOf in shared-up p q u l hp hq s i t hi c (view t .desc (p .0) i - 1) (omega (arith, n)))
+      by (no n) = rw (ne-eqb (view t .desc (p .0) i) 0 n) (unfold PlainShare tablesOf in
+          (up-is (view t .desc (p .0) i - 1) (omega (arith, shared-held p q u l hp hq s i t hi c (view t .desc (p .0) i - 1) (omega (arith, n)) .small)), shared-up p q u l hp hq s i t hi c (view t .desc (p .0) i - 1) (omega (arith, n))))
 
   sums : (c : Call) {n : ℕ} {o : Output} {e : Effect} → Granting s h c n o e → PlainSums s c o e
   unfolding PlainSums PlainRead

@@ -11,8 +11,8 @@ use Rattle.preservation.proofs.Tests.{split, upd, updRow, upd-elim}
 use Rattle.preservation.proofs.Sums.{ind}
 use Rattle.preservation.proofs.Tables.{Tables, col}
 use Rattle.preservation.proofs.Sound.{All, Sound, SoundBut, OpenFile, openCount}
-use Rattle.preservation.proofs.Change.{ind-eq, ind-ne, holders-to, openCount-change, open-used}
-use Rattle.preservation.proofs.Small.{Held, held}
+use Rattle.preservation.proofs.Counts.{ind-eq, ind-ne, holders-to, openCount-change, open-used}
+use Rattle.preservation.proofs.OneWord.{Held, held}
 use Rattle.preservation.proofs.Link.{loosen, tighten}
 use Rattle.preservation.proofs.Remake.{openCount-at}
 use Rattle.preservation.proofs.Create.{freed, freed-sound}

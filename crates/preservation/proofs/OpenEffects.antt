@@ -23,14 +23,14 @@ use Rattle.preservation.proofs.Tests.{upd}
 use Rattle.preservation.proofs.Tables.{Tables, fileTo, bytesTo, openTo, procTo}
 use Rattle.preservation.proofs.Sound.{Sound}
 use Rattle.preservation.proofs.Words.{up-is, up-most, references-most}
-use Rattle.preservation.proofs.Small.{held, Held, seek-sound, bits-sound}
+use Rattle.preservation.proofs.OneWord.{held, Held, seek-sound, bits-sound}
 use Rattle.preservation.proofs.Remake.{remade}
 use Rattle.preservation.proofs.Create.{fileRow}
 use Rattle.preservation.proofs.Plain.{wrote, wrote-sound, cut-sound}
 use Rattle.preservation.proofs.Open.{openRow, handed, open-sound}
 use Rattle.preservation.proofs.Processes.{shared, shared-sound, execute-sound}
-use Rattle.preservation.proofs.Table.{overRow, upd-twice, length-zeros, getD-zeros}
-use Rattle.preservation.proofs.Changes.{tablesOf, Has, has-fileWord, has-clearTo, has-bytesTo, has-openWord, has-openRow, has-openTo, has-descTo, has-procWord}
+use Rattle.preservation.proofs.FlatList.{overRow, upd-twice, length-zeros, getD-zeros}
+use Rattle.preservation.proofs.StoreChanges.{tablesOf, Has, has-fileWord, has-clearTo, has-bytesTo, has-openWord, has-openRow, has-openTo, has-descTo, has-procWord}
 use Rattle.preservation.proofs.SoundStore.{SoundStore, kept}
 
 -- store t has the tables m, and they are sound

@@ -39,7 +39,7 @@ use Rattle.preservation.specs.Claims.{word, IsOpen, OpenAfterEach, Gives
 use Rattle.preservation.proofs.Tables.{Tables}
 use Rattle.preservation.proofs.Scans.{any-found}
 use Rattle.preservation.proofs.Remake.{remade}
-use Rattle.preservation.proofs.Changes.{tablesOf}
+use Rattle.preservation.proofs.StoreChanges.{tablesOf}
 use Rattle.preservation.proofs.Shown.{block-length, block-byte}
 use Rattle.preservation.proofs.Counted.{means-on}
 use Rattle.preservation.proofs.SoundStore.{SoundStore, means-sound}
@@ -49,7 +49,7 @@ use Rattle.preservation.proofs.PathNames.{below-root}
 use Rattle.preservation.proofs.Walked.{WalkFit, reached, stopped}
 use Rattle.preservation.proofs.Granted.{Fit, granting, refusing, need-fit, after-fit, Unlinking, unlinking, slot-free, in-use, plain-small}
 use Rattle.preservation.proofs.Decided.{unlink-fit}
-use Rattle.preservation.proofs.Kept.{step-sound}
+use Rattle.preservation.proofs.Preserved.{step-sound}
 
 -- ---- an open file is on a plain file
 
@@ -186,7 +186,7 @@ module _ (s : Store) (h : SoundStore s) (c : Call) (f : ℕ) (o : OnFile s f) (k
       small : f < SLOTS
       small = plain-small s h f k
 
-      size-t : lib.ListN.length (block (t .contents) f) ≡ BLOCK
+      size-t : length (block (t .contents) f) ≡ BLOCK
       size-t = block-length (t .contents) (l .has .sized .contents-size) f small
 
   unlink-same : {d : Decision} → Fit (Unlinking s h c) d → Same s (storeAfter s c d) f

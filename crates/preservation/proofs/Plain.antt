@@ -6,10 +6,10 @@ use borrow.Author.Tests.{ne-eqb}
 use Rattle.preservation.proofs.Tests.{split, upd}
 use Rattle.preservation.proofs.Tables.{Tables, col, direntRow, fileTo, bytesTo}
 use Rattle.preservation.proofs.Sound.{All, SoundBut, naming}
-use Rattle.preservation.proofs.Change.{file-used}
+use Rattle.preservation.proofs.Counts.{file-used}
 use Rattle.preservation.proofs.Remake.{naming-same, remade}
 use Rattle.preservation.proofs.Create.{fileRow}
-use Rattle.preservation.proofs.Words.{same-columns}
+use Rattle.preservation.proofs.Columns.{same-columns}
 use Rattle.rules.specs.Layout.{SLOTS, BLOCK, DIRENTS, KIND, OWNER, BITS, LABEL, LENGTH, LINKS, VERSION, PLAIN, DIRECTORY, WORD-MAX}
 
 unfoldable pub wrote : (s : ℕ) → (ℕ → ℕ) → (z t : ℕ) → Tables → Tables

@@ -10,8 +10,8 @@ use borrow.Author.Tests.{lt-ltb}
 use Rattle.preservation.proofs.Tests.{split, upd}
 use Rattle.preservation.proofs.Tables.{Tables, procTo, procRowTo}
 use Rattle.preservation.proofs.Sound.{All, SoundBut, Process}
-use Rattle.preservation.proofs.Change.{ind-eq, ind-ne, open-used}
-use Rattle.preservation.proofs.Small.{Held, held}
+use Rattle.preservation.proofs.Counts.{ind-eq, ind-ne, open-used}
+use Rattle.preservation.proofs.OneWord.{Held, held}
 use Rattle.preservation.proofs.Open.{handed, handed-sound, openCount-row}
 use Rattle.rules.specs.Layout.{OPENS, PROCESSES, DESCRIPTORS, REFERENCES, USED, USER, DOMAIN, USER-MAX, LABEL-MAX}
 

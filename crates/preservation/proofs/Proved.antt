@@ -1,7 +1,7 @@
 -- The claims hold.
 use Rattle.preservation.specs.Claims.{Claims}
 use Rattle.preservation.proofs.SoundStore.{means-sound}
-use Rattle.preservation.proofs.Kept.{step-sound, final-sound}
+use Rattle.preservation.proofs.Preserved.{step-sound, final-sound}
 use Rattle.preservation.proofs.RefusedLeaves.{refused-store, refused-buffer}
 use Rattle.preservation.proofs.BitsByOwner.{bits-by-owner}
 use Rattle.preservation.proofs.OpenStays.{open-stays, unlink-keeps-open}

@@ -19,7 +19,7 @@ use Rattle.rules.specs.Sound.{allZero, nameByteSound, nameSound, usedSound, dir
 use Rattle.rules.proofs.Scans.{all-at, all-of}
 use Rattle.preservation.proofs.Tests.{split, Means, means-every, means-and, means-last, means-cond, means-eq, means-lt, means-not, means-test, means-within, means-same}
 use Rattle.preservation.proofs.Tables.{col}
-use Rattle.preservation.proofs.Table.{tab-in, tab-out}
+use Rattle.preservation.proofs.FlatList.{tab-in, tab-out}
 use Rattle.preservation.proofs.Sound.{All, Dirent, validRow, validByte, sameRow}
 
 -- ---- bytes

@@ -19,7 +19,7 @@ use Rattle.preservation.proofs.Tests.{Means, means-every, means-and, me
 use Rattle.preservation.proofs.Tables.{Tables, col, direntRow}
 use Rattle.preservation.proofs.Sound.{All, Sound, File, Block, Directory, OpenFile, Process, nameCount, linkCount, depthWithin, openCount, holderCount}
 use Rattle.preservation.proofs.Tree.{depths-from, depth-is}
-use Rattle.preservation.proofs.Changes.{tablesOf, Sized, Has}
+use Rattle.preservation.proofs.StoreChanges.{tablesOf, Sized, Has}
 use Rattle.preservation.proofs.Shown.{block-length, block-byte, shown-whole, shown-plain, means-zeros}
 use Rattle.preservation.proofs.Counted.{links-total, means-climbs, means-open}
 use Rattle.preservation.proofs.Meaning.{means-sized, means-record, means-dirents, means-opened, means-process}

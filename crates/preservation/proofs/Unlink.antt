@@ -5,7 +5,7 @@ use native.Mathlib.Omega.{arith}
 use Rattle.preservation.proofs.Tests.{split, upd, upd-other}
 use Rattle.preservation.proofs.Tables.{Tables, col, direntRow, fill}
 use Rattle.preservation.proofs.Sound.{SoundBut, Dirent, Depths}
-use Rattle.preservation.proofs.Change.{ind-eq, ind-ne}
+use Rattle.preservation.proofs.Counts.{ind-eq, ind-ne}
 use Rattle.preservation.proofs.Dirents.{placed, Fits, placed-files, placed-blocks, placed-dirs, placed-lengths, placed-links, placed-other-slot, placed-here-slot, naming-at, used-at}
 use Rattle.preservation.proofs.Link.{ind-some}
 use Rattle.rules.specs.Layout.{SLOTS, DIRENTS, NAME, KIND, LENGTH, LINKS, DIRECTORY, WORD-MAX}

@@ -24,7 +24,7 @@ use Rattle.preservation.proofs.Tests.{means-all, means-eq}
 use Rattle.preservation.proofs.Tables.{direntRow}
 use Rattle.preservation.proofs.Scans.{first-passes}
 use Rattle.preservation.proofs.Sound.{sameRow}
-use Rattle.preservation.proofs.Changes.{tablesOf}
+use Rattle.preservation.proofs.StoreChanges.{tablesOf}
 use Rattle.preservation.proofs.SoundStore.{SoundStore}
 use Rattle.preservation.proofs.NameEffects.{Names}
 use Rattle.preservation.proofs.PathNames.{GoodName, GoodPath, Each, each-take}

@@ -60,10 +60,10 @@ PlainAfterEach Q s f (c ∷ cs) = (word (step Q s c .store) f KIND ≡ PLAIN) ×
 -- ---- the numbers that a granted call writes are plain sums: nothing is lost to the 32 bits of a word. A number that only goes down, or is
 -- copied, is no sum; the version is left out, since it may wrap.
 
--- a share of an open file has one reference more
+-- a share of open file e: the descriptor's word is e + 1, and there is one reference more
 unfoldable pub PlainShare : View → Share → Type 0
 PlainShare v share.Nothing = Unit {0}
-PlainShare v (share.Held e references) = references ≡ v .opened e REFERENCES + 1
+PlainShare v (share.Held e references) = (up e ≡ e + 1) × (references ≡ v .opened e REFERENCES + 1)
 
 -- a read's new offset is where it began and what it read
 unfoldable pub PlainRead : Output → (offset : ℕ) → Type 0

@@ -15,9 +15,9 @@ use Rattle.rules.specs.Step.{storeAfter, outcomeOf, act, step, final}
 use Rattle.rules.specs.declared.decision.Output.{Output}
 use Rattle.rules.specs.declared.decision.Effect.{Effect}
 use Rattle.rules.specs.declared.decision.Decision.{Decision}
-use Rattle.preservation.proofs.Small.{Held}
+use Rattle.preservation.proofs.OneWord.{Held}
 use Rattle.preservation.proofs.Words.{plus-is}
-use Rattle.preservation.proofs.Changes.{tablesOf}
+use Rattle.preservation.proofs.StoreChanges.{tablesOf}
 use Rattle.preservation.proofs.SoundStore.{SoundStore, means-sound}
 use Rattle.preservation.proofs.OpenEffects.{Caller, Writes, leaves-sound, open-leaves, truncate-leaves, move-leaves, duplicate-leaves, bits-leaves, execute-leaves, write-leaves}
 use Rattle.preservation.proofs.NameEffects.{link-leaves, create-leaves, unlink-leaves, unnaming-is, remove-leaves}

@@ -5,7 +5,7 @@ use native.Mathlib.Omega.{arith}
 use Rattle.preservation.proofs.Tests.{split}
 use Rattle.preservation.proofs.Tables.{Tables, fileTo, openTo}
 use Rattle.preservation.proofs.Sound.{SoundBut}
-use Rattle.preservation.proofs.Change.{holders-at, file-used, open-used}
+use Rattle.preservation.proofs.Counts.{holders-at, file-used, open-used}
 use Rattle.rules.specs.Layout.{BLOCK, OPENS, PROCESSES, DESCRIPTORS, KIND, BITS, FREE, OFFSET, REFERENCES, BITS-MAX}
 
 -- the open file that a descriptor holds is in use
