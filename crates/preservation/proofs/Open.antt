@@ -80,17 +80,17 @@ open-sound x m h p k e s mode hp hk he hs u d f ks m1 m4 =
 -- ---- close: descriptor k of process p, which holds e, is emptied
 
 module _ (m : Tables) (h : Sound m) (p k e : ℕ) (hp : p < PROCESSES) (hk : k < DESCRIPTORS) (u : m .proc p USED ≡ 0 → ⊥) (d : m .desc p k ≡ e + 1) where
-  o : Held m e
-  o = held SLOTS m h p k e hp hk d
+  is-open : Held m e
+  is-open = held SLOTS m h p k e hp hk d
 
-  w : SoundBut (m .opened e SLOT) m
-  w = loosen (m .opened e SLOT) m h
+  but-its-file : SoundBut (m .opened e SLOT) m
+  but-its-file = loosen (m .opened e SLOT) m h
 
   pub slot-small : m .opened e SLOT < SLOTS
-  slot-small = h .open-files e (o .small) .slot-small (o .open-refs)
+  slot-small = h .open-files e (is-open .small) .slot-small (is-open .open-refs)
 
   pub slot-plain : m .file (m .opened e SLOT) KIND ≡ PLAIN
-  slot-plain = h .open-files e (o .small) .plain (o .open-refs)
+  slot-plain = h .open-files e (is-open .small) .plain (is-open .open-refs)
 
   false-and : (b : Bool) → ind (b && ltb 0 0) ≡ 0
   false-and true = refl
@@ -104,20 +104,20 @@ module _ (m : Tables) (h : Sound m) (p k e : ℕ) (hp : p < PROCESSES) (hk : k <
   -- other references remain
   pub close-keeps : 1 < m .opened e REFERENCES → Sound (handed p k 0 e (upd (m .opened e) REFERENCES (m .opened e REFERENCES - 1)) m)
   close-keeps l =
-      let r = h .open-files e (o .small) in
-      let a : ltb 0 (m .opened e REFERENCES) ≡ true = lt-ltb 0 (m .opened e REFERENCES) (omega (arith, o .open-refs)) in
+      let r = h .open-files e (is-open .small) in
+      let a : ltb 0 (m .opened e REFERENCES) ≡ true = lt-ltb 0 (m .opened e REFERENCES) (omega (arith, is-open .open-refs)) in
       let b : ltb 0 (m .opened e REFERENCES - 1) ≡ true = lt-ltb 0 (m .opened e REFERENCES - 1) (omega arith) in
       handed-sound SLOTS m h p k 0 e (upd (m .opened e) REFERENCES (m .opened e REFERENCES - 1)) hp hk u (omega arith)
-      (open-used (λ z. omega arith) (r .slot-small (o .open-refs)) (r .plain (o .open-refs)) (r .mode-least (o .open-refs)) (r .mode-most (o .open-refs)) (r .offset-most (o .open-refs)))
+      (open-used (λ z. omega arith) (r .slot-small (is-open .open-refs)) (r .plain (is-open .open-refs)) (r .mode-least (is-open .open-refs)) (r .mode-most (is-open .open-refs)) (r .offset-most (is-open .open-refs)))
       (counts (upd (m .opened e) REFERENCES (m .opened e REFERENCES - 1)) (omega arith))
-      (λ s hs n. omega (arith, rw (a, b) at (openCount-row m e (upd (m .opened e) REFERENCES (m .opened e REFERENCES - 1)) s (o .small))))
+      (λ s hs n. omega (arith, rw (a, b) at (openCount-row m e (upd (m .opened e) REFERENCES (m .opened e REFERENCES - 1)) s (is-open .small))))
 
   -- the open file goes: sound, but for the file that it was on
   last : m .opened e REFERENCES ≡ 1 → SoundBut (m .opened e SLOT) (handed p k 0 e (λ _. 0) m)
-  last q = handed-sound (m .opened e SLOT) m w p k 0 e (λ _. 0) hp hk u (omega arith)
+  last q = handed-sound (m .opened e SLOT) m but-its-file p k 0 e (λ _. 0) hp hk u (omega arith)
       (record { slot-zero = λ _. refl; mode-zero = λ _. refl; offset-zero = λ _. refl; slot-small = λ n. absurd (n refl); plain = λ n. absurd (n refl); mode-least = λ n. absurd (n refl); mode-most = λ n. absurd (n refl); offset-most = λ n. absurd (n refl) })
       (counts (λ _. 0) (omega arith))
-      (λ s hs n. omega (arith, rw (ne-eqb (m .opened e SLOT) s (λ z. n (sym z))) at (openCount-row m e (λ _. 0) s (o .small)), false-and (eqb 0 s)))
+      (λ s hs n. omega (arith, rw (ne-eqb (m .opened e SLOT) s (λ z. n (sym z))) at (openCount-row m e (λ _. 0) s (is-open .small)), false-and (eqb 0 s)))
 
   -- the file has a name
   pub close-named : m .opened e REFERENCES ≡ 1 → 0 < m .file (m .opened e SLOT) LINKS → Sound (handed p k 0 e (λ _. 0) m)
