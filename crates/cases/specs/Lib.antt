@@ -1,2 +1,3 @@
-pub mod Quick
+-- The test console's P cases.
+pub mod Rows
 pub mod Table

@@ -1,4 +1,6 @@
 -- Laws of the rules' vocabulary, which the proofs of every crate share; and what the rules are held to.
 pub mod Choices
 pub mod Scans
+pub mod Lists
+pub mod Written
 pub mod Guards

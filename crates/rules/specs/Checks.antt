@@ -47,12 +47,18 @@ after (Reached at) f = f at
 after (Stopped r k) f = Refused r k
 
 -- "a process number over 7 is 2"
-unfoldable pub inUse : View → Pid → Bool
-inUse v p = every (ltb (p .0) PROCESSES ∷ eqb (v .proc (p .0) USED) 1 ∷ [])
+unfoldable pub procInUse : (ℕ → ℕ → ℕ) → Pid → Bool
+procInUse proc p = every (ltb (p .0) PROCESSES ∷ eqb (proc (p .0) USED) 1 ∷ [])
+
+abbrev pub inUse : View → Pid → Bool
+inUse v p = procInUse (v .proc) p
 
 -- "descriptor not held"; a descriptor over 7 holds nothing
-unfoldable pub held : View → Pid → Fd → Bool
-held v p i = not (eqb (v .desc (p .0) (i .0)) 0)
+unfoldable pub descHeld : (ℕ → ℕ → ℕ) → Pid → Fd → Bool
+descHeld desc p i = not (eqb (desc (p .0) (i .0)) 0)
+
+abbrev pub held : View → Pid → Fd → Bool
+held v p i = descHeld (v .desc) p i
 
 -- the open file that a descriptor holds
 abbrev pub ofdHeld : View → Pid → Fd → ℕ
@@ -63,29 +69,29 @@ nameAbsent t d name = not (ltb (direntOf (t .shown (d .0)) name) DIRENTS)
 
 -- ---- "always the lowest free"; the number past the last where none is
 
-unfoldable pub slotFree : Tree → ℕ → Bool
-slotFree t s = eqb (t .file s KIND) FREE
+unfoldable pub slotFree : (ℕ → ℕ → ℕ) → ℕ → Bool
+slotFree file s = eqb (file s KIND) FREE
 
 abbrev pub freeSlot : Tree → ℕ
-freeSlot t = first (slotFree t) 0 SLOTS
+freeSlot t = first (slotFree (t .file)) 0 SLOTS
 
-unfoldable pub ofdFree : View → ℕ → Bool
-ofdFree v e = eqb (v .opened e REFERENCES) 0
+unfoldable pub ofdFree : (ℕ → ℕ → ℕ) → ℕ → Bool
+ofdFree opened e = eqb (opened e REFERENCES) 0
 
 abbrev pub freeOfd : View → ℕ
-freeOfd v = first (ofdFree v) 0 OPENS
+freeOfd v = first (ofdFree (v .opened)) 0 OPENS
 
-unfoldable pub fdFree : View → Pid → ℕ → Bool
-fdFree v p i = eqb (v .desc (p .0) i) 0
+unfoldable pub fdFree : (ℕ → ℕ → ℕ) → Pid → ℕ → Bool
+fdFree desc p i = eqb (desc (p .0) i) 0
 
 abbrev pub freeFd : View → Pid → ℕ
-freeFd v p = first (fdFree v p) 0 DESCRIPTORS
+freeFd v p = first (fdFree (v .desc) p) 0 DESCRIPTORS
 
-unfoldable pub pidFree : View → ℕ → Bool
-pidFree v p = eqb (v .proc p USED) 0
+unfoldable pub pidFree : (ℕ → ℕ → ℕ) → ℕ → Bool
+pidFree proc p = eqb (proc p USED) 0
 
 abbrev pub freePid : View → ℕ
-freePid v = first (pidFree v) 0 PROCESSES
+freePid v = first (pidFree (v .proc)) 0 PROCESSES
 
 -- ---- a directory gains or loses a name: its length, and its stamp goes up by one
 

@@ -10,6 +10,7 @@ pub mod Directories
 pub mod Walk
 pub mod Sound
 pub mod Calls
+pub mod Written
 pub mod Checks
 pub mod DecidePaths
 pub mod Decide

@@ -47,13 +47,20 @@ searched t Q who d k rest =
     (needAt (bitsAllow t who d SEARCH) BitsForbid k
     (needAt (labelAllows t Q who d SEARCH) LabelForbids k rest))
 
--- entry i of directory d, whose bytes are D; "and hold the name (6)"
+-- entry i of directory d, whose bytes are D
+abbrev pub reached : List ℕ → Slot → ℕ → Walk
+reached D d i = Reached (record { dir = d; dirent = i; slot = slot (direntSlot D i) })
+
+-- "and hold the name (6)"
 abbrev pub entered : List ℕ → Slot → ℕ → ℕ → Walk
-entered D d k i = needAt (ltb i DIRENTS) NameMissing k (Reached (record { dir = d; dirent = i; slot = slot (direntSlot D i) }))
+entered D d k i = needAt (ltb i DIRENTS) NameMissing k (reached D d i)
+
+abbrev pub found : Tree → Slot → Name → ℕ → Walk
+found t d name k = entered (t .shown (d .0)) d k (direntOf (t .shown (d .0)) name)
 
 -- the k-th name is looked for in directory d
 unfoldable pub lookup : Tree → List ℕ → Subject → Slot → Name → ℕ → Walk
-lookup t Q who d name k = searched t Q who d k (entered (t .shown (d .0)) d k (direntOf (t .shown (d .0)) name))
+lookup t Q who d name k = searched t Q who d k (found t d name k)
 
 -- from a location along the names, of which the first is the k-th of the path
 unfoldable pub walk : Tree → List ℕ → Subject → Location → ℕ → List Name → Walk

@@ -1,0 +1,150 @@
+-- A soundness test of the store that is quick to compute: it cuts the contents into blocks once, and lists the slots that are named once. It is the test
+-- of the rules.
+use Prim.Native.Nat.{ℕ, zero, suc, _+_, _*_, _<_, _≤_}
+use mathlib.Core.Path.{_≡_, refl, sym, ap, _∙_, subst, fun-ext}
+use mathlib.Core.Bool.{Bool, true, false, cond}
+use mathlib.Core.List.{List, [], _∷_}
+use native.Mathlib.Nat.{zero-add, not-suc-le-zero, le-of-suc-le-suc}
+use native.Mathlib.Omega.{arith}
+use native.Mathlib.Decide.{decLt}
+use lib.Dec.{T, eqb, eqb→eq}
+use lib.ListN.{length, getD, take, drop, List·getD-eq-default, drop-of-length-le}
+use lib.Seq.{drop-drop, take-nil}
+use Rattle.rules.specs.Choice.{every}
+use Rattle.rules.specs.Scan.{turns, fold, all, count, total}
+use Rattle.rules.specs.Layout.{SLOTS, BLOCK, DIRENTS, OPENS, PROCESSES, FILE, LINKS, OPEN}
+use Rattle.rules.specs.Directories.{direntSlot}
+use Rattle.rules.specs.Walk.{isDirectory}
+use Rattle.rules.specs.Store.{Store, Tree, View, view, slot, block, tab, procOf, descOf, hidden, shownOf}
+use Rattle.rules.specs.Sound.{storeSound, sizesSound, tablesSound, recordSound, linksAt, linksFrom, linksTo, linksSound, kindSound, slotSound, openSound, procSound}
+use Rattle.cases.proofs.Tests.{first-passes, rest-passes}
+
+-- the contents cut into n blocks, each bound by a `let`, which is computed when it is asked for, and then once
+unfoldable pub cut : ℕ → List ℕ → List (List ℕ)
+cut zero C = []
+cut (suc n) C = let b = take BLOCK C in let r = cut n (drop BLOCK C) in b ∷ r
+
+unfoldable pub quickShown : List ℕ → List ℕ → ℕ → List ℕ
+quickShown F C = let bs = cut SLOTS C in λ s. drop (hidden F s) (getD bs s [])
+
+-- the view of a store, but for what it shows
+abbrev pub showing : Store → (ℕ → List ℕ) → View
+showing s shown = record { tree = record { file = tab FILE (s .files); shown = shown }; opened = tab OPEN (s .opens); proc = procOf (s .processes); desc = descOf (s .processes) }
+
+abbrev pub quickView : Store → View
+quickView s = showing s (quickShown (s .files) (s .contents))
+
+-- the slots that k entries of a directory name, from entry i on, and then the rest
+unfoldable pub entries : List ℕ → ℕ → ℕ → List ℕ → List ℕ
+entries D i zero rest = rest
+entries D i (suc k) rest = let e = direntSlot D i in let es = entries D (suc i) k rest in e ∷ es
+
+-- the slots that the directories among k slots name, from slot d on
+unfoldable pub named : Tree → ℕ → ℕ → List ℕ
+named t d zero = []
+named t d (suc k) = let rest = named t (suc d) k in cond (isDirectory t (slot d)) (entries (t .shown d) 0 DIRENTS rest) rest
+
+-- how often s is named
+unfoldable pub tally : ℕ → List ℕ → ℕ
+tally s [] = 0
+tally s (e ∷ es) = cond (eqb e s) (1 + tally s es) (tally s es)
+
+unfoldable pub quickLinks : Tree → List ℕ → ℕ → Bool
+quickLinks t ns s = cond (eqb s 0) (eqb (t .file s LINKS) 0) (eqb (t .file s LINKS) (tally s ns))
+
+unfoldable pub quickSlot : View → List ℕ → ℕ → Bool
+quickSlot v ns s = every (recordSound (v .tree) s ∷ quickLinks (v .tree) ns s ∷ kindSound v s ∷ [])
+
+unfoldable pub quickTables : View → Bool
+quickTables v =
+    let ns = named (v .tree) 0 SLOTS in
+    every (isDirectory (v .tree) (slot 0) ∷ all (quickSlot v ns) 0 SLOTS ∷ all (openSound v) 0 OPENS ∷ all (procSound v) 0 PROCESSES ∷ [])
+
+unfoldable pub quickSound : Store → Bool
+quickSound s = cond (sizesSound s) (quickTables (quickView s)) false
+
+-- ---- block s of the cut is block s
+
+cut-block : (n : ℕ) (C : List ℕ) (s : ℕ) → s < n → getD (cut n C) s [] ≡ block C s
+unfolding cut
+cut-block zero C s h = absurd (not-suc-le-zero h)
+cut-block (suc n) C zero h = refl
+cut-block (suc n) C (suc s) h =
+    let e : BLOCK + BLOCK * s ≡ BLOCK * suc s = omega arith in
+    cut-block n (drop BLOCK C) s (le-of-suc-le-suc h) ∙ rw drop-drop (ap (λ (k : ℕ). take BLOCK (drop k C)) e)
+
+length-cut : (n : ℕ) (C : List ℕ) → length (cut n C) ≡ n
+unfolding cut
+length-cut zero C = refl
+length-cut (suc n) C = ap suc (length-cut n (drop BLOCK C))
+
+none-past : (C : List ℕ) (s : ℕ) → length C ≡ SLOTS * BLOCK → SLOTS ≤ s → block C s ≡ []
+none-past C s e h =
+    let past : length C ≤ BLOCK * s = omega arith in
+    rw (drop-of-length-le C past) (take-nil BLOCK)
+
+all-blocks : (C : List ℕ) → length C ≡ SLOTS * BLOCK → (s : ℕ) → getD (cut SLOTS C) s [] ≡ block C s
+all-blocks C e s = by (decLt s SLOTS)
+  where
+    by : Dec (s < SLOTS) → getD (cut SLOTS C) s [] ≡ block C s
+    by (yes h) = cut-block SLOTS C s h
+    by (no h) =
+        let past : SLOTS ≤ s = omega arith in
+        let far : length (cut SLOTS C) ≤ s = rw (length-cut SLOTS C) past in
+        List·getD-eq-default (cut SLOTS C) [] far ∙ sym (none-past C s e past)
+
+-- ---- names counted in the list of all that are named
+
+tally-entries : (D : List ℕ) (s : ℕ) (rest : List ℕ) (i k : ℕ) → tally s (entries D i k rest) ≡ turns (λ j n. cond (linksAt D s j) (1 + n) n) i k 0 + tally s rest
+unfolding tally entries turns linksAt
+tally-entries D s rest i zero = sym (zero-add _)
+tally-entries D s rest i (suc k) =
+    by (eqb (direntSlot D i) s) (tally s (entries D (suc i) k rest)) (turns (λ j n. cond (linksAt D s j) (1 + n) n) (suc i) k 0) (tally-entries D s rest (suc i) k)
+  where
+    by : (b : Bool) (m n : ℕ) → m ≡ n + tally s rest → cond b (1 + m) m ≡ cond b (1 + n) n + tally s rest
+    by true m n e = omega (arith, e)
+    by false m n e = e
+
+count-entries : (D : List ℕ) (s : ℕ) (rest : List ℕ) → tally s (entries D 0 DIRENTS rest) ≡ count (linksAt D s) 0 DIRENTS + tally s rest
+unfolding count fold
+count-entries D s rest = tally-entries D s rest 0 DIRENTS
+
+links-same : (t : Tree) (s d k : ℕ) → turns (λ j n. linksFrom t s j + n) d k 0 ≡ tally s (named t d k)
+unfolding turns linksFrom tally named
+links-same t s d zero = refl
+links-same t s d (suc k) = by (isDirectory t (slot d)) (turns (λ j n. linksFrom t s j + n) (suc d) k 0) (named t (suc d) k) (links-same t s (suc d) k)
+  where
+    by :
+        (b : Bool) (n : ℕ) (rest : List ℕ) → n ≡ tally s rest →
+        cond b (count (linksAt (t .shown d) s) 0 DIRENTS) 0 + n ≡ tally s (cond b (entries (t .shown d) 0 DIRENTS rest) rest)
+    by true n rest e = rw e (sym (count-entries (t .shown d) s rest))
+    by false n rest e = zero-add _ ∙ e
+
+slot-same : (v : View) (s : ℕ) → quickSlot v (named (v .tree) 0 SLOTS) s ≡ slotSound v s
+unfolding quickSlot slotSound quickLinks linksSound linksTo total fold
+slot-same v s = rw (links-same (v .tree) s 0 SLOTS)
+
+tables-same : (v : View) → quickTables v ≡ tablesSound v
+unfolding quickTables tablesSound
+tables-same v = rw (fun-ext (slot-same v))
+
+-- ---- where the sizes are right the quick view is the view; elsewhere neither is looked at
+
+shown-same : (F C : List ℕ) → length C ≡ SLOTS * BLOCK → quickShown F C ≡ shownOf F C
+unfolding quickShown shownOf
+shown-same F C e = fun-ext (λ s. ap (drop (hidden F s)) (all-blocks C e s))
+
+view-same : (s : Store) → length (s .contents) ≡ SLOTS * BLOCK → quickView s ≡ view s
+view-same s e = ap (showing s) (shown-same (s .files) (s .contents) e)
+
+contents-size : (s : Store) → sizesSound s ≡ true → length (s .contents) ≡ SLOTS * BLOCK
+unfolding sizesSound
+contents-size s e = eqb→eq _ _ (subst T (sym (first-passes _ _ (rest-passes _ _ e))) tt)
+
+pub quick-sound : (s : Store) → quickSound s ≡ storeSound s
+unfolding quickSound storeSound
+quick-sound s = by (sizesSound s) refl
+  where
+    by : (b : Bool) → sizesSound s ≡ b → cond b (quickTables (quickView s)) false ≡ cond b (tablesSound (view s)) false
+    by true e = tables-same (quickView s) ∙ ap tablesSound (view-same s (contents-size s e))
+    by false e = refl

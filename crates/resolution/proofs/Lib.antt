@@ -1,0 +1,4 @@
+-- Laws of paths.
+pub mod Spans
+pub mod Names
+pub mod Parsing

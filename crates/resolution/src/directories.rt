@@ -1,0 +1,181 @@
+// Directories: an entry by its name, a free one, and the names in byte order. `dir` is what the view shows of a slot.
+ghost use mathlib.Core.Path.{_≡_};
+ghost use mathlib.Core.Bool.{not};
+ghost use mathlib.Core.List.{[], _∷_};
+ghost use lib.Dec.{eqb, ltb};
+ghost use lib.ListN.{getD};
+ghost use Rattle.rules.specs.Choice.{every};
+ghost use Rattle.rules.specs.Scan.{count, first};
+ghost use Rattle.rules.specs.Layout.{NAME, DIRENTS};
+ghost use Rattle.rules.specs.Directories.{direntAt, isEmpty, hasName, direntOf, freeDirent, differsAt, difference, precedes, isBefore, isRanked, direntRanked, isPadding, direntName};
+use tables::directories::dirent_at;
+use tables::directories::is_empty;
+use tables::directories::is_padding;
+use tables::layout::DIRENTS;
+use tables::layout::NAME;
+use tables::parts::upto;
+use tables::words::byte;
+
+fn has_name(dir: &[u8], name: &[u8], i: u32) -> bool
+    ensures { λ r. ⌜ r ≡ hasName (now (dir .entry)) (now (name .entry)) i ⌝ }
+{
+    tables::names::same_name(dirent_at(dir, i), name)
+}
+
+// The entry that has the name, 16 where none has.
+pub fn dirent_of(dir: &[u8], name: &[u8]) -> u32
+    ensures { λ r. ⌜ r ≡ direntOf (now (dir .entry)) (now (name .entry)) ⌝ }
+{
+    let mut i: u32 = 0;
+    while i < DIRENTS {
+        if has_name(dir, name, i) {
+            return i;
+        }
+        i += 1;
+    }
+    DIRENTS
+}
+
+// The lowest free entry, 16 where there is none.
+pub fn free_dirent(dir: &[u8]) -> u32
+    ensures { λ r. ⌜ r ≡ freeDirent (now (dir .entry)) ⌝ }
+{
+    let mut i: u32 = 0;
+    while i < DIRENTS {
+        if is_empty(dir, i) {
+            return i;
+        }
+        i += 1;
+    }
+    DIRENTS
+}
+
+fn differs_at(a: &[u8], b: &[u8], k: usize) -> bool
+    ensures { λ r. ⌜ r ≡ differsAt (now (a .entry)) (now (b .entry)) k ⌝ }
+{
+    byte(a, k) != byte(b, k)
+}
+
+// Where two names first differ, 14 where they do not.
+fn difference_of(a: &[u8], b: &[u8]) -> usize
+    ensures { λ r. ⌜ r ≡ difference (now (a .entry)) (now (b .entry)) ⌝ }
+{
+    let mut k = 0;
+    while k < NAME {
+        if differs_at(a, b, k) {
+            return k;
+        }
+        k += 1;
+    }
+    NAME
+}
+
+fn byte_less(a: &[u8], b: &[u8], k: usize) -> bool
+    ensures { λ r. ⌜ r ≡ ltb (getD (now (a .entry)) k 0) (getD (now (b .entry)) k 0) ⌝ }
+{
+    byte(a, k) < byte(b, k)
+}
+
+fn precedes_at(a: &[u8], b: &[u8], k: usize) -> bool
+    ensures { λ r. ⌜ r ≡ every (ltb k NAME ∷ ltb (getD (now (a .entry)) k 0) (getD (now (b .entry)) k 0) ∷ []) ⌝ }
+{
+    let differ = k < NAME;
+    if !differ {
+        return false;
+    }
+    byte_less(a, b, k)
+}
+
+// Name a comes before name b.
+fn precedes_name(a: &[u8], b: &[u8]) -> bool
+    ensures { λ r. ⌜ r ≡ precedes (now (a .entry)) (now (b .entry)) ⌝ }
+{
+    precedes_at(a, b, difference_of(a, b))
+}
+
+fn is_used(dir: &[u8], i: u32) -> bool
+    ensures { λ r. ⌜ r ≡ not (isEmpty (now (dir .entry)) i) ⌝ }
+{
+    !is_empty(dir, i)
+}
+
+fn precedes_dirent(dir: &[u8], j: u32, i: u32) -> bool
+    ensures { λ r. ⌜ r ≡ precedes (direntAt (now (dir .entry)) j) (direntAt (now (dir .entry)) i) ⌝ }
+{
+    precedes_name(dirent_at(dir, j), dirent_at(dir, i))
+}
+
+// Entry j has a name that comes before that of entry i.
+fn is_before(dir: &[u8], i: u32, j: u32) -> bool
+    ensures { λ r. ⌜ r ≡ isBefore (now (dir .entry)) i j ⌝ }
+{
+    if !is_used(dir, j) {
+        return false;
+    }
+    precedes_dirent(dir, j, i)
+}
+
+// How many names come before that of entry i.
+fn rank_of(dir: &[u8], i: u32) -> u32
+    ensures { λ r. ⌜ r ≡ count (isBefore (now (dir .entry)) i) 0 DIRENTS ⌝ }
+{
+    let mut n: u32 = 0;
+    let mut j: u32 = 0;
+    while j < DIRENTS {
+        if is_before(dir, i, j) {
+            n += 1;
+        }
+        j += 1;
+    }
+    n
+}
+
+fn has_rank(dir: &[u8], k: u32, i: u32) -> bool
+    ensures { λ r. ⌜ r ≡ eqb (count (isBefore (now (dir .entry)) i) 0 DIRENTS) k ⌝ }
+{
+    rank_of(dir, i) == k
+}
+
+fn is_ranked(dir: &[u8], k: u32, i: u32) -> bool
+    ensures { λ r. ⌜ r ≡ isRanked (now (dir .entry)) k i ⌝ }
+{
+    if !is_used(dir, i) {
+        return false;
+    }
+    has_rank(dir, k, i)
+}
+
+// The entry of the k-th name in byte order, 16 where there are not so many.
+pub fn dirent_ranked(dir: &[u8], k: u32) -> u32
+    ensures { λ r. ⌜ r ≡ direntRanked (now (dir .entry)) k ⌝ }
+{
+    let mut i: u32 = 0;
+    while i < DIRENTS {
+        if is_ranked(dir, k, i) {
+            return i;
+        }
+        i += 1;
+    }
+    DIRENTS
+}
+
+fn name_length(name: &[u8]) -> usize
+    ensures { λ r. ⌜ r ≡ first (isPadding (now (name .entry))) 0 NAME ⌝ }
+{
+    let mut k = 0;
+    while k < NAME {
+        if is_padding(name, k) {
+            return k;
+        }
+        k += 1;
+    }
+    NAME
+}
+
+// The name of entry i, without its padding.
+pub fn dirent_name(dir: &[u8], i: u32) -> &[u8]
+    ensures { λ r. ⌜ now r ≡ direntName (now (dir .entry)) i ⌝ }
+{
+    let name = dirent_at(dir, i);
+    upto(name, name_length(name))
+}

@@ -1,0 +1,223 @@
+// A path is resolved one name at a time, from the root.
+ghost use mathlib.Core.Path.{_≡_};
+ghost use mathlib.Core.List.{[]};
+ghost use Prim.Native.Nat.{_+_, _-_, _<_, min};
+ghost use lib.ListN.{length, drop};
+ghost use Rattle.rules.specs.Store.{tree};
+ghost use Rattle.rules.specs.Rights.{SEARCH};
+ghost use Rattle.rules.specs.Paths.{firstNames, names, parentNames};
+ghost use Rattle.rules.specs.Directories.{direntOf};
+ghost use Rattle.rules.specs.Walk.{bitsAllow, labelAllows, reached, entered, found, lookup, walk, ROOT, walkPath, enterParent, onReached, walkParent};
+use crate::paths::name_at;
+use crate::paths::name_count;
+use crate::paths::name_end;
+use rules::decision::Location;
+use rules::decision::Walk;
+use rules::ids::Slot;
+use rules::refusal::Refusal;
+use rules::request::Subject;
+use rules::rights::Rights;
+use tables::layout::DIRENTS;
+use tables::layout::NAMES;
+
+fn searches(files: &[u32], who: Subject, d: Slot) -> bool
+    ensures { λ r. ⌜ r ≡ bitsAllow (tree (now (files .entry)) []) who d SEARCH ⌝ }
+{
+    crate::rights::bits_allow(files, who, d, Rights::SEARCH)
+}
+
+fn label_searches(files: &[u32], policy: &[u8], who: Subject, d: Slot) -> bool
+    ensures { λ r. ⌜ r ≡ labelAllows (tree (now (files .entry)) []) (now (policy .entry)) who d SEARCH ⌝ }
+{
+    crate::rights::label_allows(files, policy, who, d, Rights::SEARCH)
+}
+
+// Entry i of directory d, whose bytes are `dir`.
+fn enter_dirent(dir: &[u8], d: Slot, k: u32, i: u32) -> Walk
+    ensures { λ r. ⌜ r ≡ entered (now (dir .entry)) d k i ⌝ }
+{
+    let there = i < DIRENTS;
+    if !there {
+        return Walk::Stopped(Refusal::NameMissing, k);
+    }
+    reach_dirent(dir, d, i)
+}
+
+fn reach_dirent(dir: &[u8], d: Slot, i: u32) -> Walk
+    ensures { λ r. ⌜ r ≡ reached (now (dir .entry)) d i ⌝ }
+{
+    Walk::Reached(Location {
+        dir: d,
+        dirent: i,
+        slot: Slot(tables::directories::dirent_slot(dir, i)),
+    })
+}
+
+fn find_in(dir: &[u8], d: Slot, name: &[u8], k: u32) -> Walk
+    ensures { λ r. ⌜ r ≡ entered (now (dir .entry)) d k (direntOf (now (dir .entry)) (now (name .entry))) ⌝ }
+{
+    enter_dirent(dir, d, k, crate::directories::dirent_of(dir, name))
+}
+
+fn find(files: &[u32], contents: &[u8], d: Slot, name: &[u8], k: u32) -> Walk
+    ensures { λ r. ⌜ r ≡ found (tree (now (files .entry)) (now (contents .entry))) d (now (name .entry)) k ⌝ }
+{
+    find_in(tables::files::shown(files, contents, d), d, name, k)
+}
+
+// The k-th name is looked for in directory d.
+fn look_up(
+    files: &[u32],
+    contents: &[u8],
+    policy: &[u8],
+    who: Subject,
+    d: Slot,
+    name: &[u8],
+    k: u32,
+) -> Walk
+    ensures { λ r. ⌜ r ≡ lookup (tree (now (files .entry)) (now (contents .entry))) (now (policy .entry)) who d (now (name .entry)) k ⌝ }
+{
+    if !tables::files::is_directory(files, d) {
+        return Walk::Stopped(Refusal::NotDirectory, k);
+    }
+    if !searches(files, who, d) {
+        return Walk::Stopped(Refusal::BitsForbid, k);
+    }
+    if !label_searches(files, policy, who, d) {
+        return Walk::Stopped(Refusal::LabelForbids, k);
+    }
+    find(files, contents, d, name, k)
+}
+
+// The first `left` names of the path from `pos` on, of which the first is the k-th, are walked from a location.
+fn walk_from(
+    files: &[u32],
+    contents: &[u8],
+    policy: &[u8],
+    who: Subject,
+    path: &[u8],
+    pos: usize,
+    left: u8,
+    k: u32,
+    at: Location,
+) -> Walk
+    requires { ⌜ k + left < 256 ⌝ }
+    ensures { λ r. ⌜ r ≡ walk (tree (now (files .entry)) (now (contents .entry))) (now (policy .entry)) who at k (firstNames left (drop pos (now (path .entry)))) ⌝ }
+{
+    if left == 0 {
+        return Walk::Reached(at);
+    }
+    let name = name_at(path, pos);
+    if name.len() == 0 {
+        return Walk::Reached(at);
+    }
+    let d = at.slot;
+    match look_up(files, contents, policy, who, d, name, k) {
+        Walk::Reached(next) => walk_from(
+            files,
+            contents,
+            policy,
+            who,
+            path,
+            name_end(path, pos),
+            left - 1,
+            k + 1,
+            next,
+        ),
+        Walk::Stopped(r, n) => Walk::Stopped(r, n),
+    }
+}
+
+fn root() -> Location
+    ensures { λ r. ⌜ r ≡ ROOT ⌝ }
+{
+    Location {
+        dir: Slot(0),
+        dirent: 0,
+        slot: Slot(0),
+    }
+}
+
+// The whole path.
+pub fn walk_path(files: &[u32], contents: &[u8], policy: &[u8], who: Subject, path: &[u8]) -> Walk
+    ensures { λ r. ⌜ r ≡ walkPath (tree (now (files .entry)) (now (contents .entry))) (now (policy .entry)) who (now (path .entry)) ⌝ }
+{
+    walk_from(files, contents, policy, who, path, 0, NAMES + 1, 1, root())
+}
+
+fn enter_parent(
+    files: &[u32],
+    contents: &[u8],
+    policy: &[u8],
+    who: Subject,
+    k: u32,
+    at: Location,
+) -> Walk
+    ensures { λ r. ⌜ r ≡ enterParent (tree (now (files .entry)) (now (contents .entry))) (now (policy .entry)) who k at ⌝ }
+{
+    let d = at.slot;
+    if !tables::files::is_directory(files, d) {
+        return Walk::Stopped(Refusal::NotDirectory, k);
+    }
+    if !searches(files, who, d) {
+        return Walk::Stopped(Refusal::BitsForbid, k);
+    }
+    if !label_searches(files, policy, who, d) {
+        return Walk::Stopped(Refusal::LabelForbids, k);
+    }
+    Walk::Reached(at)
+}
+
+fn on_parent(files: &[u32], contents: &[u8], policy: &[u8], who: Subject, k: u32, w: Walk) -> Walk
+    ensures { λ r. ⌜ r ≡ onReached w (enterParent (tree (now (files .entry)) (now (contents .entry))) (now (policy .entry)) who k) ⌝ }
+{
+    match w {
+        Walk::Reached(at) => enter_parent(files, contents, policy, who, k, at),
+        Walk::Stopped(r, n) => Walk::Stopped(r, n),
+    }
+}
+
+// The names before the n-th.
+fn walk_before(
+    files: &[u32],
+    contents: &[u8],
+    policy: &[u8],
+    who: Subject,
+    path: &[u8],
+    n: u8,
+) -> Walk
+    ensures { λ r. ⌜ r ≡ walk (tree (now (files .entry)) (now (contents .entry))) (now (policy .entry)) who ROOT 1 (firstNames (min n 9 - 1) (now (path .entry))) ⌝ }
+{
+    walk_from(
+        files,
+        contents,
+        policy,
+        who,
+        path,
+        0,
+        one_before(n),
+        1,
+        root(),
+    )
+}
+
+fn one_before(n: u8) -> u8
+    ensures { λ r. ⌜ r ≡ min n 9 - 1 ⌝ }
+{
+    if 9 < n {
+        return 8;
+    }
+    if 0 < n {
+        return n - 1;
+    }
+    0
+}
+
+// The path to the parent of its last name, with the parent's three checks.
+pub fn walk_parent(files: &[u32], contents: &[u8], policy: &[u8], who: Subject, path: &[u8]) -> Walk
+    ensures { λ r. ⌜ r ≡ walkParent (tree (now (files .entry)) (now (contents .entry))) (now (policy .entry)) who (now (path .entry)) ⌝ }
+{
+    let n = name_count(path);
+    let w = walk_before(files, contents, policy, who, path, n);
+    on_parent(files, contents, policy, who, n as u32, w)
+}

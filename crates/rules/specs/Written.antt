@@ -1,0 +1,151 @@
+-- "Written down, a call is process, call and descriptor .. its number .. the path's length, the path; then a write's bytes or a second path".
+use Prim.Native.Nat.{ℕ, _+_, _*_, _/_, _%_, _<_}
+use mathlib.Core.Bool.{Bool, true, false, cond, not}
+use mathlib.Core.List.{List, [], _∷_, _++_}
+use lib.Dec.{eqb, leb}
+use lib.ListN.{length, getD, take, drop}
+use Rattle.rules.specs.Choice.{every, implies}
+use Rattle.rules.specs.Layout.{BLOCK, PATH, NUMBER-MAX}
+use Rattle.rules.specs.Calls.{Call, operationOf}
+use Rattle.rules.specs.declared.ids.Pid.{Pid}
+use Rattle.rules.specs.declared.ids.Fd.{Fd}
+use Rattle.rules.specs.declared.request.Operation.{Operation}
+use Rattle.rules.specs.declared.request.Operation.the-variants as op
+
+-- how many values a byte has
+abbrev pub BYTE : ℕ
+BYTE = 256
+
+-- a list of bytes; past its end `getD` gives 0
+abbrev pub Bytes : List ℕ → Type 0
+Bytes bs = (i : ℕ) → getD bs i 0 < BYTE
+
+-- ---- a call without the reader's buffer: "It gets the reader's buffer when it is served"
+
+pub record Written : Type 0 where
+  pub process : Pid
+  pub call : ℕ
+  pub fd : Fd
+  pub number : ℕ
+  pub path : List ℕ
+  pub bytes : List ℕ
+
+-- the call whose number is the "size of the buffer to read into"
+abbrev pub READ : ℕ
+READ = 11
+
+-- "its number, that is mode, bits, index, position or size of the buffer to read into"
+unfoldable pub numberOf : Call → ℕ
+numberOf c = cond (eqb (c .call) READ) (length (c .buffer)) (c .number)
+
+abbrev pub written : Call → Written
+written c = record { process = c .process; call = c .call; fd = c .fd; number = numberOf c; path = c .path; bytes = c .bytes }
+
+abbrev pub served : Written → (buffer : List ℕ) → Call
+served w buffer = record { process = w .process; call = w .call; fd = w .fd; number = w .number; path = w .path; bytes = w .bytes; buffer = buffer }
+
+-- ---- which parts a call uses
+
+-- whether it uses its descriptor and its number; of its path and its last text, the most bytes that a kept call has, 0 where it has none
+pub record Parts : Type 0 where
+  pub fd : Bool
+  pub number : Bool
+  pub path : ℕ
+  pub bytes : ℕ
+
+abbrev pub parts : (fd number : Bool) (path bytes : ℕ) → Parts
+parts fd number path bytes = record { fd = fd; number = number; path = path; bytes = bytes }
+
+-- "paths of at most 64 bytes and data of at most 512": a second path is a path. Of an unknown call nothing is unused, its last text is data
+unfoldable pub uses : Operation → Parts
+uses op.Open = parts false true PATH 0
+uses op.Create = parts false true PATH 0
+uses op.MakeDirectory = parts false true PATH 0
+uses op.Unlink = parts false false PATH 0
+uses op.RemoveDirectory = parts false false PATH 0
+uses op.Link = parts false false PATH PATH
+uses op.List = parts false true PATH 0
+uses op.ChangeBits = parts false true PATH 0
+uses op.Stat = parts false false PATH 0
+uses op.Close = parts true false 0 0
+uses op.Read = parts true true 0 0
+uses op.Write = parts true false 0 BLOCK
+uses op.Seek = parts true true 0 0
+uses op.Duplicate = parts true false 0 0
+uses op.Fork = parts false false 0 0
+uses op.Exit = parts false false 0 0
+uses op.Execute = parts false false PATH 0
+uses op.Unknown = parts true true PATH BLOCK
+
+abbrev pub partsOf : Written → Parts
+partsOf w = uses (operationOf (w .call))
+
+-- ---- the normal form
+
+-- "What is unused is 0 or empty"
+unfoldable pub numberIf : Bool → ℕ → ℕ
+numberIf used n = cond used n 0
+
+unfoldable pub textIf : ℕ → List ℕ → List ℕ
+textIf most t = cond (eqb most 0) [] t
+
+-- "larger ones as 65,535"
+unfoldable pub capped : ℕ → ℕ
+capped n = cond (leb n NUMBER-MAX) n NUMBER-MAX
+
+unfoldable pub normalBy : Parts → Written → Written
+normalBy u w = record {
+  process = w .process;
+  call = w .call;
+  fd = record { 0 = numberIf (u .fd) (w .fd .0) };
+  number = numberIf (u .number) (capped (w .number));
+  path = textIf (u .path) (w .path);
+  bytes = textIf (u .bytes) (w .bytes);
+}
+
+abbrev pub normal : Written → Written
+normal w = normalBy (partsOf w) w
+
+-- ---- what can be kept
+
+-- no text is longer than a kept call's; one that is unused is empty
+unfoldable pub textsFit : Parts → Written → Bool
+textsFit u w = every (leb (length (w .path)) (u .path) ∷ leb (length (w .bytes)) (u .bytes) ∷ [])
+
+-- "A call kept for later holds paths of at most 64 bytes and data of at most 512". What is unused does not count
+abbrev pub canKeep : Written → Bool
+canKeep w = textsFit (partsOf w) (normal w)
+
+-- ---- the bytes
+
+-- "process, call and descriptor (1 byte each); its number (2 bytes, little end first); the path's length (1 byte), the path; then .."
+unfoldable pub layout : Written → List ℕ
+layout w = w .process .0 ∷ w .call ∷ w .fd .0 ∷ w .number % BYTE ∷ w .number / BYTE ∷ length (w .path) ∷ (w .path ++ w .bytes)
+
+abbrev pub encode : Written → List ℕ
+encode w = layout (normal w)
+
+pub data Decoded : Type 0 where
+  Kept : Written → Decoded
+  NotWritten : Decoded
+
+-- a number that is unused is 0
+unfoldable pub numbersFit : Parts → Written → Bool
+numbersFit u w = every (implies (not (u .fd)) (eqb (w .fd .0) 0) ∷ implies (not (u .number)) (eqb (w .number) 0) ∷ [])
+
+-- the call w, if its path is there in full and it is in the normal form of a call that can be kept
+unfoldable pub accepted : (full : Bool) → Written → Decoded
+accepted full w = cond (every (full ∷ numbersFit (partsOf w) w ∷ textsFit (partsOf w) w ∷ [])) (Kept w) NotWritten
+
+-- n is the path's length, and `rest` what stands after it
+abbrev pub parsed : (process call fd low high n : ℕ) (rest : List ℕ) → Written
+parsed process call fd low high n rest = record { process = record { 0 = process }; call = call; fd = record { 0 = fd }; number = low + high * BYTE; path = take n rest; bytes = drop n rest }
+
+unfoldable pub decode : List ℕ → Decoded
+decode [] = NotWritten
+decode (process ∷ []) = NotWritten
+decode (process ∷ call ∷ []) = NotWritten
+decode (process ∷ call ∷ fd ∷ []) = NotWritten
+decode (process ∷ call ∷ fd ∷ low ∷ []) = NotWritten
+decode (process ∷ call ∷ fd ∷ low ∷ high ∷ []) = NotWritten
+decode (process ∷ call ∷ fd ∷ low ∷ high ∷ n ∷ rest) = accepted (leb n (length rest)) (parsed process call fd low high n rest)

@@ -1,0 +1,36 @@
+// A directory's entries, 16 of 16 bytes: the name, the slot, 0. `dir` is what the view shows of its slot.
+ghost use mathlib.Core.Path.{_≡_};
+ghost use mathlib.Core.Bool.{not};
+ghost use lib.Dec.{eqb};
+ghost use Rattle.rules.specs.Directories.{direntAt, direntSlot, isEmpty, isPadding};
+use crate::layout::DIRENT;
+use crate::layout::NAME;
+use crate::parts::after;
+use crate::words::byte;
+
+// Entry i from its first byte on.
+pub fn dirent_at(dir: &[u8], i: u32) -> &[u8]
+    ensures { λ r. ⌜ now r ≡ direntAt (now (dir .entry)) i ⌝ }
+{
+    after(dir, DIRENT * (i as usize))
+}
+
+// The slot that entry i names, 0 where it is empty.
+pub fn dirent_slot(dir: &[u8], i: u32) -> u32
+    ensures { λ r. ⌜ r ≡ direntSlot (now (dir .entry)) i ⌝ }
+{
+    byte(dirent_at(dir, i), NAME) as u32
+}
+
+pub fn is_empty(dir: &[u8], i: u32) -> bool
+    ensures { λ r. ⌜ r ≡ isEmpty (now (dir .entry)) i ⌝ }
+{
+    dirent_slot(dir, i) == 0
+}
+
+// Byte k of a name is 0.
+pub fn is_padding(name: &[u8], k: usize) -> bool
+    ensures { λ r. ⌜ r ≡ isPadding (now (name .entry)) k ⌝ }
+{
+    byte(name, k) == 0
+}

@@ -1,0 +1,11 @@
+// The lent tables: total reads and stores, and every field by its named column and typed index.
+pub mod directories;
+pub mod files;
+pub mod layout;
+pub mod names;
+pub mod numbers;
+pub mod opens;
+pub mod parts;
+pub mod policy;
+pub mod processes;
+pub mod words;
