@@ -14,7 +14,7 @@ use Rattle.rules.specs.Choice.{every}
 use Rattle.rules.specs.Scan.{repeat}
 use Rattle.rules.specs.Store.{Store, view, slot, up, applyAll, change, procZero}
 use Rattle.rules.specs.Sound.{openBut, isOn}
-use Rattle.rules.specs.Checks.{held, ofdHeld, closing, dropping, releasing}
+use Rattle.rules.specs.Checks.{descHeld, ofdHeld, closing, dropping, releasing}
 use Rattle.rules.specs.Checks as checks
 use Rattle.rules.specs.Effects.{words, fdOf, releaseChanges, closeChanges, released, releasedAll}
 use Rattle.rules.specs.declared.ids.Pid.{Pid}
@@ -98,7 +98,7 @@ module _ (s : Store) (h : SoundStore s) (p : Pid) (i : Fd) where
             one l = let n : tablesOf s .opened e REFERENCES ≡ 0 → ⊥ = o .open-refs in let q : tablesOf s .opened e REFERENCES ≤ 1 = unfold tablesOf in l in omega arith
 
     pub releasing-is : Releasing (releasing (view s) p i)
-    unfolding releasing held
+    unfolding releasing descHeld
     releasing-is = by (ℕ-discrete (view s .desc (p .0) (i .0)) 0)
       where
         by : Dec (view s .desc (p .0) (i .0) ≡ 0) → Releasing (cond (not (eqb (view s .desc (p .0) (i .0)) 0)) (dropping (view s) (ofdHeld (view s) p i)) release.Nothing)

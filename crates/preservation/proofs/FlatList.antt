@@ -12,7 +12,7 @@ use lib.ListN.{length, getD, set, length-set, length-replicate, getD-replicate, 
 use lib.Seq.{getD-set-same, getD-set-other, sets}
 use borrow.Author.Tests.{lt-ltb, le-ltb}
 use Rattle.preservation.proofs.Tests.{split, upd, upd2, updRow}
-use Rattle.rules.specs.Store.{tab, puts, zeros}
+use Rattle.rules.specs.Store.{tab, zeros}
 
 pub tab-in : (w : ℕ) (xs : List ℕ) (i k : ℕ) → k < w → tab w xs i k ≡ getD xs (w * i + k) 0
 tab-in w xs i k h = rw (lt-ltb k w h)
@@ -132,10 +132,3 @@ getD-zeros n k = go (decLt k n)
     go : Dec (k < n) → getD (zeros n) k 0 ≡ 0
     go (yes h) = unfold zeros in getD-replicate n k 0 0 h
     go (no h) = List·getD-eq-default (zeros n) 0 (omega (arith, length-zeros n))
-
--- words put one after another are a run of words
-pub puts-sets : (w : ℕ) (l : List ℕ) (j k : ℕ) (vs : List ℕ) → puts w l j k vs ≡ sets l (w * j + k) vs
-puts-sets w l j k [] = refl
-puts-sets w l j k (v ∷ vs) =
-    let e : w * j + suc k ≡ suc (w * j + k) = omega arith in
-    puts-sets w (set l (w * j + k) v) j (suc k) vs ∙ ap (λ (i : ℕ). sets (set l (w * j + k) v) i vs) e

@@ -17,7 +17,7 @@ use Rattle.rules.specs.Rights.{owns, transition, moved}
 use Rattle.rules.specs.Directories.{isEmpty, freeDirent}
 use Rattle.rules.specs.Sound.{policySound, rightSound, transitionSound}
 use Rattle.rules.specs.Calls.{Call}
-use Rattle.rules.specs.Checks.{need, after, inUse, held, ofdHeld, freeSlot, freeOfd, freeFd, freePid, slotFree, ofdFree, fdFree, pidFree, gains, loses, unnaming, releasing}
+use Rattle.rules.specs.Checks.{need, after, inUse, procInUse, held, descHeld, ofdHeld, freeSlot, freeOfd, freeFd, freePid, slotFree, ofdFree, fdFree, pidFree, gains, loses, unnaming, releasing}
 use Rattle.rules.specs.Checks as checks
 use Rattle.rules.specs.DecidePaths.{truncated, newRecord}
 use Rattle.rules.specs.Decide.{placement}
@@ -113,11 +113,11 @@ module _ (s : Store) (h : SoundStore s) where
   plain-small i e = used-small i (λ z. omega (arith, e, z))
 
   pub in-use : (p : Pid) → inUse (view s) p ≡ true → Caller (tablesOf s) p
-  unfolding inUse tablesOf
+  unfolding procInUse tablesOf
   in-use p e = let w = means-every (means-and (means-lt (p .0) PROCESSES) (means-last (means-eq (view s .proc (p .0) USED) 1))) .holds e in record { small = w .0; used = w .1 }
 
   pub holds : (p : Pid) (i : Fd) → Caller (tablesOf s) p → held (view s) p i ≡ true → Holds (tablesOf s) p i (ofdHeld (view s) p i)
-  unfolding held tablesOf
+  unfolding descHeld tablesOf
   holds p i u e = record { caller = u; fd-small = small (decLt (i .0) DESCRIPTORS); there = omega (arith, some-file) }
     where
       not-not : (b : Bool) → not b ≡ true → b ≡ false
@@ -135,19 +135,19 @@ module _ (s : Store) (h : SoundStore s) where
 
   pub slot-free : ltb (freeSlot (view s .tree)) SLOTS ≡ true → tablesOf s .file (freeSlot (view s .tree)) KIND ≡ FREE
   unfolding tablesOf
-  slot-free t = eqb-true (view s .tree .file (freeSlot (view s .tree)) KIND) FREE (unfold slotFree in first-passes (slotFree (view s .tree)) SLOTS (ltb-true (freeSlot (view s .tree)) SLOTS t))
+  slot-free t = eqb-true (view s .tree .file (freeSlot (view s .tree)) KIND) FREE (unfold slotFree in first-passes (slotFree (view s .tree .file)) SLOTS (ltb-true (freeSlot (view s .tree)) SLOTS t))
 
   pub ofd-free : ltb (freeOfd (view s)) OPENS ≡ true → tablesOf s .opened (freeOfd (view s)) REFERENCES ≡ 0
   unfolding tablesOf
-  ofd-free t = eqb-true (view s .opened (freeOfd (view s)) REFERENCES) 0 (unfold ofdFree in first-passes (ofdFree (view s)) OPENS (ltb-true (freeOfd (view s)) OPENS t))
+  ofd-free t = eqb-true (view s .opened (freeOfd (view s)) REFERENCES) 0 (unfold ofdFree in first-passes (ofdFree (view s .opened)) OPENS (ltb-true (freeOfd (view s)) OPENS t))
 
   pub fd-free : (p : Pid) → ltb (freeFd (view s) p) DESCRIPTORS ≡ true → tablesOf s .desc (p .0) (freeFd (view s) p) ≡ 0
   unfolding tablesOf
-  fd-free p t = eqb-true (view s .desc (p .0) (freeFd (view s) p)) 0 (unfold fdFree in first-passes (fdFree (view s) p) DESCRIPTORS (ltb-true (freeFd (view s) p) DESCRIPTORS t))
+  fd-free p t = eqb-true (view s .desc (p .0) (freeFd (view s) p)) 0 (unfold fdFree in first-passes (fdFree (view s .desc) p) DESCRIPTORS (ltb-true (freeFd (view s) p) DESCRIPTORS t))
 
   pub pid-free : ltb (freePid (view s)) PROCESSES ≡ true → tablesOf s .proc (freePid (view s)) USED ≡ 0
   unfolding tablesOf
-  pid-free t = eqb-true (view s .proc (freePid (view s)) USED) 0 (unfold pidFree in first-passes (pidFree (view s)) PROCESSES (ltb-true (freePid (view s)) PROCESSES t))
+  pid-free t = eqb-true (view s .proc (freePid (view s)) USED) 0 (unfold pidFree in first-passes (pidFree (view s .proc)) PROCESSES (ltb-true (freePid (view s)) PROCESSES t))
 
   pub dirent-free : (d : ℕ) → ltb (freeDirent (view s .tree .shown d)) DIRENTS ≡ true → isEmpty (view s .tree .shown d) (freeDirent (view s .tree .shown d)) ≡ true
   dirent-free d t = first-passes (isEmpty (view s .tree .shown d)) DIRENTS (ltb-true (freeDirent (view s .tree .shown d)) DIRENTS t)

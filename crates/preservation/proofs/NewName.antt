@@ -18,6 +18,7 @@ use Rattle.rules.specs.Directories.{direntAt, direntSlot, isEmpty, isPadding, h
 use Rattle.rules.specs.Sound.{nameSound, nameByteSound}
 use Rattle.rules.specs.Checks.{nameAbsent}
 use Rattle.rules.specs.declared.ids.Slot.{Slot}
+use Rattle.rules.proofs.Lists.{length-padded}
 use Rattle.preservation.proofs.Tests.{means-every, means-and, means-last, means-imp, means-or, means-eq, means-not, means-test, means-all}
 use Rattle.preservation.proofs.Tables.{direntRow}
 use Rattle.preservation.proofs.Scans.{first-none}
@@ -30,11 +31,6 @@ use Rattle.preservation.proofs.PathNames.{GoodName}
 
 -- ---- the 16 bytes
 
-padded-length : (n : ℕ) (l : List ℕ) → length (padded n l) ≡ n
-unfolding padded
-padded-length zero l = refl
-padded-length (suc n) l = ap suc (padded-length n (drop 1 l))
-
 padded-at : (n : ℕ) (l : List ℕ) (k : ℕ) → k < n → getD (padded n l) k 0 ≡ getD l k 0
 unfolding padded
 padded-at zero l k h = absurd (not-suc-le-zero h)
@@ -46,15 +42,15 @@ padded-at (suc n) l (suc k) h =
 module _ (name : paths.Name) (s : Slot) where
   pub dirent-length : length (dirent name s) ≡ DIRENT
   unfolding dirent
-  dirent-length = length-append (padded NAME name) (s .0 % 256 ∷ 0 ∷ []) ∙ ap (λ (n : ℕ). n + 2) (padded-length NAME name)
+  dirent-length = length-append (padded NAME name) (s .0 % 256 ∷ 0 ∷ []) ∙ ap (λ (n : ℕ). n + 2) (length-padded NAME name)
 
   pub row-name : (k : ℕ) → k < NAME → rowOf name s k ≡ getD name k 0
   unfolding dirent
-  row-name k h = List·getD-append (padded NAME name) (s .0 % 256 ∷ 0 ∷ []) 0 k (rw (padded-length NAME name) h) ∙ padded-at NAME name k h
+  row-name k h = List·getD-append (padded NAME name) (s .0 % 256 ∷ 0 ∷ []) 0 k (rw (length-padded NAME name) h) ∙ padded-at NAME name k h
 
   row-after : (k : ℕ) → getD (dirent name s) (NAME + k) 0 ≡ getD (s .0 % 256 ∷ 0 ∷ []) k 0
   unfolding dirent
-  row-after k = rw (padded-length NAME name) at (getD-append-add (padded NAME name) (s .0 % 256 ∷ 0 ∷ []) k 0)
+  row-after k = rw (length-padded NAME name) at (getD-append-add (padded NAME name) (s .0 % 256 ∷ 0 ∷ []) k 0)
 
   pub row-slot : s .0 < SLOTS → rowOf name s NAME ≡ s .0
   row-slot h = row-after 0 ∙ small

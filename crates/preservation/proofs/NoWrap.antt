@@ -12,7 +12,7 @@ use Rattle.rules.specs.Scan.{repeat}
 use Rattle.rules.specs.Store.{Store, view, subjectOf, up, plus}
 use Rattle.rules.specs.Sound.{sound}
 use Rattle.rules.specs.Calls.{Call}
-use Rattle.rules.specs.Checks.{held, sharing, shareOf}
+use Rattle.rules.specs.Checks.{descHeld, sharing, shareOf}
 use Rattle.rules.specs.Decide.{decide}
 use Rattle.rules.specs.Effects.{fdOf}
 use Rattle.rules.specs.Effects as effects
@@ -47,7 +47,7 @@ module _ (s : Store) (h : SoundStore s) where
 
   -- each turn of a fork
   share-sums : (p q : Pid) (u l : ℕ) (hp : p .0 < PROCESSES) (hq : q .0 < PROCESSES) (i : ℕ) → i < DESCRIPTORS → (t : Store) → Sharing p q u l hp hq s i t → PlainShare (view t) (shareOf (view t) p (fdOf i))
-  unfolding shareOf held
+  unfolding shareOf descHeld
   share-sums p q u l hp hq i hi t c = by (ℕ-discrete (view t .desc (p .0) i) 0)
     where
       by : Dec (view t .desc (p .0) i ≡ 0) → PlainShare (view t) (cond (not (eqb (view t .desc (p .0) i) 0)) (sharing (view t) (view t .desc (p .0) i - 1)) share.Nothing)

@@ -12,9 +12,10 @@ use borrow.Author.Tests.{eq-eqb, ne-eqb, lt-ltb, le-ltb}
 use Rattle.rules.specs.Layout.{SLOTS, BLOCK, DIRENT, DIRENTS, OPENS, PROCESSES, DESCRIPTORS, FILE, OPEN, PROCESS, OWN}
 use Rattle.rules.specs.Store.{Store, store, tab, procOf, descOf, puts, zeros, change, fileWord, clearTo, openWord, openZero, procWord, procZero}
 use Rattle.rules.specs.Store as rules
+use Rattle.rules.proofs.Lists.{puts-sets}
 use Rattle.preservation.proofs.Tests.{split, upd, upd2, updRow}
 use Rattle.preservation.proofs.Tables.{Tables, fill, fileTo, bytesTo, openTo, procTo, descTo, fileRowTo, openRowTo, procRowTo}
-use Rattle.preservation.proofs.FlatList.{overRow, tab-run, tab-set, tab-row, sets-run, puts-sets, upd2-row, length-zeros, getD-zeros}
+use Rattle.preservation.proofs.FlatList.{overRow, tab-run, tab-set, tab-row, sets-run, upd2-row, length-zeros, getD-zeros}
 use Rattle.preservation.proofs.Remake.{remade}
 
 unfoldable pub tablesOf : Store → Tables
