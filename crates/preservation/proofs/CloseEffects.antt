@@ -1,0 +1,228 @@
+-- A descriptor is emptied: close, and exit, which empties them all and frees the process.
+use mathlib.Core.Path.{_≡_, refl, sym, subst, ap, _∙_, fun-ext}
+use mathlib.Core.Bool.{Bool, true, false, cond, not, false≢true, true≢false}
+use mathlib.Core.Logic.{_⊎_, inl, inr}
+use mathlib.Core.List.{[], _∷_}
+use Prim.Native.Nat.{ℕ, zero, suc, _+_, _-_, _≤_, _<_}
+use native.Mathlib.Nat.{not-suc-le-zero}
+use native.Mathlib.Omega.{arith}
+use native.Mathlib.Decide.{decLt, ℕ-discrete}
+use lib.Dec.{eqb, ltb}
+use borrow.Author.Tests.{eq-eqb, ne-eqb, ltb-true, ltb-false}
+use Rattle.rules.specs.Layout.{SLOTS, OPENS, PROCESSES, DESCRIPTORS, KIND, BITS, LINKS, VERSION, SLOT, REFERENCES, USED, FREE}
+use Rattle.rules.specs.Choice.{every}
+use Rattle.rules.specs.Scan.{repeat}
+use Rattle.rules.specs.Store.{Store, view, slot, up, applyAll, change, procZero}
+use Rattle.rules.specs.Sound.{openBut, isOn}
+use Rattle.rules.specs.Checks.{descHeld, ofdHeld, closing, dropping, releasing}
+use Rattle.rules.specs.Checks as checks
+use Rattle.rules.specs.Effects.{words, fdOf, releaseChanges, closeChanges, released, releasedAll}
+use Rattle.rules.specs.declared.ids.Pid.{Pid}
+use Rattle.rules.specs.declared.ids.Fd.{Fd}
+use Rattle.rules.specs.declared.decision.Release.{Release}
+use Rattle.rules.specs.declared.decision.Release.the-variants as release
+use Rattle.rules.proofs.Scans.{repeat-step, repeat-done}
+use Rattle.preservation.proofs.Tests.{split, upd, updRow, Means, means-every, means-and, means-last, means-eq}
+use Rattle.preservation.proofs.Tables.{Tables, descTo}
+use Rattle.preservation.proofs.Scans.{any-found, any-none}
+use Rattle.preservation.proofs.Sound.{Sound}
+use Rattle.preservation.proofs.Counts.{updRow-same, updRow-other}
+use Rattle.preservation.proofs.Words.{up-most}
+use Rattle.preservation.proofs.OneWord.{Held}
+use Rattle.preservation.proofs.OneWord as word
+use Rattle.preservation.proofs.Remake.{remade}
+use Rattle.preservation.proofs.Create.{fileRow, freed}
+use Rattle.preservation.proofs.Open.{handed, close-keeps, close-named, close-open, close-frees, slot-small}
+use Rattle.preservation.proofs.Processes.{retire-sound}
+use Rattle.preservation.proofs.StoreChanges.{tablesOf, Has, has-clearTo, has-openRow, has-openZero, has-descTo, has-procZero, desc-past}
+use Rattle.preservation.proofs.Counted.{means-on}
+use Rattle.preservation.proofs.SoundStore.{SoundStore, kept}
+use Rattle.preservation.proofs.OpenEffects.{Leaves, leaves-sound, its-tables}
+
+-- ---- what becomes of the open file of a descriptor that is emptied
+
+module _ (s : Store) (h : SoundStore s) (p : Pid) (i : Fd) where
+  pub data Releasing : Release → Type 0 where
+    nothing : tablesOf s .desc (p .0) (i .0) ≡ 0 → Releasing release.Nothing
+    keeps : (e : ℕ) → tablesOf s .desc (p .0) (i .0) ≡ e + 1 → 1 < tablesOf s .opened e REFERENCES → Releasing (release.Kept e (view s .opened e REFERENCES - 1))
+    named : (e : ℕ) → tablesOf s .desc (p .0) (i .0) ≡ e + 1 → tablesOf s .opened e REFERENCES ≡ 1 → 0 < tablesOf s .file (tablesOf s .opened e SLOT) LINKS → Releasing (release.Gone e)
+    stays : (e : ℕ) → tablesOf s .desc (p .0) (i .0) ≡ e + 1 → tablesOf s .opened e REFERENCES ≡ 1 → (j : ℕ) → j < OPENS → (j ≡ e → ⊥) → (tablesOf s .opened j REFERENCES ≡ 0 → ⊥) →
+        tablesOf s .opened j SLOT ≡ tablesOf s .opened e SLOT → Releasing (release.Gone e)
+    frees : (e : ℕ) → tablesOf s .desc (p .0) (i .0) ≡ e + 1 → tablesOf s .opened e REFERENCES ≡ 1 → tablesOf s .file (tablesOf s .opened e SLOT) LINKS ≡ 0 →
+        ((j : ℕ) → j < OPENS → (j ≡ e → ⊥) → (tablesOf s .opened j REFERENCES ≡ 0 → ⊥) → tablesOf s .opened j SLOT ≡ tablesOf s .opened e SLOT → ⊥) →
+        Releasing (release.Freed e (slot (view s .opened e SLOT)) (checks.freed (view s .tree) (slot (view s .opened e SLOT))))
+
+  module _ (hp : p .0 < PROCESSES) (hi : i .0 < DESCRIPTORS) where
+    closing-is : (e : ℕ) → tablesOf s .desc (p .0) (i .0) ≡ e + 1 → tablesOf s .opened e REFERENCES ≡ 1 → Releasing (closing (view s) e (slot (view s .opened e SLOT)))
+    unfolding closing tablesOf
+    closing-is e d r = by (every (eqb (view s .tree .file (view s .opened e SLOT) LINKS) 0 ∷ not (openBut (view s .opened) e (view s .opened e SLOT)) ∷ [])) refl
+      where
+        open-elsewhere : openBut (view s .opened) e (view s .opened e SLOT) ≡ true → Releasing (release.Gone e)
+        open-elsewhere t =
+            let f = any-found (isOn (view s .opened) e (view s .opened e SLOT)) OPENS (unfold openBut in t) in
+            let w = means-on (view s .opened) e (view s .opened e SLOT) (f .at) .holds (f .passes) in
+            stays e d r (f .at) (f .small) (w .0) (w .1 .0) (w .1 .1)
+
+        nowhere : openBut (view s .opened) e (view s .opened e SLOT) ≡ false → (j : ℕ) → j < OPENS → (j ≡ e → ⊥) → (view s .opened j REFERENCES ≡ 0 → ⊥) → view s .opened j SLOT ≡ view s .opened e SLOT → ⊥
+        nowhere t j hj n a b = false≢true (sym (any-none (isOn (view s .opened) e (view s .opened e SLOT)) OPENS (unfold openBut in t) j hj) ∙ means-on (view s .opened) e (view s .opened e SLOT) j .tests (n, (a, b)))
+
+        gone : (b : Bool) → openBut (view s .opened) e (view s .opened e SLOT) ≡ b → Dec (view s .tree .file (view s .opened e SLOT) LINKS ≡ 0) →
+            every (eqb (view s .tree .file (view s .opened e SLOT) LINKS) 0 ∷ not (openBut (view s .opened) e (view s .opened e SLOT)) ∷ []) ≡ false → Releasing (release.Gone e)
+        gone true t q z = open-elsewhere t
+        gone false t (no n) z = named e d r (omega arith)
+        gone false t (yes q) z = absurd (false≢true (sym z ∙ unfold every in rw (eq-eqb (view s .tree .file (view s .opened e SLOT) LINKS) 0 q, t)))
+
+        by : (b : Bool) → every (eqb (view s .tree .file (view s .opened e SLOT) LINKS) 0 ∷ not (openBut (view s .opened) e (view s .opened e SLOT)) ∷ []) ≡ b →
+            Releasing (cond b (release.Freed e (slot (view s .opened e SLOT)) (checks.freed (view s .tree) (slot (view s .opened e SLOT)))) (release.Gone e))
+        by true t =
+            let w = means-every (means-and (means-eq (view s .tree .file (view s .opened e SLOT) LINKS) 0) (means-last (means-eq-test (openBut (view s .opened) e (view s .opened e SLOT))))) .holds t in
+            frees e d r (w .0) (nowhere (w .1))
+          where
+            means-eq-test : (b : Bool) → Means (not b) (b ≡ false)
+            means-eq-test true = record { holds = λ q. absurd (false≢true q); tests = λ q. absurd (true≢false q) }
+            means-eq-test false = record { holds = λ _. refl; tests = λ _. refl }
+        by false t = gone (openBut (view s .opened) e (view s .opened e SLOT)) refl (ℕ-discrete (view s .tree .file (view s .opened e SLOT) LINKS) 0) t
+
+    dropping-is : (e : ℕ) → tablesOf s .desc (p .0) (i .0) ≡ e + 1 → Releasing (dropping (view s) e)
+    unfolding dropping
+    dropping-is e d = by (ltb 1 (view s .opened e REFERENCES)) refl
+      where
+        o : Held (tablesOf s) e
+        o = word.held SLOTS (tablesOf s) (h .tables) (p .0) (i .0) e hp hi d
+
+        by : (b : Bool) → ltb 1 (view s .opened e REFERENCES) ≡ b → Releasing (cond b (release.Kept e (view s .opened e REFERENCES - 1)) (closing (view s) e (slot (view s .opened e SLOT))))
+        by true t = keeps e d (unfold tablesOf in ltb-true 1 (view s .opened e REFERENCES) t)
+        by false t = closing-is e d (one (ltb-false 1 (view s .opened e REFERENCES) t))
+          where
+            one : view s .opened e REFERENCES ≤ 1 → tablesOf s .opened e REFERENCES ≡ 1
+            one l = let n : tablesOf s .opened e REFERENCES ≡ 0 → ⊥ = o .open-refs in let q : tablesOf s .opened e REFERENCES ≤ 1 = unfold tablesOf in l in omega arith
+
+    pub releasing-is : Releasing (releasing (view s) p i)
+    unfolding releasing descHeld
+    releasing-is = by (ℕ-discrete (view s .desc (p .0) (i .0)) 0)
+      where
+        by : Dec (view s .desc (p .0) (i .0) ≡ 0) → Releasing (cond (not (eqb (view s .desc (p .0) (i .0)) 0)) (dropping (view s) (ofdHeld (view s) p i)) release.Nothing)
+        by (yes q) = rw (eq-eqb (view s .desc (p .0) (i .0)) 0 q) (nothing (unfold tablesOf in q))
+        by (no n) = rw (ne-eqb (view s .desc (p .0) (i .0)) 0 n) (dropping-is (view s .desc (p .0) (i .0) - 1) (unfold tablesOf in (omega (arith, n))))
+
+-- ---- the tables after it
+
+-- each file is freed, or has the kind and the bits that it had
+abbrev pub Steady : Tables → Tables → Type 0
+Steady m n = (f : ℕ) → (n .file f KIND ≡ FREE) ⊎ ((n .file f KIND ≡ m .file f KIND) × (n .file f BITS ≡ m .file f BITS))
+
+pub steady-freed : (m : Tables) (y : ℕ) (row g : ℕ → ℕ) → row KIND ≡ FREE → Steady m (remade y row g m)
+unfolding remade
+steady-freed m y row g e f = split f y (λ q t. rw t (inl e)) (λ q t. rw t (inr (refl, refl)))
+
+pub record Emptied (s t : Store) (p i : ℕ) : Type 0 where
+  pub sound : SoundStore t
+  pub proc-same : tablesOf t .proc ≡ tablesOf s .proc
+  pub desc-to : tablesOf t .desc ≡ updRow (tablesOf s .desc) p i 0
+  pub steady : Steady (tablesOf s) (tablesOf t)
+
+-- what a descriptor already holds
+pub updRow-id : (f : ℕ → ℕ → ℕ) (j c v : ℕ) → f j c ≡ v → updRow f j c v ≡ f
+updRow-id f j c v e = fun-ext (λ i. fun-ext (λ k. split i j (λ q t. split k c (λ r u. rw (t, u, q, r) (sym e)) (λ r u. rw (t, u, q))) (λ q t. rw t)))
+
+from-leaves : {s t : Store} {m : Tables} {p i : ℕ} → Leaves t m → m .proc ≡ tablesOf s .proc → m .desc ≡ updRow (tablesOf s .desc) p i 0 → Steady (tablesOf s) m → Emptied s t p i
+from-leaves {s} {t} {m} l a b c = record {
+  sound = leaves-sound l;
+  proc-same = ap (λ (n : Tables). n .proc) (l .has .is) ∙ a;
+  desc-to = ap (λ (n : Tables). n .desc) (l .has .is) ∙ b;
+  steady = rw (l .has .is) c;
+}
+
+pub close-leaves : (s : Store) (h : SoundStore s) (p : Pid) (i : Fd) → p .0 < PROCESSES → i .0 < DESCRIPTORS → tablesOf s .proc (p .0) USED ≡ 1 → {r : Release} → Releasing s h p i r → Emptied s (applyAll (closeChanges p i r) s) (p .0) (i .0)
+unfolding closeChanges releaseChanges applyAll handed
+close-leaves s h p i hp hi u (nothing q) = from-leaves {m = descTo (p .0) (i .0) 0 (tablesOf s)} (record {
+  has = has-descTo (its-tables s h) (p .0) (i .0) 0 hp hi;
+  sound = subst (λ (d : ℕ → ℕ → ℕ). Sound (record { file = tablesOf s .file; byte = tablesOf s .byte; opened = tablesOf s .opened; proc = tablesOf s .proc; desc = d })) (sym (updRow-id (tablesOf s .desc) (p .0) (i .0) 0 q)) (h .tables);
+}) refl refl (λ f. inr (refl, refl))
+close-leaves s h p i hp hi u (keeps e d l) = from-leaves {m = handed (p .0) (i .0) 0 e (upd (tablesOf s .opened e) REFERENCES (tablesOf s .opened e REFERENCES - 1)) (tablesOf s)} (record {
+  has = unfold tablesOf in has-openRow (has-descTo (its-tables s h) (p .0) (i .0) 0 hp hi) e REFERENCES (view s .opened e REFERENCES - 1) (word.held SLOTS (tablesOf s) (h .tables) (p .0) (i .0) e hp hi d .small) (omega arith);
+  sound = unfold tablesOf in close-keeps (tablesOf s) (h .tables) (p .0) (i .0) e hp hi (λ z. omega (arith, u, z)) d l;
+}) refl refl (λ f. inr (refl, refl))
+close-leaves s h p i hp hi u (named e d r l) = from-leaves {m = handed (p .0) (i .0) 0 e (λ _. 0) (tablesOf s)} (record {
+  has = has-openZero (has-descTo (its-tables s h) (p .0) (i .0) 0 hp hi) e (word.held SLOTS (tablesOf s) (h .tables) (p .0) (i .0) e hp hi d .small);
+  sound = close-named (tablesOf s) (h .tables) (p .0) (i .0) e hp hi (λ z. omega (arith, u, z)) d r l;
+}) refl refl (λ f. inr (refl, refl))
+close-leaves s h p i hp hi u (stays e d r j hj n a b) = from-leaves {m = handed (p .0) (i .0) 0 e (λ _. 0) (tablesOf s)} (record {
+  has = has-openZero (has-descTo (its-tables s h) (p .0) (i .0) 0 hp hi) e (word.held SLOTS (tablesOf s) (h .tables) (p .0) (i .0) e hp hi d .small);
+  sound = close-open (tablesOf s) (h .tables) (p .0) (i .0) e hp hi (λ z. omega (arith, u, z)) d r j hj n a b;
+}) refl refl (λ f. inr (refl, refl))
+close-leaves s h p i hp hi u (frees e d r l none) = from-leaves {m = freed (tablesOf s .opened e SLOT) (up (tablesOf s .file (tablesOf s .opened e SLOT) VERSION)) (handed (p .0) (i .0) 0 e (λ _. 0) (tablesOf s))} (record {
+  has = unfold tablesOf freed in has-clearTo (has-openZero (has-descTo (its-tables s h) (p .0) (i .0) 0 hp hi) e (word.held SLOTS (tablesOf s) (h .tables) (p .0) (i .0) e hp hi d .small))
+      (view s .opened e SLOT) (words (checks.freed (view s .tree) (slot (view s .opened e SLOT)))) (slot-small (tablesOf s) (h .tables) (p .0) (i .0) e hp hi (λ z. omega (arith, u, z)) d) refl;
+  sound = close-frees (tablesOf s) (h .tables) (p .0) (i .0) e hp hi (λ z. omega (arith, u, z)) d r l none (up (tablesOf s .file (tablesOf s .opened e SLOT) VERSION)) (up-most (tablesOf s .file (tablesOf s .opened e SLOT) VERSION));
+}) (unfold freed remade in refl) (unfold freed remade in refl)
+    (unfold freed in steady-freed (handed (p .0) (i .0) 0 e (λ _. 0) (tablesOf s)) (tablesOf s .opened e SLOT) (fileRow FREE 0 0 0 0 0 (up (tablesOf s .file (tablesOf s .opened e SLOT) VERSION))) (λ _. 0) refl)
+
+-- ---- exit
+
+pub steady-both : (a b c : Tables) → Steady a b → Steady b c → Steady a c
+steady-both a b c x y f = by (x f) (y f)
+  where
+    by : (b .file f KIND ≡ FREE) ⊎ ((b .file f KIND ≡ a .file f KIND) × (b .file f BITS ≡ a .file f BITS)) → (c .file f KIND ≡ FREE) ⊎ ((c .file f KIND ≡ b .file f KIND) × (c .file f BITS ≡ b .file f BITS)) →
+        (c .file f KIND ≡ FREE) ⊎ ((c .file f KIND ≡ a .file f KIND) × (c .file f BITS ≡ a .file f BITS))
+    by u (inl e) = inl e
+    by (inl d) (inr e) = inl (e .0 ∙ d)
+    by (inr d) (inr e) = inr (e .0 ∙ d .0, e .1 ∙ d .1)
+
+-- the descriptors below i of process p are empty
+pub record Closing (s : Store) (p i : ℕ) (t : Store) : Type 0 where
+  pub sound : SoundStore t
+  pub used : tablesOf t .proc p USED ≡ 1
+  pub gone : (j : ℕ) → j < i → tablesOf t .desc p j ≡ 0
+  pub steady : Steady (tablesOf s) (tablesOf t)
+
+closing-one : (s : Store) (p : Pid) (i : ℕ) (t : Store) → p .0 < PROCESSES → i < DESCRIPTORS → Closing s (p .0) i t → Closing s (p .0) (i + 1) (released p i t)
+unfolding released
+closing-one s p i t hp hi c =
+    let e = close-leaves t (c .sound) p (fdOf i) hp hi (c .used) (releasing-is t (c .sound) p (fdOf i) hp hi) in
+    record {
+      sound = e .sound;
+      used = rw (e .proc-same) (c .used);
+      gone = λ j hj. rw (e .desc-to) (at j hj (ℕ-discrete j i));
+      steady = steady-both (tablesOf s) (tablesOf t) (tablesOf (released p i t)) (c .steady) (e .steady);
+    }
+  where
+    at : (j : ℕ) → j < i + 1 → Dec (j ≡ i) → updRow (tablesOf t .desc) (p .0) i 0 (p .0) j ≡ 0
+    at j hj (yes q) = rw q (updRow-same (tablesOf t .desc) (p .0) i 0)
+    at j hj (no n) = updRow-other (tablesOf t .desc) (p .0) i 0 (p .0) j (λ _ q. n q) ∙ c .gone j (omega arith)
+
+closing-all : (s : Store) (p : Pid) (k i : ℕ) (t : Store) → p .0 < PROCESSES → i + k ≡ DESCRIPTORS → Closing s (p .0) i t → Closing s (p .0) DESCRIPTORS (repeat (released p) i DESCRIPTORS t)
+closing-all s p zero i t hp e c =
+    let q : i ≡ DESCRIPTORS = omega arith in
+    subst (λ (u : Store). Closing s (p .0) DESCRIPTORS u) (repeat-done (released p) i DESCRIPTORS t refl (omega arith)) (rw q at c)
+closing-all s p (suc k) i t hp e c =
+    subst (λ (u : Store). Closing s (p .0) DESCRIPTORS u) (repeat-step (released p) i DESCRIPTORS t refl (omega arith))
+    (closing-all s p k (i + 1) (released p i t) hp (omega arith) (closing-one s p i t hp (omega arith) c))
+
+pub record Exits (s t : Store) : Type 0 where
+  pub sound : SoundStore t
+  pub steady : Steady (tablesOf s) (tablesOf t)
+
+pub exit-leaves : (s : Store) → SoundStore s → (p : Pid) → p .0 < PROCESSES → tablesOf s .proc (p .0) USED ≡ 1 → Exits s (applyAll (procZero (p .0) ∷ []) (releasedAll p s))
+unfolding applyAll releasedAll
+exit-leaves s h p hp u = record {
+  sound = kept _ _ z (subst (λ (d : ℕ → ℕ → ℕ). Sound (record { file = m .file; byte = m .byte; opened = m .opened; proc = upd (m .proc) (p .0) (λ _. 0); desc = d })) (sym empty)
+      (retire-sound SLOTS m (c .sound .tables) (p .0) (c .gone)));
+  steady = rw (z .is) (c .steady);
+}
+  where
+    c : Closing s (p .0) DESCRIPTORS (repeat (released p) 0 DESCRIPTORS s)
+    c = closing-all s p DESCRIPTORS 0 s hp refl (record { sound = h; used = u; gone = λ j hj. absurd (not-suc-le-zero hj); steady = λ f. inr (refl, refl) })
+
+    m : Tables
+    m = tablesOf (repeat (released p) 0 DESCRIPTORS s)
+
+    z : Has (change (procZero (p .0)) (repeat (released p) 0 DESCRIPTORS s)) (record { file = m .file; byte = m .byte; opened = m .opened; proc = upd (m .proc) (p .0) (λ _. 0); desc = upd (m .desc) (p .0) (λ _. 0) })
+    z = has-procZero (its-tables (repeat (released p) 0 DESCRIPTORS s) (c .sound)) (p .0) hp
+
+    none : (k : ℕ) → Dec (k < DESCRIPTORS) → tablesOf (repeat (released p) 0 DESCRIPTORS s) .desc (p .0) k ≡ 0
+    none k (yes l) = c .gone k l
+    none k (no l) = unfold tablesOf in desc-past (repeat (released p) 0 DESCRIPTORS s .processes) (p .0) k (omega arith)
+
+    empty : upd (tablesOf (repeat (released p) 0 DESCRIPTORS s) .desc) (p .0) (λ _. 0) ≡ tablesOf (repeat (released p) 0 DESCRIPTORS s) .desc
+    empty = fun-ext (λ i. fun-ext (λ k. split i (p .0) (λ q e. rw (e, q) (sym (none k (decLt k DESCRIPTORS)))) (λ q e. rw e)))

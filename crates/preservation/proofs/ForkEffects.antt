@@ -1,0 +1,119 @@
+-- Fork: the child gets its parent's descriptors one by one, then it is in use.
+use mathlib.Core.Path.{_≡_, refl, sym, subst, ap, _∙_}
+use mathlib.Core.Bool.{cond, not}
+use mathlib.Core.List.{[], _∷_}
+use Prim.Native.Nat.{ℕ, zero, suc, _+_, _-_, _≤_, _<_}
+use native.Mathlib.Omega.{arith}
+use native.Mathlib.Decide.{ℕ-discrete}
+use lib.Dec.{eqb}
+use borrow.Author.Tests.{eq-eqb, ne-eqb}
+use Rattle.rules.specs.Layout.{SLOTS, PROCESSES, DESCRIPTORS, REFERENCES, USED, USER-MAX, LABEL-MAX}
+use Rattle.rules.specs.Scan.{repeat}
+use Rattle.rules.specs.Store.{Store, view, up, applyAll, change, descTo}
+use Rattle.rules.specs.Store as rules
+use Rattle.rules.specs.Checks.{descHeld, sharing, shareOf}
+use Rattle.rules.specs.Effects.{fdOf, shareChanges, sharedAll, forkChanges}
+use Rattle.rules.specs.Effects as effects
+use Rattle.rules.specs.declared.ids.Pid.{Pid}
+use Rattle.rules.specs.declared.decision.Share.the-variants as share
+use Rattle.rules.proofs.Scans.{repeat-step, repeat-done}
+use Rattle.preservation.proofs.Tables.{Tables, procRowTo}
+use Rattle.preservation.proofs.Sound.{All, Sound}
+use Rattle.preservation.proofs.Counts.{updRow-other}
+use Rattle.preservation.proofs.Words.{up-is, references-most}
+use Rattle.preservation.proofs.OneWord.{Held}
+use Rattle.preservation.proofs.OneWord as word
+use Rattle.preservation.proofs.Open.{handed}
+use Rattle.preservation.proofs.Processes.{procRow, spawn-sound, shared, shared-sound}
+use Rattle.preservation.proofs.StoreChanges.{tablesOf, Sized, Has, has-openRow, has-descTo, has-procTo}
+use Rattle.preservation.proofs.SoundStore.{SoundStore}
+use Rattle.preservation.proofs.OpenEffects.{Leaves}
+use Rattle.preservation.proofs.CloseEffects.{updRow-id}
+
+-- process q gets the descriptors of process p, and will have user u and label l
+module _ (p q : Pid) (u l : ℕ) (hp : p .0 < PROCESSES) (hq : q .0 < PROCESSES) where
+  -- the tables with the child in use
+  abbrev pub spawned : Tables → Tables
+  spawned m = procRowTo (q .0) (procRow 1 u l) m
+
+  -- the descriptors below i are shared: sound, once the child is in use
+  pub record Sharing (s : Store) (i : ℕ) (t : Store) : Type 0 where
+    pub sized : Sized t
+    pub sound : Sound (spawned (tablesOf t))
+    pub rest : All DESCRIPTORS (λ j. i ≤ j → tablesOf t .desc (q .0) j ≡ 0)
+    pub files-same : tablesOf t .file ≡ tablesOf s .file
+
+  module _ (s : Store) (i : ℕ) (t : Store) (hi : i < DESCRIPTORS) (c : Sharing s i t) where
+    its : Has t (tablesOf t)
+    its = record { sized = c .sized; is = refl }
+
+    -- the parent's descriptor i is empty
+    share-none : tablesOf t .desc (p .0) i ≡ 0 → Sharing s (i + 1) (applyAll (shareChanges q (fdOf i) share.Nothing) t)
+    unfolding shareChanges applyAll
+    share-none z =
+        let w = has-descTo its (q .0) i 0 hq hi in
+        let e : tablesOf (change (descTo (q .0) i 0) t) ≡ tablesOf t
+        = w .is ∙ ap (λ (d : ℕ → ℕ → ℕ). record { file = tablesOf t .file; byte = tablesOf t .byte; opened = tablesOf t .opened; proc = tablesOf t .proc; desc = d }) (updRow-id (tablesOf t .desc) (q .0) i 0 (c .rest i hi (omega arith))) in
+        record { sized = w .sized; sound = rw e (c .sound); rest = λ j hj m. rw e (c .rest j hj (omega arith)); files-same = rw e (c .files-same) }
+
+    module _ (e : ℕ) (z : tablesOf t .desc (p .0) i ≡ e + 1) where
+      pub shared-held : Held (spawned (tablesOf t)) e
+      shared-held = word.held SLOTS (spawned (tablesOf t)) (c .sound) (p .0) i e hp hi z
+
+      pub shared-up : up (tablesOf t .opened e REFERENCES) ≡ tablesOf t .opened e REFERENCES + 1
+      shared-up = up-is (tablesOf t .opened e REFERENCES) (omega (arith, references-most SLOTS (spawned (tablesOf t)) (c .sound) e (shared-held .small)))
+
+      share-one : Sharing s (i + 1) (applyAll (shareChanges q (fdOf i) (share.Held e (up (tablesOf t .opened e REFERENCES)))) t)
+      unfolding shareChanges applyAll
+      share-one = record {
+        sized = w .sized;
+        sound = subst (λ (m : Tables). Sound (spawned m)) (sym (w .is)) (unfold shared handed in
+            (shared-sound SLOTS (spawned (tablesOf t)) (c .sound) (p .0) i (q .0) i e hp hi hq hi (rw (eq-eqb (q .0) (q .0) refl) (λ y. omega arith)) z (c .rest i hi (omega arith))));
+        rest = λ j hj m. rw (w .is) (unfold shared handed in (updRow-other (tablesOf t .desc) (q .0) i (e + 1) (q .0) j (λ _ y. omega arith) ∙ c .rest j hj (omega arith)));
+        files-same = ap (λ (m : Tables). m .file) (w .is) ∙ (unfold shared handed in c .files-same);
+      }
+        where
+          w : Has (change (rules.openWord e REFERENCES (up (tablesOf t .opened e REFERENCES))) (change (descTo (q .0) i (up e)) t)) (shared (q .0) i e (tablesOf t))
+          w = unfold shared handed in rw (up-is e (omega (arith, shared-held .small)), shared-up)
+              (has-openRow (has-descTo its (q .0) i (e + 1) hq hi) e REFERENCES (tablesOf t .opened e REFERENCES + 1) (shared-held .small) (omega arith))
+
+    pub sharing-one : Sharing s (i + 1) (effects.shared p q i t)
+    unfolding effects.shared shareOf descHeld
+    sharing-one = by (ℕ-discrete (view t .desc (p .0) i) 0)
+      where
+        by : Dec (view t .desc (p .0) i ≡ 0) → Sharing s (i + 1) (applyAll (shareChanges q (fdOf i) (cond (not (eqb (view t .desc (p .0) i) 0)) (sharing (view t) (view t .desc (p .0) i - 1)) share.Nothing)) t)
+        by (yes e) = rw (eq-eqb (view t .desc (p .0) i) 0 e) (share-none (unfold tablesOf in e))
+        by (no n) = rw (ne-eqb (view t .desc (p .0) i) 0 n) (unfold tablesOf in (share-one (view t .desc (p .0) i - 1) (omega (arith, n))))
+
+  -- the first k of the descriptors from i on
+  pub sharing-some : (s : Store) (k i n : ℕ) (t : Store) → i + k ≡ n → n ≤ DESCRIPTORS → Sharing s i t → Sharing s n (repeat (effects.shared p q) i n t)
+  sharing-some s zero i n t e hn c =
+      let w : i ≡ n = omega arith in
+      subst (λ (v : Store). Sharing s n v) (repeat-done (effects.shared p q) i n t refl (omega arith)) (rw w at c)
+  sharing-some s (suc k) i n t e hn c =
+      subst (λ (v : Store). Sharing s n v) (repeat-step (effects.shared p q) i n t refl (omega arith))
+      (sharing-some s k (i + 1) n (effects.shared p q i t) (omega arith) hn (sharing-one s i t (omega arith) c))
+
+  pub sharing-start : (s : Store) → SoundStore s → tablesOf s .proc (q .0) USED ≡ 0 → u ≤ USER-MAX → l ≤ LABEL-MAX → Sharing s 0 s
+  sharing-start s h f hu hl = record {
+    sized = h .sized;
+    sound = spawn-sound SLOTS (tablesOf s) (h .tables) (q .0) u l hq hu hl;
+    rest = λ j hj _. h .tables .procs (q .0) hq .desc-zero f j hj;
+    files-same = refl;
+  }
+
+  pub record Forks (s t : Store) : Type 0 where
+    pub tables : Tables
+    pub leaves : Leaves t tables
+    pub files-same : tables .file ≡ tablesOf s .file
+
+  pub fork-leaves : (s : Store) → SoundStore s → tablesOf s .proc (q .0) USED ≡ 0 → u ≤ USER-MAX → l ≤ LABEL-MAX → Forks s (applyAll (forkChanges q u l) (sharedAll p q s))
+  unfolding forkChanges sharedAll applyAll
+  fork-leaves s h f hu hl = record {
+    tables = spawned (tablesOf (repeat (effects.shared p q) 0 DESCRIPTORS s));
+    leaves = record { has = has-procTo (record { sized = c .sized; is = refl }) (q .0) (1 ∷ u ∷ l ∷ []) hq refl; sound = c .sound };
+    files-same = c .files-same;
+  }
+    where
+      c : Sharing s DESCRIPTORS (repeat (effects.shared p q) 0 DESCRIPTORS s)
+      c = sharing-some s DESCRIPTORS 0 DESCRIPTORS s refl (omega arith) (sharing-start s h f hu hl)

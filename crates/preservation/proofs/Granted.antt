@@ -1,0 +1,177 @@
+-- What a granted decision has passed: for each effect, the facts that its checks and the store's soundness give.
+use mathlib.Core.Path.{_≡_, refl}
+use mathlib.Core.Bool.{Bool, true, false, cond, not, false≢true}
+use mathlib.Core.List.{List}
+use Prim.Native.Nat.{ℕ, _+_, _-_, _*_, _≤_, _<_}
+use native.Mathlib.Omega.{arith}
+use native.Mathlib.Decide.{decLt}
+use lib.Dec.{eqb, ltb}
+use lib.ListN.{length, getD, List·getD-eq-default}
+use borrow.Author.Tests.{eqb-true, eqb-false, ltb-true}
+use Rattle.rules.specs.Layout.{SLOTS, BLOCK, DIRENTS, OPENS, PROCESSES, DESCRIPTORS, RIGHTS, LABELS, NONE, BITS-MAX, LABEL-MAX}
+use Rattle.rules.specs.Layout.{KIND, OWNER, LABEL, LENGTH, LINKS, SLOT, OFFSET, REFERENCES, USED, FREE, PLAIN, DIRECTORY}
+use Rattle.rules.specs.Scan.{all}
+use Rattle.rules.specs.Store.{Store, view, slot, subjectOf, up, plus}
+use Rattle.rules.specs.Paths.{names, lastName}
+use Rattle.rules.specs.Rights.{owns, transition, moved}
+use Rattle.rules.specs.Directories.{isEmpty, freeDirent}
+use Rattle.rules.specs.Sound.{policySound, rightSound, transitionSound}
+use Rattle.rules.specs.Calls.{Call}
+use Rattle.rules.specs.Checks.{need, after, inUse, procInUse, held, descHeld, ofdHeld, freeSlot, freeOfd, freeFd, freePid, slotFree, ofdFree, fdFree, pidFree, gains, loses, unnaming, releasing}
+use Rattle.rules.specs.Checks as checks
+use Rattle.rules.specs.DecidePaths.{truncated, newRecord}
+use Rattle.rules.specs.Decide.{placement}
+use Rattle.rules.specs.declared.ids.Slot.{Slot}
+use Rattle.rules.specs.declared.ids.Pid.{Pid}
+use Rattle.rules.specs.declared.ids.Fd.{Fd}
+use Rattle.rules.specs.declared.rights.Bits.{Bits}
+use Rattle.rules.specs.declared.refusal.Refusal.{Refusal}
+use Rattle.rules.specs.declared.decision.Location.{Location}
+use Rattle.rules.specs.declared.decision.Walk.{Walk}
+use Rattle.rules.specs.declared.decision.NewOpen.{NewOpen}
+use Rattle.rules.specs.declared.decision.Output.{Output}
+use Rattle.rules.specs.declared.decision.Output.the-variants as output
+use Rattle.rules.specs.declared.decision.Effect.{Effect}
+use Rattle.rules.specs.declared.decision.Effect.the-variants as effect
+use Rattle.rules.specs.declared.decision.Decision.{Decision}
+use Rattle.rules.specs.declared.decision.Decision.the-variants.{Refused, Granted}
+use Rattle.rules.proofs.Scans.{all-at}
+use Rattle.preservation.proofs.Tests.{means-every, means-and, means-last, means-or, means-eq, means-le, means-lt, means-test}
+use Rattle.preservation.proofs.Scans.{first-passes}
+use Rattle.preservation.proofs.OneWord.{Held}
+use Rattle.preservation.proofs.StoreChanges.{tablesOf, desc-past}
+use Rattle.preservation.proofs.SoundStore.{SoundStore}
+use Rattle.preservation.proofs.OpenEffects.{Caller, Opens, Holds}
+use Rattle.preservation.proofs.NameEffects.{Naming, Creates, Names}
+use Rattle.preservation.proofs.Walked.{WalkFit, reached, stopped}
+
+-- ---- G holds of the value, the output and the effect of a granted decision
+
+pub data Fit (G : ℕ → Output → Effect → Type 0) : Decision → Type 0 where
+  granting : (n : ℕ) (o : Output) (e : Effect) → G n o e → Fit G (Granted n o e)
+  refusing : (r : Refusal) (k : ℕ) → Fit G (Refused r k)
+
+pub need-fit : {G : ℕ → Output → Effect → Type 0} (b : Bool) (r : Refusal) (d : Decision) → (b ≡ true → Fit G d) → Fit G (need b r d)
+unfolding need
+need-fit true r d f = f refl
+need-fit false r d f = refusing r 0
+
+pub fit-map : {G H : ℕ → Output → Effect → Type 0} {d : Decision} → ((n : ℕ) (o : Output) (e : Effect) → G n o e → H n o e) → Fit G d → Fit H d
+fit-map f (granting n o e g) = granting n o e (f n o e g)
+fit-map f (refusing r k) = refusing r k
+
+pub after-fit : {G : ℕ → Output → Effect → Type 0} {P : Location → Type 0} {w : Walk} (f : Location → Decision) → WalkFit P w → ((at : Location) → P at → Fit G (f at)) → Fit G (after w f)
+unfolding after
+after-fit f (reached at p) g = g at p
+after-fit f (stopped r k) g = refusing r k
+
+-- ---- the facts
+
+module _ (s : Store) (h : SoundStore s) (c : Call) where
+  -- call 4
+  pub data Unlinking : ℕ → Output → Effect → Type 0 where
+    unlinking : (d : Slot) (i : ℕ) (y : Slot) → Names s h d i y → tablesOf s .file (y .0) KIND ≡ PLAIN → Unlinking 0 output.Nothing (effect.Unlinked (loses (view s .tree) d i) (unnaming (view s) y))
+
+  -- every call
+  pub data Granting : ℕ → Output → Effect → Type 0 where
+    nothing : (n : ℕ) (o : Output) → Granting n o effect.Nothing
+    opens : (n : NewOpen) → Opens (tablesOf s) (c .process) n → Granting (n .fd .0) output.Nothing (effect.Opened n)
+    truncates : (n : NewOpen) → Opens (tablesOf s) (c .process) n → Granting (n .fd .0) output.Nothing (effect.Truncated n (truncated (view s .tree) (n .slot)))
+    creates : (d : Slot) (i y kind bits : ℕ) → Creates s h (lastName (names (c .path))) d i (slot y) kind (subjectOf (view s) (c .process) .user) bits (tablesOf s .file (d .0) LABEL) →
+        Granting y output.Nothing (effect.Created (gains (view s .tree) d i) (slot y) (newRecord (view s .tree) (subjectOf (view s) (c .process)) kind bits d (slot y)))
+    unlinks : {n : ℕ} {o : Output} {e : Effect} → Unlinking n o e → Granting n o e
+    removes : (d : Slot) (i : ℕ) (y : Slot) → Names s h d i y → tablesOf s .file (y .0) KIND ≡ DIRECTORY → tablesOf s .file (y .0) LENGTH ≡ 0 →
+        Granting 0 output.Nothing (effect.Removed (loses (view s .tree) d i) y (checks.freed (view s .tree) y))
+    links : (d : Slot) (i : ℕ) (y : Slot) → Naming (tablesOf s) (lastName (names (c .bytes))) d i y → y .0 < SLOTS → tablesOf s .file (y .0) KIND ≡ PLAIN →
+        Granting 0 output.Nothing (effect.Linked (gains (view s .tree) d i) y (up (view s .tree .file (y .0) LINKS)))
+    changesBits : (y : Slot) (b : Bits) → y .0 < SLOTS → (tablesOf s .file (y .0) KIND ≡ FREE → ⊥) → b .0 ≤ BITS-MAX → owns (subjectOf (view s) (c .process)) (view s .tree .file (y .0) OWNER) ≡ true → Granting 0 output.Nothing (effect.BitsChanged y b)
+    closes : (i : Fd) → Caller (tablesOf s) (c .process) → i .0 < DESCRIPTORS → Granting 0 output.Nothing (effect.Closed i (releasing (view s) (c .process) i))
+    stores : (e at : ℕ) → Held (tablesOf s) e → at + length (c .bytes) ≤ BLOCK →
+        Granting (length (c .bytes)) output.Nothing (effect.Stored (placement (view s) e (slot (view s .opened e SLOT)) at (length (c .bytes))))
+    reads : (e n : ℕ) → Held (tablesOf s) e → tablesOf s .opened e OFFSET + n ≤ BLOCK → Granting n (output.Bytes (slot (view s .opened e SLOT)) (view s .opened e OFFSET) n) (effect.Moved e (plus (view s .opened e OFFSET) n))
+    seeks : (e n : ℕ) → Held (tablesOf s) e → n ≤ BLOCK → Granting n output.Nothing (effect.Moved e n)
+    duplicates : (i j : Fd) (e : ℕ) → Holds (tablesOf s) (c .process) i e → j .0 < DESCRIPTORS → tablesOf s .desc (c .process .0) (j .0) ≡ 0 →
+        Granting (j .0) output.Nothing (effect.Duplicated j e (up (view s .opened e REFERENCES)))
+    forks : (q : Pid) → Caller (tablesOf s) (c .process) → q .0 < PROCESSES → tablesOf s .proc (q .0) USED ≡ 0 →
+        Granting (q .0) output.Nothing (effect.Forked q (subjectOf (view s) (c .process) .user) (subjectOf (view s) (c .process) .label))
+    exits : Caller (tablesOf s) (c .process) → Granting 0 output.Nothing effect.Exited
+    executes : (l : ℕ) → Caller (tablesOf s) (c .process) → l ≤ LABEL-MAX → Granting 0 output.Nothing (effect.Relabelled l)
+
+-- ---- tests and what they say of the tables
+
+module _ (s : Store) (h : SoundStore s) where
+  -- a record past the last slot is 0
+  pub used-small : (i : ℕ) → (tablesOf s .file i KIND ≡ FREE → ⊥) → i < SLOTS
+  unfolding tablesOf
+  used-small i n = by (decLt i SLOTS)
+    where
+      by : Dec (i < SLOTS) → i < SLOTS
+      by (yes l) = l
+      by (no l) = absurd (n (List·getD-eq-default (s .files) 0 (omega (arith, h .sized .files-size))))
+
+  pub plain-small : (i : ℕ) → tablesOf s .file i KIND ≡ PLAIN → i < SLOTS
+  plain-small i e = used-small i (λ z. omega (arith, e, z))
+
+  pub in-use : (p : Pid) → inUse (view s) p ≡ true → Caller (tablesOf s) p
+  unfolding procInUse tablesOf
+  in-use p e = let w = means-every (means-and (means-lt (p .0) PROCESSES) (means-last (means-eq (view s .proc (p .0) USED) 1))) .holds e in record { small = w .0; used = w .1 }
+
+  pub holds : (p : Pid) (i : Fd) → Caller (tablesOf s) p → held (view s) p i ≡ true → Holds (tablesOf s) p i (ofdHeld (view s) p i)
+  unfolding descHeld tablesOf
+  holds p i u e = record { caller = u; fd-small = small (decLt (i .0) DESCRIPTORS); there = omega (arith, some-file) }
+    where
+      not-not : (b : Bool) → not b ≡ true → b ≡ false
+      not-not true q = absurd (false≢true q)
+      not-not false q = refl
+
+      some-file : view s .desc (p .0) (i .0) ≡ 0 → ⊥
+      some-file = eqb-false (view s .desc (p .0) (i .0)) 0 (not-not (eqb (view s .desc (p .0) (i .0)) 0) e)
+
+      small : Dec (i .0 < DESCRIPTORS) → i .0 < DESCRIPTORS
+      small (yes l) = l
+      small (no l) = absurd (some-file (desc-past (s .processes) (p .0) (i .0) (omega arith)))
+
+  -- ---- the lowest free ones
+
+  pub slot-free : ltb (freeSlot (view s .tree)) SLOTS ≡ true → tablesOf s .file (freeSlot (view s .tree)) KIND ≡ FREE
+  unfolding tablesOf
+  slot-free t = eqb-true (view s .tree .file (freeSlot (view s .tree)) KIND) FREE (unfold slotFree in first-passes (slotFree (view s .tree .file)) SLOTS (ltb-true (freeSlot (view s .tree)) SLOTS t))
+
+  pub ofd-free : ltb (freeOfd (view s)) OPENS ≡ true → tablesOf s .opened (freeOfd (view s)) REFERENCES ≡ 0
+  unfolding tablesOf
+  ofd-free t = eqb-true (view s .opened (freeOfd (view s)) REFERENCES) 0 (unfold ofdFree in first-passes (ofdFree (view s .opened)) OPENS (ltb-true (freeOfd (view s)) OPENS t))
+
+  pub fd-free : (p : Pid) → ltb (freeFd (view s) p) DESCRIPTORS ≡ true → tablesOf s .desc (p .0) (freeFd (view s) p) ≡ 0
+  unfolding tablesOf
+  fd-free p t = eqb-true (view s .desc (p .0) (freeFd (view s) p)) 0 (unfold fdFree in first-passes (fdFree (view s .desc) p) DESCRIPTORS (ltb-true (freeFd (view s) p) DESCRIPTORS t))
+
+  pub pid-free : ltb (freePid (view s)) PROCESSES ≡ true → tablesOf s .proc (freePid (view s)) USED ≡ 0
+  unfolding tablesOf
+  pid-free t = eqb-true (view s .proc (freePid (view s)) USED) 0 (unfold pidFree in first-passes (pidFree (view s .proc)) PROCESSES (ltb-true (freePid (view s)) PROCESSES t))
+
+  pub dirent-free : (d : ℕ) → ltb (freeDirent (view s .tree .shown d)) DIRENTS ≡ true → isEmpty (view s .tree .shown d) (freeDirent (view s .tree .shown d)) ≡ true
+  dirent-free d t = first-passes (isEmpty (view s .tree .shown d)) DIRENTS (ltb-true (freeDirent (view s .tree .shown d)) DIRENTS t)
+
+-- ---- a label moves to a label
+
+pub moved-small : (Q : List ℕ) (l m : ℕ) → policySound Q ≡ true → l ≤ LABEL-MAX → m ≤ LABEL-MAX → moved Q l m ≤ LABEL-MAX
+unfolding moved policySound transition transitionSound
+moved-small Q l m e hl hm = by (eqb (transition Q l m) NONE) refl
+  where
+    t : ℕ
+    t = getD Q (RIGHTS + (LABELS * l + m)) 0
+
+    parts : all (transitionSound Q) RIGHTS (RIGHTS + RIGHTS) ≡ true
+    parts = means-every (means-and (means-test (eqb (length Q) (RIGHTS + RIGHTS))) (means-and (means-test (all (rightSound Q) 0 RIGHTS)) (means-last (means-test (all (transitionSound Q) RIGHTS (RIGHTS + RIGHTS)))))) .holds e .1 .1
+
+    either : (t ≤ LABEL-MAX → ⊥) → t ≡ NONE
+    either = unfold transitionSound in (means-or (means-le (getD Q (RIGHTS + (LABELS * l + m)) 0) LABEL-MAX) (means-eq (getD Q (RIGHTS + (LABELS * l + m)) 0) NONE)
+        .holds (all-at (transitionSound Q) RIGHTS (RIGHTS + RIGHTS) parts (RIGHTS + (LABELS * l + m)) (omega arith) (omega arith)))
+
+    by : (b : Bool) → eqb (getD Q (RIGHTS + (LABELS * l + m)) 0) NONE ≡ b → cond b l (getD Q (RIGHTS + (LABELS * l + m)) 0) ≤ LABEL-MAX
+    by true q = hl
+    by false q = label (decLt LABEL-MAX (getD Q (RIGHTS + (LABELS * l + m)) 0))
+      where
+        label : Dec (LABEL-MAX < getD Q (RIGHTS + (LABELS * l + m)) 0) → getD Q (RIGHTS + (LABELS * l + m)) 0 ≤ LABEL-MAX
+        label (yes g) = absurd (eqb-false (getD Q (RIGHTS + (LABELS * l + m)) 0) NONE q (either (λ y. omega arith)))
+        label (no g) = omega arith

@@ -1,0 +1,49 @@
+-- A call on a sound store leaves a sound store, and what follows from it. From the bottom up:
+-- tests, sums and scans
+pub mod Tests
+pub mod Sums
+pub mod Scans
+-- the store as tables, what sound means of them, and how its counts change
+pub mod Tables
+pub mod Sound
+pub mod Counts
+pub mod Words
+pub mod Columns
+-- each change of the tables, and that it keeps them sound
+pub mod OneWord
+pub mod Dirents
+pub mod Link
+pub mod Unlink
+pub mod Remake
+pub mod Create
+pub mod Plain
+pub mod Open
+pub mod Processes
+-- the flat lists as tables
+pub mod FlatList
+pub mod StoreChanges
+-- the soundness test means the record
+pub mod Tree
+pub mod Shown
+pub mod Counted
+pub mod Meaning
+pub mod SoundStore
+-- each effect leaves sound tables
+pub mod OpenEffects
+pub mod NameEffects
+pub mod CloseEffects
+pub mod ForkEffects
+-- from a decision to what its effect owes
+pub mod PathNames
+pub mod NewName
+pub mod Reach
+pub mod Walked
+pub mod Granted
+pub mod Decided
+-- the theorems
+pub mod Preserved
+pub mod RefusedLeaves
+pub mod BitsByOwner
+pub mod OpenStays
+pub mod NoWrap
+pub mod Proved

@@ -1,0 +1,144 @@
+-- The soundness test means the record `Sound` of the store's tables.
+use mathlib.Core.Path.{_≡_}
+use mathlib.Core.Bool.{true}
+use mathlib.Core.List.{List}
+use Prim.Native.Nat.{ℕ, _-_, _*_, _≤_, _<_}
+use native.Mathlib.Omega.{arith}
+use native.Mathlib.Decide.{decLt, ℕ-discrete}
+use lib.ListN.{length, getD}
+use Rattle.rules.specs.Layout.{SLOTS, BLOCK, DIRENT, DIRENTS, NAME, OPENS, PROCESSES, DESCRIPTORS, FILE, OPEN, PROCESS}
+use Rattle.rules.specs.Layout.{KIND, OWNER, BITS, LABEL, LENGTH, LINKS, VERSION, SLOT, MODE, OFFSET, REFERENCES, USED, USER, DOMAIN, FREE, PLAIN}
+use Rattle.rules.specs.Layout.{KIND-MAX, USER-MAX, BITS-MAX, LABEL-MAX, MODE-MAX, WORD-MAX}
+use Rattle.rules.specs.Store.{Store, Tree, View}
+use Rattle.rules.specs.Directories.{direntAt}
+use Rattle.rules.specs.Sound.{sizesSound, recordFree, recordSound, direntSound, differs, isNew, direntsSound}
+use Rattle.rules.specs.Sound.{openFree, openUsed, openSound, descSound, descFree, procFree, procUsed, procSound}
+use Rattle.preservation.proofs.Tests.{Means, means-every, means-and, means-last, means-imp, means-cond, means-or3, means-eq, means-lt, means-le, means-not, means-test, means-all, means-same}
+use Rattle.preservation.proofs.Tables.{col}
+use Rattle.preservation.proofs.Sound.{All, File, Dirent, Directory, OpenFile, Process, sameRow, nameCount, holderCount}
+use Rattle.preservation.proofs.Dirents.{sameRow-sym}
+use Rattle.preservation.proofs.StoreChanges.{Sized}
+use Rattle.preservation.proofs.Shown.{means-zeros, means-dirent, means-empty, same-row}
+use Rattle.preservation.proofs.Counted.{names-counted, holders-counted}
+
+-- ---- sizes
+
+pub means-sized : (s : Store) → Means (sizesSound s) (Sized s)
+unfolding sizesSound
+means-sized s = means-same
+    (means-every (means-and (means-eq (length (s .files)) (SLOTS * FILE)) (means-and (means-eq (length (s .contents)) (SLOTS * BLOCK))
+    (means-and (means-eq (length (s .opens)) (OPENS * OPEN)) (means-last (means-eq (length (s .processes)) (PROCESSES * PROCESS)))))))
+    (λ w. record { files-size = w .0; contents-size = w .1 .0; opens-size = w .1 .1 .0; processes-size = w .1 .1 .1 })
+    (λ w. (w .files-size, (w .contents-size, (w .opens-size, w .processes-size))))
+
+-- ---- a file's record
+
+pub means-record : (t : Tree) (s : ℕ) → Means (recordSound t s) (File (t .file s KIND) (t .file s OWNER) (t .file s BITS) (t .file s LABEL) (t .file s LENGTH) (t .file s LINKS) (t .file s VERSION))
+unfolding recordSound recordFree
+means-record t s = means-same
+    (means-every (means-and (means-le (t .file s KIND) KIND-MAX) (means-and (means-le (t .file s OWNER) USER-MAX) (means-and (means-le (t .file s BITS) BITS-MAX) (means-and (means-le (t .file s LABEL) LABEL-MAX)
+    (means-and (means-le (t .file s VERSION) WORD-MAX) (means-last (means-imp (means-eq (t .file s KIND) FREE)
+    (means-every (means-and (means-eq (t .file s OWNER) 0) (means-and (means-eq (t .file s BITS) 0) (means-and (means-eq (t .file s LABEL) 0) (means-and (means-eq (t .file s LENGTH) 0) (means-last (means-eq (t .file s LINKS) 0)))))))))))))))
+    (λ w. record {
+      kind-most = w .0;
+      owner-most = w .1 .0;
+      bits-most = w .1 .1 .0;
+      label-most = w .1 .1 .1 .0;
+      version-most = w .1 .1 .1 .1 .0;
+      owner-zero = λ z. w .1 .1 .1 .1 .1 z .0;
+      bits-zero = λ z. w .1 .1 .1 .1 .1 z .1 .0;
+      label-zero = λ z. w .1 .1 .1 .1 .1 z .1 .1 .0;
+      length-zero = λ z. w .1 .1 .1 .1 .1 z .1 .1 .1 .0;
+      links-zero = λ z. w .1 .1 .1 .1 .1 z .1 .1 .1 .1;
+    })
+    (λ w. (w .kind-most, (w .owner-most, (w .bits-most, (w .label-most, (w .version-most, λ z. (w .owner-zero z, (w .bits-zero z, (w .label-zero z, (w .length-zero z, w .links-zero z))))))))))
+
+-- ---- a directory's entries: D its bytes, rows its entries
+
+module _ (t : Tree) (D : List ℕ) (rows : ℕ → ℕ → ℕ) (agree : (i k : ℕ) → k < DIRENT → getD (direntAt D i) k 0 ≡ rows i k) where
+  means-differs : (i j : ℕ) → Means (differs D i j) ((rows i NAME ≡ 0 → ⊥) → (rows j NAME ≡ 0 → ⊥) → sameRow (rows i) (rows j) ≡ true → ⊥)
+  unfolding differs
+  means-differs i j = means-or3 (means-empty D rows agree i) (means-empty D rows agree j) (rw (same-row D rows agree i j) (means-not (means-test (sameRow (rows i) (rows j)))))
+
+  means-new : (i : ℕ) → Means (isNew D i) (All i (λ j. (rows i NAME ≡ 0 → ⊥) → (rows j NAME ≡ 0 → ⊥) → sameRow (rows i) (rows j) ≡ true → ⊥))
+  unfolding isNew
+  means-new i = means-all i (differs D i) (λ j. (rows i NAME ≡ 0 → ⊥) → (rows j NAME ≡ 0 → ⊥) → sameRow (rows i) (rows j) ≡ true → ⊥) (means-differs i)
+
+  pub means-dirents : (n : ℕ) → Means (direntsSound t D n) (Directory (col (t .file) KIND) rows × ((n ≡ nameCount rows) × ((b : ℕ) → b < length D → DIRENTS * DIRENT ≤ b → getD D b 0 ≡ 0)))
+  unfolding direntsSound
+  means-dirents n = means-same w
+      (λ u. (record { dirents = u .0; different = λ p hp q hq ne. apart (u .1 .0) p hp q hq ne (decLt p q) }, u .1 .1))
+      (λ u. (u .0 .dirents, ((λ i hi j hj. u .0 .different i hi j (omega arith) (λ e. omega arith)), u .1)))
+    where
+      w : Means (direntsSound t D n) (All DIRENTS (λ i. Dirent (col (t .file) KIND) (rows i))
+          × (All DIRENTS (λ i. All i (λ j. (rows i NAME ≡ 0 → ⊥) → (rows j NAME ≡ 0 → ⊥) → sameRow (rows i) (rows j) ≡ true → ⊥))
+          × ((n ≡ nameCount rows) × ((b : ℕ) → b < length D → DIRENTS * DIRENT ≤ b → getD D b 0 ≡ 0))))
+      w = rw (names-counted D rows agree) (means-every (means-and (means-all DIRENTS (direntSound t D) _ (means-dirent D rows agree t)) (means-and (means-all DIRENTS (isNew D) _ means-new)
+          (means-and (means-eq n (nameCount rows)) (means-last (means-zeros D (DIRENTS * DIRENT)))))))
+
+      apart : All DIRENTS (λ i. All i (λ j. (rows i NAME ≡ 0 → ⊥) → (rows j NAME ≡ 0 → ⊥) → sameRow (rows i) (rows j) ≡ true → ⊥)) →
+          (p : ℕ) → p < DIRENTS → (q : ℕ) → q < DIRENTS → (p ≡ q → ⊥) → Dec (p < q) → (rows p NAME ≡ 0 → ⊥) → (rows q NAME ≡ 0 → ⊥) → sameRow (rows p) (rows q) ≡ true → ⊥
+      apart u p hp q hq ne (yes l) a b e = u q hq p l b a (sameRow-sym (rows p) (rows q) e)
+      apart u p hp q hq ne (no l) a b e = u p hp q (omega arith) a b e
+
+-- ---- open files and processes
+
+pub means-opened : (v : View) (e : ℕ) → Means (openSound v e)
+    ((v .opened e REFERENCES ≡ holderCount (v .desc) e) × OpenFile (col (v .tree .file) KIND) (v .opened e SLOT) (v .opened e MODE) (v .opened e OFFSET) (v .opened e REFERENCES))
+unfolding openSound openFree openUsed
+means-opened v e = means-same w
+    (λ u. (
+      u .0,
+      record {
+        slot-zero = λ z. u .1 .0 z .0;
+        mode-zero = λ z. u .1 .0 z .1 .0;
+        offset-zero = λ z. u .1 .0 z .1 .1;
+        slot-small = λ n. u .1 .1 n .0;
+        plain = λ n. u .1 .1 n .1 .0;
+        mode-least = λ n. u .1 .1 n .1 .1 .0;
+        mode-most = λ n. u .1 .1 n .1 .1 .1 .0;
+        offset-most = λ n. u .1 .1 n .1 .1 .1 .1;
+      },
+    ))
+    (λ u. let o = u .1 in (u .0, ((λ z. (o .slot-zero z, (o .mode-zero z, o .offset-zero z))), λ n. (o .slot-small n, (o .plain n, (o .mode-least n, (o .mode-most n, o .offset-most n)))))))
+  where
+    w : Means (openSound v e) ((v .opened e REFERENCES ≡ holderCount (v .desc) e)
+        × ((v .opened e REFERENCES ≡ 0 → (v .opened e SLOT ≡ 0) × ((v .opened e MODE ≡ 0) × (v .opened e OFFSET ≡ 0)))
+        × ((v .opened e REFERENCES ≡ 0 → ⊥) → (v .opened e SLOT < SLOTS) × ((v .tree .file (v .opened e SLOT) KIND ≡ PLAIN) × ((1 ≤ v .opened e MODE) × ((v .opened e MODE ≤ MODE-MAX) × (v .opened e OFFSET ≤ BLOCK)))))))
+    w = rw (holders-counted (v .desc) e) (means-every (means-and (means-eq (v .opened e REFERENCES) (holderCount (v .desc) e)) (means-last (means-cond (means-eq (v .opened e REFERENCES) 0)
+        (means-every (means-and (means-eq (v .opened e SLOT) 0) (means-and (means-eq (v .opened e MODE) 0) (means-last (means-eq (v .opened e OFFSET) 0)))))
+        (means-every (means-and (means-lt (v .opened e SLOT) SLOTS) (means-and (means-eq (v .tree .file (v .opened e SLOT) KIND) PLAIN) (means-and (means-le 1 (v .opened e MODE)) (means-and (means-le (v .opened e MODE) MODE-MAX) (means-last (means-le (v .opened e OFFSET) BLOCK)))))))))))
+
+pub means-process : (v : View) (p : ℕ) → Means (procSound v p) (Process (v .proc p USED) (v .proc p USER) (v .proc p DOMAIN) (v .desc p))
+unfolding procSound procFree procUsed descFree descSound
+means-process v p = means-same w (λ u. from u (ℕ-discrete (v .proc p USED) 0))
+    (λ u. ((λ z. (u .user-zero z, (u .label-zero z, u .desc-zero z))), λ n. ((omega (arith, u .active-most, n)), (u .user-most, (u .label-most, u .desc-most)))))
+  where
+    Parts : Type 0
+    Parts = (v .proc p USED ≡ 0 → (v .proc p USER ≡ 0) × ((v .proc p DOMAIN ≡ 0) × All DESCRIPTORS (λ k. v .desc p k ≡ 0)))
+        × ((v .proc p USED ≡ 0 → ⊥) → (v .proc p USED ≡ 1) × ((v .proc p USER ≤ USER-MAX) × ((v .proc p DOMAIN ≤ LABEL-MAX) × All DESCRIPTORS (λ k. v .desc p k ≤ OPENS))))
+
+    w : Means (procSound v p) Parts
+    w = means-cond (means-eq (v .proc p USED) 0)
+        (means-every (means-and (means-eq (v .proc p USER) 0) (means-and (means-eq (v .proc p DOMAIN) 0) (means-last (means-all DESCRIPTORS (descFree (v .desc) p) (λ k. v .desc p k ≡ 0) (λ k. means-eq (v .desc p k) 0))))))
+        (means-every (means-and (means-eq (v .proc p USED) 1) (means-and (means-le (v .proc p USER) USER-MAX) (means-and (means-le (v .proc p DOMAIN) LABEL-MAX) (means-last (means-all DESCRIPTORS (descSound (v .desc) p) (λ k. v .desc p k ≤ OPENS) (λ k. means-le (v .desc p k) OPENS)))))))
+
+    from : Parts → Dec (v .proc p USED ≡ 0) → Process (v .proc p USED) (v .proc p USER) (v .proc p DOMAIN) (v .desc p)
+    from u (yes z) = let a = u .0 z in record {
+      active-most = omega arith;
+      user-most = omega (arith, a .0);
+      label-most = omega (arith, a .1 .0);
+      desc-most = λ k hk. omega (arith, a .1 .1 k hk);
+      user-zero = λ _. a .0;
+      label-zero = λ _. a .1 .0;
+      desc-zero = λ _. a .1 .1;
+    }
+    from u (no n) = let a = u .1 n in record {
+      active-most = omega (arith, a .0);
+      user-most = a .1 .0;
+      label-most = a .1 .1 .0;
+      desc-most = a .1 .1 .1;
+      user-zero = λ z. absurd (n z);
+      label-zero = λ z. absurd (n z);
+      desc-zero = λ z. absurd (n z);
+    }

@@ -1,0 +1,228 @@
+-- Effects on names: link, create, unlink, remove directory. Each leaves sound tables.
+use mathlib.Core.Path.{_≡_, refl, sym, subst, _∙_}
+use mathlib.Core.Bool.{Bool, true, false, cond, not, false≢true}
+use mathlib.Core.List.{[], _∷_}
+use Prim.Native.Nat.{ℕ, _+_, _-_, _≤_, _<_}
+use native.Mathlib.Omega.{arith}
+use native.Mathlib.Decide.{decLt, ℕ-discrete}
+use lib.Dec.{eqb}
+use lib.ListN.{length, getD}
+use borrow.Author.Tests.{eq-eqb, ne-eqb}
+use Rattle.rules.specs.Layout.{SLOTS, DIRENTS, DIRENT, OPENS, NAME, NAMES, KIND-MAX, USER-MAX, BITS-MAX, LABEL-MAX}
+use Rattle.rules.specs.Layout.{KIND, LABEL, LENGTH, LINKS, VERSION, SLOT, REFERENCES, FREE, PLAIN, DIRECTORY}
+use Rattle.rules.specs.Choice.{every}
+use Rattle.rules.specs.Store.{Store, view, up, zeros, applyAll}
+use Rattle.rules.specs.Paths as paths
+use Rattle.rules.specs.Directories.{dirent}
+use Rattle.rules.specs.Sound.{isOpen}
+use Rattle.rules.specs.Checks.{gains, loses, unnaming}
+use Rattle.rules.specs.Checks as checks
+use Rattle.rules.specs.DecidePaths.{newRecord}
+use Rattle.rules.specs.Effects.{words, nameChanges, unnameChanges, createChanges, linkChanges, unnamedChanges, unlinkChanges, removeChanges}
+use Rattle.rules.specs.declared.ids.Slot.{Slot}
+use Rattle.rules.specs.declared.request.Subject.{Subject}
+use Rattle.rules.specs.declared.decision.Unnamed.{Unnamed}
+use Rattle.rules.specs.declared.decision.Unnamed.the-variants as unnamed
+use Rattle.preservation.proofs.Tests.{split, upd, upd2, Means, means-every, means-and, means-last, means-eq, means-not}
+use Rattle.preservation.proofs.Tables.{Tables, col, direntRow, fill, fileTo, bytesTo, fileRowTo}
+use Rattle.preservation.proofs.Sound.{Sound, openCount}
+use Rattle.preservation.proofs.Words.{up-is, up-most, length-most, link-most}
+use Rattle.preservation.proofs.Columns.{Columns, same-columns}
+use Rattle.preservation.proofs.Dirents.{placed}
+use Rattle.preservation.proofs.Link.{linked}
+use Rattle.preservation.proofs.Unlink.{unlinked, noRow}
+use Rattle.preservation.proofs.Remake.{remade, openCount-at}
+use Rattle.preservation.proofs.Create.{Name, fileRow, link-sound, created, create-sound, freed, unlink-sound, unlink-frees, remove-sound, target-small}
+use Rattle.preservation.proofs.FlatList.{upd-same-value, length-zeros, getD-zeros}
+use Rattle.preservation.proofs.StoreChanges.{tablesOf, Has, has-fileWord, has-fileTo, has-clearTo, has-dirent}
+use Rattle.preservation.proofs.Counted.{means-open}
+use Rattle.preservation.proofs.SoundStore.{SoundStore}
+use Rattle.preservation.proofs.OpenEffects.{Leaves, its-tables}
+
+-- entry i of directory d becomes r; the directory's length z and version t
+abbrev pub direntTo : (d i : ℕ) → (ℕ → ℕ) → (z t : ℕ) → Tables → Tables
+direntTo d i r z t m = fileTo d VERSION t (fileTo d LENGTH z (bytesTo d (fill (m .byte d) i r) m))
+
+-- the bytes of a written entry
+abbrev pub rowOf : paths.Name → Slot → ℕ → ℕ
+rowOf name s k = getD (dirent name s) k 0
+
+-- a name that may be added: entry i of directory d is empty, and will name slot y
+pub record Naming (m : Tables) (name : paths.Name) (d : Slot) (i : ℕ) (y : Slot) : Type 0 where
+  pub bytes : length (dirent name y) ≡ DIRENT
+  pub fits : Name m (d .0) i (rowOf name y) (y .0)
+
+module _ (s : Store) (h : SoundStore s) where
+  longer : (d : ℕ) → d < SLOTS → up (tablesOf s .file d LENGTH) ≡ tablesOf s .file d LENGTH + 1
+  longer d hd = up-is (tablesOf s .file d LENGTH) (omega (arith, length-most SLOTS (tablesOf s) (h .tables) d hd))
+
+  -- ---- link
+
+  pub link-leaves : (name : paths.Name) (d : Slot) (i : ℕ) (y : Slot) → Naming (tablesOf s) name d i y → y .0 < SLOTS → tablesOf s .file (y .0) KIND ≡ PLAIN →
+      Leaves (applyAll (linkChanges name (gains (view s .tree) d i) y (up (view s .tree .file (y .0) LINKS))) s)
+      (direntTo (d .0) i (rowOf name y) (tablesOf s .file (d .0) LENGTH + 1) (up (tablesOf s .file (d .0) VERSION)) (fileTo (y .0) LINKS (tablesOf s .file (y .0) LINKS + 1) (tablesOf s)))
+  unfolding linkChanges nameChanges applyAll tablesOf linked placed
+  link-leaves name d i y n hy k = record {
+    has = rw (longer (d .0) hd, up-is (tablesOf s .file (y .0) LINKS) (omega (arith, link-most SLOTS (tablesOf s) (h .tables) (y .0) hy)))
+        (has-fileWord (has-fileWord (has-dirent (has-fileWord (its-tables s h) (y .0) LINKS (tablesOf s .file (y .0) LINKS + 1) hy (omega arith)) (d .0) i (dirent name y) (rowOf name y) hd (n .fits .dirent-small) (n .bytes) (λ k. refl))
+        (d .0) LENGTH (tablesOf s .file (d .0) LENGTH + 1) hd (omega arith)) (d .0) VERSION (up (tablesOf s .file (d .0) VERSION)) hd (omega arith));
+    sound = same-columns SLOTS (linked (d .0) i (rowOf name y) (up (tablesOf s .file (d .0) VERSION)) (y .0) (tablesOf s))
+        (direntTo (d .0) i (rowOf name y) (tablesOf s .file (d .0) LENGTH + 1) (up (tablesOf s .file (d .0) VERSION)) (fileTo (y .0) LINKS (tablesOf s .file (y .0) LINKS + 1) (tablesOf s)) .file)
+        (record { kind = λ i. refl; owner = λ i. refl; bits = λ i. refl; label = λ i. refl; length = λ i. refl; links = λ i. refl; version = λ i. refl })
+        (link-sound (tablesOf s) (h .tables) (d .0) i (rowOf name y) (up (tablesOf s .file (d .0) VERSION)) (y .0) (n .fits) (up-most (tablesOf s .file (d .0) VERSION)) hy k);
+  }
+    where
+      hd : d .0 < SLOTS
+      hd = n .fits .dir-small
+
+  -- ---- create and make directory
+
+  pub record Creates (name : paths.Name) (d : Slot) (i : ℕ) (y : Slot) (kind owner bits label : ℕ) : Type 0 where
+    pub naming : Naming (tablesOf s) name d i y
+    pub small : y .0 < SLOTS
+    pub free : tablesOf s .file (y .0) KIND ≡ FREE
+    pub kind-least : 0 < kind
+    pub kind-most : kind ≤ KIND-MAX
+    pub owner-most : owner ≤ USER-MAX
+    pub bits-most : bits ≤ BITS-MAX
+    pub label-most : label ≤ LABEL-MAX
+    pub not-deep : kind ≡ DIRECTORY → h .tables .depths .depth (d .0) < NAMES
+
+  abbrev pub withFile : (name : paths.Name) (d : Slot) (i : ℕ) (y : Slot) (kind owner bits label : ℕ) → Tables
+  withFile name d i y kind owner bits label = direntTo (d .0) i (rowOf name y) (tablesOf s .file (d .0) LENGTH + 1) (up (tablesOf s .file (d .0) VERSION))
+      (fileRowTo (y .0) (fileRow kind owner bits label 0 1 (tablesOf s .file (y .0) VERSION)) (tablesOf s))
+
+  pub create-leaves : (name : paths.Name) (who : Subject) (d : Slot) (i : ℕ) (y : Slot) (kind bits : ℕ) → Creates name d i y kind (who .user) bits (tablesOf s .file (d .0) LABEL) →
+      Leaves (applyAll (createChanges name (gains (view s .tree) d i) y (newRecord (view s .tree) who kind bits d y)) s) (withFile name d i y kind (who .user) bits (tablesOf s .file (d .0) LABEL))
+  unfolding createChanges nameChanges applyAll tablesOf linked placed created remade
+  create-leaves name who d i y kind bits c = record {
+    has = rw (longer (d .0) hd)
+        (has-fileWord (has-fileWord (has-dirent (has-fileTo (its-tables s h) (y .0) (words (newRecord (view s .tree) who kind bits d y)) (c .small) refl) (d .0) i (dirent name y) (rowOf name y) hd (n .dirent-small) (c .naming .bytes) (λ k. refl))
+        (d .0) LENGTH (tablesOf s .file (d .0) LENGTH + 1) hd (omega arith)) (d .0) VERSION (up (tablesOf s .file (d .0) VERSION)) hd (omega arith));
+    sound = subst (λ (b : ℕ → ℕ → ℕ). Sound (record { file = withFile name d i y kind owner bits label .file; byte = upd b (d .0) (fill (b (d .0)) i (rowOf name y)); opened = tablesOf s .opened; proc = tablesOf s .proc; desc = tablesOf s .desc }))
+        (upd-same-value (tablesOf s .byte) (y .0))
+        (same-columns SLOTS (created (d .0) i (rowOf name y) t (y .0) kind owner bits label (tablesOf s)) (withFile name d i y kind owner bits label .file) columns
+        (create-sound (tablesOf s) (h .tables) (d .0) i (rowOf name y) t (y .0) kind owner bits label n (up-most (tablesOf s .file (d .0) VERSION)) (c .small) (c .free)
+        (c .kind-least) (c .kind-most) (c .owner-most) (c .bits-most) (c .label-most) (c .not-deep)));
+  }
+    where
+      n : Name (tablesOf s) (d .0) i (rowOf name y) (y .0)
+      n = c .naming .fits
+
+      hd : d .0 < SLOTS
+      hd = n .dir-small
+
+      t : ℕ
+      t = up (tablesOf s .file (d .0) VERSION)
+
+      owner : ℕ
+      owner = who .user
+
+      label : ℕ
+      label = tablesOf s .file (d .0) LABEL
+
+      other : eqb (d .0) (y .0) ≡ false
+      other = ne-eqb (d .0) (y .0) (λ z. omega (arith, n .dir-kind, rw (← z) at (c .free)))
+
+      columns : Columns (created (d .0) i (rowOf name y) (up (tablesOf s .file (d .0) VERSION)) (y .0) kind (who .user) bits (tablesOf s .file (d .0) LABEL) (tablesOf s) .file)
+          (withFile name d i y kind (who .user) bits (tablesOf s .file (d .0) LABEL) .file)
+      columns = record {
+        kind = λ j. split j (y .0) (λ q e. rw e) (λ q e. rw e);
+        owner = λ j. split j (y .0) (λ q e. rw e) (λ q e. rw e);
+        bits = λ j. split j (y .0) (λ q e. rw e) (λ q e. rw e);
+        label = λ j. split j (y .0) (λ q e. rw e) (λ q e. rw e);
+        length = λ j. rw other (split j (y .0) (λ q e. rw e) (λ q e. rw e));
+        links = λ j. rw (eq-eqb (y .0) (y .0) refl) (split j (y .0) (λ q e. rw e) (λ q e. rw e));
+        version = λ j. split j (y .0) (λ q e. rw e) (λ q e. rw e);
+      }
+
+  -- ---- unlink and remove directory: entry i of directory d names slot y
+
+  pub record Names (d : Slot) (i : ℕ) (y : Slot) : Type 0 where
+    pub dir-small : d .0 < SLOTS
+    pub dir-kind : tablesOf s .file (d .0) KIND ≡ DIRECTORY
+    pub dirent-small : i < DIRENTS
+    pub there : direntRow (tablesOf s .byte) (d .0) i NAME ≡ y .0
+    pub not-root : y .0 ≡ 0 → ⊥
+
+  pub named-small : (d : Slot) (i : ℕ) (y : Slot) → Names d i y → y .0 < SLOTS
+  named-small d i y n = target-small (tablesOf s) (h .tables) (d .0) i 0 (y .0) (n .dir-small) (n .dir-kind) (n .dirent-small) (n .there) (n .not-root) (omega arith)
+
+  -- the directory without the name
+  abbrev pub withoutName : Slot → ℕ → Tables
+  withoutName d i = direntTo (d .0) i noRow (tablesOf s .file (d .0) LENGTH - 1) (up (tablesOf s .file (d .0) VERSION)) (tablesOf s)
+
+  has-unnamed : (d : Slot) (i : ℕ) (y : Slot) → Names d i y → Has (applyAll (unnameChanges (loses (view s .tree) d i)) s) (withoutName d i)
+  unfolding unnameChanges applyAll tablesOf
+  has-unnamed d i y n =
+      has-fileWord (has-fileWord (has-dirent (its-tables s h) (d .0) i (zeros DIRENT) noRow (n .dir-small) (n .dirent-small) (length-zeros DIRENT) (λ k. getD-zeros DIRENT k))
+      (d .0) LENGTH (tablesOf s .file (d .0) LENGTH - 1) (n .dir-small) (omega arith)) (d .0) VERSION (up (tablesOf s .file (d .0) VERSION)) (n .dir-small) (omega arith)
+
+  -- what becomes of a plain file that loses a name
+  pub data Unnaming (y : Slot) : Unnamed → Type 0 where
+    keeps : 0 < tablesOf s .file (y .0) LINKS - 1 + openCount (col (tablesOf s .opened) SLOT) (col (tablesOf s .opened) REFERENCES) (y .0) → Unnaming y (unnamed.Kept y (view s .tree .file (y .0) LINKS - 1))
+    frees : tablesOf s .file (y .0) LINKS - 1 ≡ 0 → ((e : ℕ) → e < OPENS → (tablesOf s .opened e REFERENCES ≡ 0 → ⊥) → tablesOf s .opened e SLOT ≡ y .0 → ⊥) →
+        Unnaming y (unnamed.Freed y (checks.freed (view s .tree) y))
+
+  pub unnaming-is : (y : Slot) → Unnaming y (unnaming (view s) y)
+  unfolding unnaming tablesOf
+  unnaming-is y = by (every (eqb (view s .tree .file (y .0) LINKS - 1) 0 ∷ not (isOpen (view s .opened) (y .0)) ∷ [])) refl
+    where
+      test : Means (every (eqb (view s .tree .file (y .0) LINKS - 1) 0 ∷ not (isOpen (view s .opened) (y .0)) ∷ []))
+          ((view s .tree .file (y .0) LINKS - 1 ≡ 0) × (0 < openCount (col (view s .opened) SLOT) (col (view s .opened) REFERENCES) (y .0) → ⊥))
+      test = means-every (means-and (means-eq (view s .tree .file (y .0) LINKS - 1) 0) (means-last (means-not (means-open (view s .opened) (y .0)))))
+
+      alive : (every (eqb (view s .tree .file (y .0) LINKS - 1) 0 ∷ not (isOpen (view s .opened) (y .0)) ∷ []) ≡ false) → Dec (view s .tree .file (y .0) LINKS - 1 ≡ 0) →
+          Dec (0 < openCount (col (view s .opened) SLOT) (col (view s .opened) REFERENCES) (y .0)) → 0 < view s .tree .file (y .0) LINKS - 1 + openCount (col (view s .opened) SLOT) (col (view s .opened) REFERENCES) (y .0)
+      alive e (yes a) (yes b) = omega arith
+      alive e (yes a) (no b) = absurd (false≢true (sym e ∙ test .tests (a, b)))
+      alive e (no a) b = omega arith
+
+      by : (b : Bool) → every (eqb (view s .tree .file (y .0) LINKS - 1) 0 ∷ not (isOpen (view s .opened) (y .0)) ∷ []) ≡ b →
+          Unnaming y (cond b (unnamed.Freed y (checks.freed (view s .tree) y)) (unnamed.Kept y (view s .tree .file (y .0) LINKS - 1)))
+      by true e = let w = test .holds e in frees (w .0) (λ i hi r q. w .1 (openCount-at (col (view s .opened) SLOT) (col (view s .opened) REFERENCES) i (y .0) hi q r))
+      by false e = keeps (alive e (ℕ-discrete (view s .tree .file (y .0) LINKS - 1) 0) (decLt 0 (openCount (col (view s .opened) SLOT) (col (view s .opened) REFERENCES) (y .0))))
+
+  -- the tables after an unlink
+  unfoldable pub unlinkedTables : Slot → ℕ → Unnamed → Tables
+  unlinkedTables d i (unnamed.Kept y links) = fileTo (y .0) LINKS links (withoutName d i)
+  unlinkedTables d i (unnamed.Freed y r) = remade (y .0) (λ c. getD (words r) c 0) (λ _. 0) (withoutName d i)
+
+  freeColumns : (d : Slot) (i : ℕ) (y : Slot) (c : ℕ) (row : ℕ → ℕ) → Columns (upd (upd2 (withoutName d i .file) (y .0) LINKS c) (y .0) row) (upd (withoutName d i .file) (y .0) row)
+  freeColumns d i y c row = record {
+    kind = λ j. split j (y .0) (λ q e. rw e) (λ q e. rw e);
+    owner = λ j. split j (y .0) (λ q e. rw e) (λ q e. rw e);
+    bits = λ j. split j (y .0) (λ q e. rw e) (λ q e. rw e);
+    label = λ j. split j (y .0) (λ q e. rw e) (λ q e. rw e);
+    length = λ j. split j (y .0) (λ q e. rw e) (λ q e. rw e);
+    links = λ j. split j (y .0) (λ q e. rw e) (λ q e. rw (e, e));
+    version = λ j. split j (y .0) (λ q e. rw e) (λ q e. rw e);
+  }
+
+  pub unlink-leaves : (d : Slot) (i : ℕ) (y : Slot) → Names d i y → tablesOf s .file (y .0) KIND ≡ PLAIN → {u : Unnamed} → Unnaming y u →
+      Leaves (applyAll (unlinkChanges (loses (view s .tree) d i) u) s) (unlinkedTables d i u)
+  unfolding unlinkChanges unnamedChanges unnameChanges applyAll tablesOf unlinkedTables unlinked placed
+  unlink-leaves d i y n k (keeps a) = record {
+    has = has-fileWord (has-unnamed d i y n) (y .0) LINKS (tablesOf s .file (y .0) LINKS - 1) (named-small d i y n) (omega arith);
+    sound = unlink-sound (tablesOf s) (h .tables) (d .0) i (up (tablesOf s .file (d .0) VERSION)) (y .0) (n .dir-small) (n .dir-kind) (n .dirent-small) (n .there) (n .not-root) (up-most (tablesOf s .file (d .0) VERSION)) k a;
+  }
+  unlink-leaves d i y n k (frees l o) = record {
+    has = has-clearTo (has-unnamed d i y n) (y .0) (words (checks.freed (view s .tree) y)) (named-small d i y n) refl;
+    sound = unfold freed remade in same-columns SLOTS (freed (y .0) (up (tablesOf s .file (y .0) VERSION)) (unlinked (d .0) i (up (tablesOf s .file (d .0) VERSION)) (y .0) (tablesOf s)))
+        (upd (withoutName d i .file) (y .0) (fileRow FREE 0 0 0 0 0 (up (tablesOf s .file (y .0) VERSION))))
+        (freeColumns d i y (tablesOf s .file (y .0) LINKS - 1) (fileRow FREE 0 0 0 0 0 (up (tablesOf s .file (y .0) VERSION))))
+        (unlink-frees (tablesOf s) (h .tables) (d .0) i (up (tablesOf s .file (d .0) VERSION)) (y .0) (n .dir-small) (n .dir-kind) (n .dirent-small) (n .there) (n .not-root) (up-most (tablesOf s .file (d .0) VERSION)) k l o
+        (up (tablesOf s .file (y .0) VERSION)) (up-most (tablesOf s .file (y .0) VERSION)));
+  }
+
+  pub remove-leaves : (d : Slot) (i : ℕ) (y : Slot) → Names d i y → tablesOf s .file (y .0) KIND ≡ DIRECTORY → tablesOf s .file (y .0) LENGTH ≡ 0 →
+      Leaves (applyAll (removeChanges (loses (view s .tree) d i) y (checks.freed (view s .tree) y)) s) (unlinkedTables d i (unnamed.Freed y (checks.freed (view s .tree) y)))
+  unfolding removeChanges unnameChanges applyAll tablesOf unlinkedTables unlinked placed
+  remove-leaves d i y n k l = record {
+    has = has-clearTo (has-unnamed d i y n) (y .0) (words (checks.freed (view s .tree) y)) (named-small d i y n) refl;
+    sound = unfold freed remade in same-columns SLOTS (freed (y .0) (up (tablesOf s .file (y .0) VERSION)) (unlinked (d .0) i (up (tablesOf s .file (d .0) VERSION)) (y .0) (tablesOf s)))
+        (upd (withoutName d i .file) (y .0) (fileRow FREE 0 0 0 0 0 (up (tablesOf s .file (y .0) VERSION))))
+        (freeColumns d i y (tablesOf s .file (y .0) LINKS - 1) (fileRow FREE 0 0 0 0 0 (up (tablesOf s .file (y .0) VERSION))))
+        (remove-sound (tablesOf s) (h .tables) (d .0) i (up (tablesOf s .file (d .0) VERSION)) (y .0) (up (tablesOf s .file (y .0) VERSION)) (n .dir-small) (n .dir-kind) (n .dirent-small) (n .there) (n .not-root)
+        (up-most (tablesOf s .file (d .0) VERSION)) k l (up-most (tablesOf s .file (y .0) VERSION)));
+  }

@@ -1,0 +1,145 @@
+-- One descriptor and one open file change: open, close.
+use mathlib.Core.Path.{_≡_, refl, sym}
+use mathlib.Core.Bool.{Bool, true, false, _&&_}
+use Prim.Native.Nat.{ℕ, _+_, _-_, _≤_, _<_}
+use native.Mathlib.Omega.{arith}
+use mathlib.Core.List.{[], _∷_}
+use lib.ListN.{getD}
+use lib.Dec.{eqb, ltb}
+use borrow.Author.Tests.{eq-eqb, ne-eqb, lt-ltb}
+use Rattle.preservation.proofs.Tests.{split, upd, updRow, upd-elim}
+use Rattle.preservation.proofs.Sums.{ind}
+use Rattle.preservation.proofs.Tables.{Tables, col}
+use Rattle.preservation.proofs.Sound.{All, Sound, SoundBut, OpenFile, openCount}
+use Rattle.preservation.proofs.Counts.{ind-eq, ind-ne, holders-to, openCount-change, open-used}
+use Rattle.preservation.proofs.OneWord.{Held, held}
+use Rattle.preservation.proofs.Link.{loosen, tighten}
+use Rattle.preservation.proofs.Remake.{openCount-at}
+use Rattle.preservation.proofs.Create.{freed, freed-sound}
+use Rattle.rules.specs.Layout.{SLOTS, OPENS, PROCESSES, DESCRIPTORS, KIND, LINKS, PLAIN, SLOT, MODE, OFFSET, REFERENCES, USED, MODE-MAX, WORD-MAX}
+
+-- an open file by its words
+abbrev pub openRow : (slot mode offset refs : ℕ) → ℕ → ℕ
+openRow slot mode offset refs c = getD (slot ∷ mode ∷ offset ∷ refs ∷ []) c 0
+
+-- descriptor k of process p becomes v, open file e becomes row
+unfoldable pub handed : (p k v e : ℕ) → (ℕ → ℕ) → Tables → Tables
+handed p k v e row m = record { file = m .file; byte = m .byte; opened = upd (m .opened) e row; proc = m .proc; desc = updRow (m .desc) p k v }
+
+pub handed-sound : (x : ℕ) (m : Tables) → SoundBut x m → (p k v e : ℕ) (row : ℕ → ℕ) → p < PROCESSES → k < DESCRIPTORS → (m .proc p USED ≡ 0 → ⊥) → v ≤ OPENS → OpenFile (col (m .file) KIND) (row SLOT) (row MODE) (row OFFSET) (row REFERENCES) →
+    All OPENS (λ i. upd (m .opened) e row i REFERENCES + ind (eqb (m .desc p k) (i + 1)) ≡ m .opened i REFERENCES + ind (eqb v (i + 1))) →
+    All SLOTS (λ s. (s ≡ x → ⊥) → openCount (col (m .opened) SLOT) (col (m .opened) REFERENCES) s ≤ openCount (col (upd (m .opened) e row) SLOT) (col (upd (m .opened) e row) REFERENCES) s) → SoundBut x (handed p k v e row m)
+unfolding handed
+handed-sound x m h p k v e row hp hk u hv w counts more = record {
+  files = h .files;
+  root-kind = h .root-kind;
+  root-links = h .root-links;
+  blocks = h .blocks;
+  dirs = h .dirs;
+  lengths = h .lengths;
+  links = h .links;
+  once = h .once;
+  depths = h .depths;
+  alive = λ s hs n q. omega (arith, h .alive s hs n q, more s hs n);
+  open-files = λ i hi. split i e (λ q t. rw t w) (λ q t. rw t (h .open-files i hi));
+  refs = λ i hi. omega (arith, counts i hi, holders-to (m .desc) p k v i hp hk, h .refs i hi);
+  procs = λ i hi. split i p
+      (λ q t. let r = h .procs i hi in let s = h .procs p hp in rw t (record {
+        active-most = r .active-most;
+        user-most = r .user-most;
+        label-most = r .label-most;
+        desc-most = λ c hc. upd-elim (λ y. y ≤ OPENS) (m .desc p) k v c (λ _. hv) (λ _. s .desc-most c hc);
+        user-zero = r .user-zero;
+        label-zero = r .label-zero;
+        desc-zero = λ z. absurd (u (rw q at z));
+      }))
+      (λ q t. rw t (h .procs i hi));
+}
+
+-- the counts of open files, row by row
+pub openCount-row : (m : Tables) (e : ℕ) (row : ℕ → ℕ) (s : ℕ) → e < OPENS →
+    openCount (col (upd (m .opened) e row) SLOT) (col (upd (m .opened) e row) REFERENCES) s + ind (eqb (m .opened e SLOT) s && ltb 0 (m .opened e REFERENCES)) ≡ openCount (col (m .opened) SLOT) (col (m .opened) REFERENCES) s + ind (eqb (row SLOT) s && ltb 0 (row REFERENCES))
+openCount-row m e row s he =
+    rw (eq-eqb e e refl) at (openCount-change (col (m .opened) SLOT) (col (m .opened) REFERENCES) (col (upd (m .opened) e row) SLOT) (col (upd (m .opened) e row) REFERENCES) e s he (λ i q. rw (ne-eqb i e q)) (λ i q. rw (ne-eqb i e q)))
+
+-- ---- open
+
+pub open-sound : (x : ℕ) (m : Tables) → SoundBut x m → (p k e s mode : ℕ) → p < PROCESSES → k < DESCRIPTORS → e < OPENS → s < SLOTS → (m .proc p USED ≡ 0 → ⊥) → m .desc p k ≡ 0 → m .opened e REFERENCES ≡ 0 → m .file s KIND ≡ PLAIN →
+    0 < mode → mode ≤ MODE-MAX → SoundBut x (handed p k (e + 1) e (openRow s mode 0 1) m)
+open-sound x m h p k e s mode hp hk he hs u d f ks m1 m4 =
+    handed-sound x m h p k (e + 1) e (openRow s mode 0 1) hp hk u (omega arith) (open-used (λ z. omega arith) hs ks m1 m4 (omega arith))
+    (λ i hi. split i e
+    (λ q t. rw (t, q) (omega (arith, ind-eq (e + 1) (e + 1) refl, ind-ne (m .desc p k) (e + 1) (λ z. omega arith))))
+    (λ q t. rw t (omega (arith, ind-ne (e + 1) (i + 1) (λ z. q (omega arith)), ind-ne (m .desc p k) (i + 1) (λ z. omega arith)))))
+    (λ y hy _. omega (arith, rw f at (openCount-row m e (openRow s mode 0 1) y he), none (eqb (m .opened e SLOT) y)))
+  where
+    none : (b : Bool) → ind (b && ltb 0 0) ≡ 0
+    none true = refl
+    none false = refl
+
+-- ---- close: descriptor k of process p, which holds e, is emptied
+
+module _ (m : Tables) (h : Sound m) (p k e : ℕ) (hp : p < PROCESSES) (hk : k < DESCRIPTORS) (u : m .proc p USED ≡ 0 → ⊥) (d : m .desc p k ≡ e + 1) where
+  is-open : Held m e
+  is-open = held SLOTS m h p k e hp hk d
+
+  but-its-file : SoundBut (m .opened e SLOT) m
+  but-its-file = loosen (m .opened e SLOT) m h
+
+  pub slot-small : m .opened e SLOT < SLOTS
+  slot-small = h .open-files e (is-open .small) .slot-small (is-open .open-refs)
+
+  pub slot-plain : m .file (m .opened e SLOT) KIND ≡ PLAIN
+  slot-plain = h .open-files e (is-open .small) .plain (is-open .open-refs)
+
+  false-and : (b : Bool) → ind (b && ltb 0 0) ≡ 0
+  false-and true = refl
+  false-and false = refl
+
+  counts : (r : ℕ → ℕ) → r REFERENCES + 1 ≡ m .opened e REFERENCES → (i : ℕ) → i < OPENS → upd (m .opened) e r i REFERENCES + ind (eqb (m .desc p k) (i + 1)) ≡ m .opened i REFERENCES + ind (eqb 0 (i + 1))
+  counts r z i hi = split i e
+      (λ q t. rw (t, q) (omega (arith, ind-eq (m .desc p k) (e + 1) d, ind-ne 0 (e + 1) (λ y. omega arith))))
+      (λ q t. rw t (omega (arith, ind-ne (m .desc p k) (i + 1) (λ y. q (omega arith)), ind-ne 0 (i + 1) (λ y. omega arith))))
+
+  -- other references remain
+  pub close-keeps : 1 < m .opened e REFERENCES → Sound (handed p k 0 e (upd (m .opened e) REFERENCES (m .opened e REFERENCES - 1)) m)
+  close-keeps l =
+      let r = h .open-files e (is-open .small) in
+      let a : ltb 0 (m .opened e REFERENCES) ≡ true = lt-ltb 0 (m .opened e REFERENCES) (omega (arith, is-open .open-refs)) in
+      let b : ltb 0 (m .opened e REFERENCES - 1) ≡ true = lt-ltb 0 (m .opened e REFERENCES - 1) (omega arith) in
+      handed-sound SLOTS m h p k 0 e (upd (m .opened e) REFERENCES (m .opened e REFERENCES - 1)) hp hk u (omega arith)
+      (open-used (λ z. omega arith) (r .slot-small (is-open .open-refs)) (r .plain (is-open .open-refs)) (r .mode-least (is-open .open-refs)) (r .mode-most (is-open .open-refs)) (r .offset-most (is-open .open-refs)))
+      (counts (upd (m .opened e) REFERENCES (m .opened e REFERENCES - 1)) (omega arith))
+      (λ s hs n. omega (arith, rw (a, b) at (openCount-row m e (upd (m .opened e) REFERENCES (m .opened e REFERENCES - 1)) s (is-open .small))))
+
+  -- the open file goes: sound, but for the file that it was on
+  last : m .opened e REFERENCES ≡ 1 → SoundBut (m .opened e SLOT) (handed p k 0 e (λ _. 0) m)
+  last q = handed-sound (m .opened e SLOT) m but-its-file p k 0 e (λ _. 0) hp hk u (omega arith)
+      (record { slot-zero = λ _. refl; mode-zero = λ _. refl; offset-zero = λ _. refl; slot-small = λ n. absurd (n refl); plain = λ n. absurd (n refl); mode-least = λ n. absurd (n refl); mode-most = λ n. absurd (n refl); offset-most = λ n. absurd (n refl) })
+      (counts (λ _. 0) (omega arith))
+      (λ s hs n. omega (arith, rw (ne-eqb (m .opened e SLOT) s (λ z. n (sym z))) at (openCount-row m e (λ _. 0) s (is-open .small)), false-and (eqb 0 s)))
+
+  -- the file has a name
+  pub close-named : m .opened e REFERENCES ≡ 1 → 0 < m .file (m .opened e SLOT) LINKS → Sound (handed p k 0 e (λ _. 0) m)
+  close-named q l = tighten (m .opened e SLOT) (handed p k 0 e (λ _. 0) m) (last q)
+      (unfold handed in (λ z. absurd (omega (arith, z, slot-plain)))) (unfold handed in (λ _. omega arith))
+
+  -- the file has another open file i
+  pub close-open : m .opened e REFERENCES ≡ 1 → (i : ℕ) → i < OPENS → (i ≡ e → ⊥) → (m .opened i REFERENCES ≡ 0 → ⊥) → m .opened i SLOT ≡ m .opened e SLOT → Sound (handed p k 0 e (λ _. 0) m)
+  close-open q i hi n r s = tighten (m .opened e SLOT) (handed p k 0 e (λ _. 0) m) (last q)
+      (unfold handed in (λ z. absurd (omega (arith, z, slot-plain)))) (unfold handed in (λ _. omega (arith, other)))
+    where
+      other : 0 < openCount (col (upd (m .opened) e (λ _. 0)) SLOT) (col (upd (m .opened) e (λ _. 0)) REFERENCES) (m .opened e SLOT)
+      other = openCount-at (col (upd (m .opened) e (λ _. 0)) SLOT) (col (upd (m .opened) e (λ _. 0)) REFERENCES) i (m .opened e SLOT) hi (rw (ne-eqb i e n) s) (rw (ne-eqb i e n) r)
+
+  -- the file has neither, and goes
+  pub close-frees : m .opened e REFERENCES ≡ 1 → m .file (m .opened e SLOT) LINKS ≡ 0 → ((i : ℕ) → i < OPENS → (i ≡ e → ⊥) → (m .opened i REFERENCES ≡ 0 → ⊥) → m .opened i SLOT ≡ m .opened e SLOT → ⊥) →
+      (t : ℕ) → t ≤ WORD-MAX → Sound (freed (m .opened e SLOT) t (handed p k 0 e (λ _. 0) m))
+  unfolding handed
+  close-frees q l none t ht = freed-sound (handed p k 0 e (λ _. 0) m) (m .opened e SLOT) t (last q) (record {
+    small = slot-small;
+    not-root = λ z. omega (arith, h .root-kind, rw z at slot-plain);
+    no-links = l;
+    not-open = λ i hi. split i e (λ g t. rw t (λ r. absurd (r refl))) (λ g t. rw t (none i hi g));
+    no-dirents = λ z. absurd (omega (arith, z, slot-plain));
+  }) ht

@@ -1,0 +1,86 @@
+-- The effect of a granted call on a sound store leaves a sound store; so does every call, and every list of calls.
+use mathlib.Core.Path.{_≡_, refl, ap}
+use mathlib.Core.Bool.{true}
+use mathlib.Core.List.{List, [], _∷_}
+use Prim.Native.Nat.{ℕ, _+_, _-_, _≤_, max}
+use native.Mathlib.Omega.{arith}
+use lib.ListN.{length}
+use Rattle.rules.specs.Layout.{BLOCK, LENGTH, SLOT, OFFSET, USER, DOMAIN, USER-MAX, LABEL-MAX}
+use Rattle.rules.specs.Store.{Store, view, slot, subjectOf, plus}
+use Rattle.rules.specs.Sound.{sound}
+use Rattle.rules.specs.Calls.{Call}
+use Rattle.rules.specs.Decide.{placement, decide}
+use Rattle.rules.specs.Effects.{carryOut}
+use Rattle.rules.specs.Step.{storeAfter, outcomeOf, act, step, final}
+use Rattle.rules.specs.declared.decision.Output.{Output}
+use Rattle.rules.specs.declared.decision.Effect.{Effect}
+use Rattle.rules.specs.declared.decision.Decision.{Decision}
+use Rattle.preservation.proofs.OneWord.{Held}
+use Rattle.preservation.proofs.Words.{plus-is}
+use Rattle.preservation.proofs.StoreChanges.{tablesOf}
+use Rattle.preservation.proofs.SoundStore.{SoundStore, means-sound}
+use Rattle.preservation.proofs.OpenEffects.{Caller, Writes, leaves-sound, open-leaves, truncate-leaves, move-leaves, duplicate-leaves, bits-leaves, execute-leaves, write-leaves}
+use Rattle.preservation.proofs.NameEffects.{link-leaves, create-leaves, unlink-leaves, unnaming-is, remove-leaves}
+use Rattle.preservation.proofs.CloseEffects.{close-leaves, releasing-is, exit-leaves}
+use Rattle.preservation.proofs.ForkEffects.{fork-leaves}
+use Rattle.preservation.proofs.Granted.{Fit, granting, refusing, unlinking, Granting, nothing, opens, truncates, creates, unlinks, removes, links, changesBits, closes, stores, reads, seeks, duplicates, forks, exits, executes}
+use Rattle.preservation.proofs.Decided.{decide-fit}
+
+module _ (s : Store) (h : SoundStore s) (c : Call) where
+  pub placed-well : (e at : ℕ) → Held (tablesOf s) e → at + length (c .bytes) ≤ BLOCK → Writes (tablesOf s) (c .bytes) (placement (view s) e (slot (view s .opened e SLOT)) at (length (c .bytes)))
+  unfolding tablesOf
+  placed-well e at o l = record {
+    ofd = o;
+    on = refl;
+    end-is = refl;
+    gap-is = refl;
+    fits = l;
+    length-is = ap (max (view s .tree .file (view s .opened e SLOT) LENGTH)) (plus-is at (length (c .bytes)) (omega arith));
+    version-is = refl;
+    offset-is = plus-is at (length (c .bytes)) (omega arith);
+  }
+
+  pub caller-user : Caller (tablesOf s) (c .process) → view s .proc (c .process .0) USER ≤ USER-MAX
+  unfolding tablesOf
+  caller-user u = h .tables .procs (c .process .0) (u .small) .user-most
+
+  pub caller-label : Caller (tablesOf s) (c .process) → view s .proc (c .process .0) DOMAIN ≤ LABEL-MAX
+  unfolding tablesOf
+  caller-label u = h .tables .procs (c .process .0) (u .small) .label-most
+
+  pub effect-keeps : {n : ℕ} {o : Output} {e : Effect} → Granting s h c n o e → SoundStore (carryOut c e s)
+  unfolding carryOut
+  effect-keeps (nothing n o) = h
+  effect-keeps (opens n o) = leaves-sound (open-leaves s h (c .process) n o)
+  effect-keeps (truncates n o) = leaves-sound (truncate-leaves s h (c .process) n o)
+  effect-keeps (creates d i y kind bits o) = leaves-sound (create-leaves s h _ (subjectOf (view s) (c .process)) d i (slot y) kind bits o)
+  effect-keeps (unlinks (unlinking d i y n k)) = leaves-sound (unlink-leaves s h d i y n k (unnaming-is s h y))
+  effect-keeps (removes d i y n k l) = leaves-sound (remove-leaves s h d i y n k l)
+  effect-keeps (links d i y n hy k) = leaves-sound (link-leaves s h _ d i y n hy k)
+  effect-keeps (changesBits y b hy k l o) = leaves-sound (bits-leaves s h (y .0) (b .0) hy k l)
+  effect-keeps (closes i u hi) = close-leaves s h (c .process) i (u .small) hi (u .used) (releasing-is s h (c .process) i (u .small) hi) .sound
+  effect-keeps (stores e at o l) = leaves-sound (write-leaves s h (c .bytes) _ (placed-well e at o l))
+  effect-keeps (reads e n o l) = unfold tablesOf in leaves-sound (move-leaves s h e (plus (view s .opened e OFFSET) n) o (rw (plus-is (view s .opened e OFFSET) n (omega (arith, l))) l))
+  effect-keeps (seeks e n o l) = leaves-sound (move-leaves s h e n o l)
+  effect-keeps (duplicates i j e o hj f) = unfold tablesOf in leaves-sound (duplicate-leaves s h (c .process) i j e o hj f)
+  effect-keeps (forks q u hq f) = leaves-sound (fork-leaves (c .process) q (subjectOf (view s) (c .process) .user) (subjectOf (view s) (c .process) .label) (u .small) hq s h f (caller-user u) (caller-label u) .leaves)
+  effect-keeps (exits u) = exit-leaves s h (c .process) (u .small) (u .used) .sound
+  effect-keeps (executes l u hl) = leaves-sound (execute-leaves s h (c .process) l u hl)
+
+  after-sound : {d : Decision} → Fit (Granting s h c) d → SoundStore (storeAfter s c d)
+  unfolding storeAfter
+  after-sound (granting n o e g) = effect-keeps g
+  after-sound (refusing r k) = h
+
+-- ---- a call, and a list of calls
+
+pub step-sound : (Q : List ℕ) (s : Store) (c : Call) → sound Q s ≡ true → sound Q (step Q s c .store) ≡ true
+unfolding step act outcomeOf
+step-sound Q s c e =
+    let w = means-sound Q s .holds e in
+    rw e (means-sound Q (storeAfter s c (decide Q (view s) c)) .tests (w .0, after-sound s (w .1) c (decide-fit Q s (w .1) c (w .0))))
+
+pub final-sound : (Q : List ℕ) (s : Store) (cs : List Call) → sound Q s ≡ true → sound Q (final Q s cs) ≡ true
+unfolding final
+final-sound Q s [] e = e
+final-sound Q s (c ∷ cs) e = final-sound Q (step Q s c .store) cs (step-sound Q s c e)

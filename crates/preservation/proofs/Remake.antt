@@ -1,0 +1,143 @@
+-- A slot that no entry names and no open file is on gets another record and other bytes: a new file before it has its name, and a freed slot.
+use mathlib.Core.Path.{_≡_, refl, sym, ap, _∙_}
+use mathlib.Core.Bool.{Bool, true, false, _&&_}
+use Prim.Native.Nat.{ℕ, _+_, _-_, _*_, _<_}
+use native.Mathlib.Omega.{arith}
+use lib.Dec.{eqb, ltb}
+use borrow.Author.Tests.{eqb-true, eq-eqb, ne-eqb, lt-ltb}
+use Rattle.preservation.proofs.Tests.{split, upd, upd-other}
+use Rattle.preservation.proofs.Sums.{ind, sum2-same, sum-at}
+use Rattle.preservation.proofs.Tables.{Tables, col, direntRow, rowsOf}
+use Rattle.preservation.proofs.Sound.{All, SoundBut, File, Block, Directory, Depths, OpenFile, naming, linkCount, openCount}
+use Rattle.preservation.proofs.Dirents.{naming-at, used-none}
+use Rattle.rules.specs.Layout.{SLOTS, DIRENTS, DIRENT, OPENS, NAME, KIND, OWNER, BITS, LABEL, LENGTH, LINKS, VERSION, DIRECTORY, SLOT, REFERENCES}
+
+-- ---- a group over other columns
+
+pub and-false : (a b : Bool) → (a ≡ true → b ≡ false) → a && b ≡ false
+and-false true b f = f refl
+and-false false b f = refl
+
+pub naming-same : (kind kind′ : ℕ → ℕ) (pl pl′ : ℕ → ℕ → ℕ → ℕ) (s : ℕ) → ((i j : ℕ) → i < SLOTS → j < DIRENTS → naming kind′ pl′ s i j ≡ naming kind pl s i j) → linkCount kind′ pl′ s ≡ linkCount kind pl s
+unfolding linkCount
+naming-same kind kind′ pl pl′ s h = sum2-same SLOTS DIRENTS (λ i j. ind (naming kind pl s i j)) (λ i j. ind (naming kind′ pl′ s i j)) (λ i j hi hj. ap ind (h i j hi hj))
+
+pub dir-kinds : (kind kind′ : ℕ → ℕ) (rows : ℕ → ℕ → ℕ) → Directory kind rows → ((q : ℕ) → q < DIRENTS → (rows q NAME ≡ 0 → ⊥) → kind′ (rows q NAME) ≡ kind (rows q NAME)) → Directory kind′ rows
+dir-kinds kind kind′ rows d e = record {
+  different = d .different;
+  dirents = λ q hq. let w = d .dirents q hq in record {
+    last-zero = w .last-zero;
+    slot-small = w .slot-small;
+    empty-zero = w .empty-zero;
+    valid = w .valid;
+    slot-used = λ n z. w .slot-used n (sym (e q hq n) ∙ z);
+  };
+}
+
+pub dir-empty : (kind : ℕ → ℕ) (rows : ℕ → ℕ → ℕ) → ((q k : ℕ) → q < DIRENTS → k < DIRENT → rows q k ≡ 0) → Directory kind rows
+dir-empty kind rows z = record {
+  different = λ q hq _ _ _ n. absurd (n (z q NAME hq (omega arith)));
+  dirents = λ q hq. record {
+    last-zero = z q (NAME + 1) hq (omega arith);
+    slot-small = omega (arith, z q NAME hq (omega arith));
+    empty-zero = λ _ k hk. z q k hq (omega arith);
+    slot-used = λ n. absurd (n (z q NAME hq (omega arith)));
+    valid = λ n. absurd (n (z q NAME hq (omega arith)));
+  };
+}
+
+pub open-kinds : {kind kind′ : ℕ → ℕ} {s p o r : ℕ} → OpenFile kind s p o r → ((r ≡ 0 → ⊥) → kind′ s ≡ kind s) → OpenFile kind′ s p o r
+open-kinds w e = record {
+  slot-zero = w .slot-zero;
+  mode-zero = w .mode-zero;
+  offset-zero = w .offset-zero;
+  slot-small = w .slot-small;
+  plain = λ n. e n ∙ w .plain n;
+  mode-least = w .mode-least;
+  mode-most = w .mode-most;
+  offset-most = w .offset-most;
+}
+
+-- an open file on s counts
+pub openCount-at : (slot refs : ℕ → ℕ) (e s : ℕ) → e < OPENS → slot e ≡ s → (refs e ≡ 0 → ⊥) → 0 < openCount slot refs s
+unfolding openCount
+openCount-at slot refs e s he q n =
+    let a : ind (eqb (slot e) s && ltb 0 (refs e)) ≡ 1 = rw (eq-eqb (slot e) s q, lt-ltb 0 (refs e) (omega arith)) in
+    omega (arith, sum-at OPENS (λ i. ind (eqb (slot i) s && ltb 0 (refs i))) e he)
+
+-- ---- the change
+
+unfoldable pub remade : ℕ → (row g : ℕ → ℕ) → Tables → Tables
+remade y row g m = record { file = upd (m .file) y row; byte = upd (m .byte) y g; opened = m .opened; proc = m .proc; desc = m .desc }
+
+-- nothing is on slot y
+pub record Bare (m : Tables) (y : ℕ) : Type 0 where
+  pub small : y < SLOTS
+  pub not-root : y ≡ 0 → ⊥
+  pub no-links : m .file y LINKS ≡ 0
+  pub not-open : (e : ℕ) → e < OPENS → (m .opened e REFERENCES ≡ 0 → ⊥) → m .opened e SLOT ≡ y → ⊥
+  pub no-dirents : m .file y KIND ≡ DIRECTORY → All DIRENTS (λ q. direntRow (m .byte) y q NAME ≡ 0)
+
+-- the record and the bytes that it gets
+pub record Fresh (row g : ℕ → ℕ) : Type 0 where
+  pub file-row : File (row KIND) (row OWNER) (row BITS) (row LABEL) (row LENGTH) (row LINKS) (row VERSION)
+  pub block-row : Block (row KIND) (row LENGTH) g
+  pub links-row : row LINKS ≡ 0
+  pub empty-length : row KIND ≡ DIRECTORY → row LENGTH ≡ 0
+  pub empty-bytes : row KIND ≡ DIRECTORY → (b : ℕ) → b < DIRENTS * DIRENT → g b ≡ 0
+
+module _ (m : Tables) (y : ℕ) (row g : ℕ → ℕ) (h : SoundBut y m) (a : Bare m y) (n : Fresh row g) where
+  abbrev pub file′ : ℕ → ℕ → ℕ
+  file′ = upd (m .file) y row
+
+  abbrev pub byte′ : ℕ → ℕ → ℕ
+  byte′ = upd (m .byte) y g
+
+  kind-other : (i : ℕ) → (i ≡ y → ⊥) → col file′ KIND i ≡ m .file i KIND
+  kind-other i q = rw (ne-eqb i y q)
+
+  pub unnamed : (u : ℕ) → u < SLOTS → m .file u KIND ≡ DIRECTORY → (q : ℕ) → q < DIRENTS → direntRow (m .byte) u q NAME ≡ y → ⊥
+  unnamed u hu ku q hq e = omega (arith, naming-at (col (m .file) KIND) (direntRow (m .byte)) u q y hu hq ku e, h .links y (a .small) (a .not-root), a .no-links)
+
+  pub new-rows : row KIND ≡ DIRECTORY → (q k : ℕ) → q < DIRENTS → k < DIRENT → rowsOf g q k ≡ 0
+  new-rows r q k hq hk = rw (lt-ltb k DIRENT hk) (n .empty-bytes r (DIRENT * q + k) (omega arith))
+
+  naming-eq : (s : ℕ) → (s ≡ 0 → ⊥) → (i j : ℕ) → i < SLOTS → j < DIRENTS → naming (col file′ KIND) (direntRow byte′) s i j ≡ naming (col (m .file) KIND) (direntRow (m .byte)) s i j
+  naming-eq s n0 i j hi hj = split i y
+      (λ q t. rw (t, and-false (eqb (row KIND) DIRECTORY) (eqb (rowsOf g j NAME) s) (λ r. ne-eqb (rowsOf g j NAME) s (λ z. n0 (sym z ∙ new-rows (eqb-true (row KIND) DIRECTORY r) j NAME hj (omega arith)))))
+      (sym (and-false (eqb (m .file i KIND) DIRECTORY) (eqb (direntRow (m .byte) i j NAME) s) (λ r. ne-eqb (direntRow (m .byte) i j NAME) s (λ z. n0 (sym z ∙ rw q (a .no-dirents (rw q at (eqb-true (m .file i KIND) DIRECTORY r)) j hj)))))))
+      (λ q t. rw t)
+
+  unfoldable pub remade-depths : Depths (col (m .file) KIND) (direntRow (m .byte)) → Depths (col file′ KIND) (direntRow byte′)
+  remade-depths c = record {
+    depth = upd (c .depth) y 0;
+    depth-root = upd-other (c .depth) y 0 0 (λ q. a .not-root (sym q)) ∙ c .depth-root;
+    depth-step = λ u hu. split u y
+        (λ q t. rw t (λ k p hp z. absurd (z (new-rows k p NAME hp (omega arith)))))
+        (λ q t. rw t (λ k p hp z. let w = unnamed u hu k p hp in rw (ne-eqb (direntRow (m .byte) u p NAME) y w) (c .depth-step u hu k p hp z)));
+    depth-most = λ i hi. split i y (λ q t. rw t (λ _. omega arith)) (λ q t. rw t (c .depth-most i hi));
+  }
+
+  pub remade-sound : SoundBut y (remade y row g m)
+  unfolding remade
+  remade-sound = record {
+    files = λ i hi. split i y (λ q t. rw t (n .file-row)) (λ q t. rw t (h .files i hi));
+    root-kind = rw (ne-eqb 0 y (λ q. a .not-root (sym q))) (h .root-kind);
+    root-links = rw (ne-eqb 0 y (λ q. a .not-root (sym q))) (h .root-links);
+    blocks = λ i hi. split i y (λ q t. rw t (n .block-row)) (λ q t. rw t (h .blocks i hi));
+    dirs = λ i hi. split i y
+        (λ q t. rw t (λ k. dir-empty (col file′ KIND) (rowsOf g) (new-rows k)))
+        (λ q t. rw t (λ k. dir-kinds (col (m .file) KIND) (col file′ KIND) (direntRow (m .byte) i) (h .dirs i hi k) (λ p hp _. kind-other (direntRow (m .byte) i p NAME) (unnamed i hi k p hp))));
+    lengths = λ i hi. split i y
+        (λ q t. rw t (λ k. n .empty-length k ∙ sym (used-none (rowsOf g) (λ p hp. new-rows k p NAME hp (omega arith)))))
+        (λ q t. rw t (h .lengths i hi));
+    links = λ s hs n0. rw (naming-same (col (m .file) KIND) (col file′ KIND) (direntRow (m .byte)) (direntRow byte′) s (naming-eq s n0)) (split s y
+        (λ q t. rw t (n .links-row ∙ sym (a .no-links) ∙ rw (← q) (h .links s hs n0)))
+        (λ q t. rw t (h .links s hs n0)));
+    once = λ i hi q. rw (ne-eqb i y q) (h .once i hi q);
+    depths = remade-depths (h .depths);
+    alive = λ i hi q. rw (ne-eqb i y q) (h .alive i hi q);
+    open-files = λ i hi. open-kinds (h .open-files i hi) (λ r. kind-other (m .opened i SLOT) (a .not-open i hi r));
+    refs = h .refs;
+    procs = h .procs;
+  }

@@ -1,0 +1,218 @@
+-- A store passes the soundness test just where its tables have the right sizes and are `Sound`.
+use mathlib.Core.Path.{_≡_, refl, sym, ap, _∙_}
+use mathlib.Core.Bool.{Bool, true, false, cond, false≢true}
+use mathlib.Core.List.{List, [], _∷_}
+use Prim.Native.Nat.{ℕ, _+_, _-_, _*_, _≤_, _<_}
+use native.Mathlib.Omega.{arith}
+use native.Mathlib.Decide.{decLt, ℕ-discrete}
+use lib.Dec.{ltb}
+use lib.ListN.{length, getD, drop}
+use lib.Seq.{getD-drop}
+use borrow.Author.Tests.{lt-ltb}
+use Rattle.rules.specs.Layout.{SLOTS, BLOCK, DIRENT, DIRENTS, NAMES, OPENS, PROCESSES, FILE, OPEN}
+use Rattle.rules.specs.Layout.{KIND, OWNER, BITS, LABEL, LENGTH, LINKS, VERSION, SLOT, MODE, OFFSET, REFERENCES, USED, USER, DOMAIN, FREE, PLAIN, DIRECTORY}
+use Rattle.rules.specs.Choice.{some}
+use Rattle.rules.specs.Store.{Store, view, tab, block, shownOf}
+use Rattle.rules.specs.Directories.{direntAt}
+use Rattle.rules.specs.Sound.{sizesSound, allZero, direntsSound, linksSound, directorySound, isOpen, plainSound, kindSound, slotSound, openSound, procSound, tablesSound, storeSound, policySound, sound}
+use Rattle.preservation.proofs.Tests.{Means, means-every, means-and, means-last, means-cond, means-choice, means-or, means-eq, means-lt, means-le, means-test, means-all, means-within, means-same}
+use Rattle.preservation.proofs.Tables.{Tables, col, direntRow}
+use Rattle.preservation.proofs.Sound.{All, Sound, File, Block, Directory, OpenFile, Process, nameCount, linkCount, depthWithin, openCount, holderCount}
+use Rattle.preservation.proofs.Tree.{depths-from, depth-is}
+use Rattle.preservation.proofs.StoreChanges.{tablesOf, Sized, Has}
+use Rattle.preservation.proofs.Shown.{block-length, block-byte, shown-whole, shown-plain, means-zeros}
+use Rattle.preservation.proofs.Counted.{links-total, means-climbs, means-open}
+use Rattle.preservation.proofs.Meaning.{means-sized, means-record, means-dirents, means-opened, means-process}
+
+module _ (s : Store) (z : Sized s) where
+  abbrev file : ℕ → ℕ → ℕ
+  file = tab FILE (s .files)
+
+  abbrev kind : ℕ → ℕ
+  kind = col (tab FILE (s .files)) KIND
+
+  abbrev rows : ℕ → ℕ → ℕ → ℕ
+  rows = direntRow (tab BLOCK (s .contents))
+
+  abbrev onSlot : ℕ → ℕ
+  onSlot = openCount (col (tab OPEN (s .opens)) SLOT) (col (tab OPEN (s .opens)) REFERENCES)
+
+  pub agree : (d : ℕ) → d < SLOTS → file d KIND ≡ DIRECTORY → (i k : ℕ) → k < DIRENT → getD (direntAt (shownOf (s .files) (s .contents) d) i) k 0 ≡ rows d i k
+  agree d h e i k l =
+      rw (shown-whole (s .files) (s .contents) d (λ q. omega (arith, e)), lt-ltb k DIRENT l)
+      (getD-drop (DIRENT * i) (block (s .contents) d) k 0 ∙ block-byte (s .contents) (z .contents-size) d h (DIRENT * i + k))
+
+  -- bytes of slot d from a on are 0
+  abbrev Zeros : ℕ → ℕ → Type 0
+  Zeros a d = All BLOCK (λ b. a ≤ b → tab BLOCK (s .contents) d b ≡ 0)
+
+  zeros-block : (d : ℕ) → d < SLOTS → (a : ℕ) → Means (allZero (drop a (block (s .contents) d))) (Zeros a d)
+  zeros-block d h a = means-same (means-zeros (block (s .contents) d) a)
+      (λ w b hb l. sym (block-byte (s .contents) (z .contents-size) d h b) ∙ w b (rw (block-length (s .contents) (z .contents-size) d h) hb) l)
+      (λ w b hb l. block-byte (s .contents) (z .contents-size) d h b ∙ w b (rw (block-length (s .contents) (z .contents-size) d h) at hb) l)
+
+  -- ---- what is owed by kind
+
+  abbrev OfDirectory : ℕ → Type 0
+  OfDirectory d = (Directory kind (rows d) × ((file d LENGTH ≡ nameCount (rows d)) × Zeros (DIRENTS * DIRENT) d)) × (((d ≡ 0 → ⊥) → file d LINKS ≡ 1) × (depthWithin kind rows NAMES d ≤ NAMES))
+
+  abbrev OfPlain : ℕ → Type 0
+  OfPlain d = (file d LENGTH ≤ BLOCK) × ((0 < file d LINKS + onSlot d) × Zeros (file d LENGTH) d)
+
+  means-directory : (d : ℕ) → d < SLOTS → file d KIND ≡ DIRECTORY → Means (directorySound (view s .tree) d) (OfDirectory d)
+  unfolding directorySound
+  means-directory d h e = means-every (means-and dirents (means-and (means-or (means-eq d 0) (means-eq (file d LINKS) 1)) (means-last (means-climbs (view s .tree) rows agree NAMES d))))
+    where
+      whole : shownOf (s .files) (s .contents) d ≡ block (s .contents) d
+      whole = shown-whole (s .files) (s .contents) d (λ q. omega (arith, e))
+
+      size : length (shownOf (s .files) (s .contents) d) ≡ BLOCK
+      size = ap length whole ∙ block-length (s .contents) (z .contents-size) d h
+
+      byte : (b : ℕ) → getD (shownOf (s .files) (s .contents) d) b 0 ≡ tab BLOCK (s .contents) d b
+      byte b = ap (λ (l : List ℕ). getD l b 0) whole ∙ block-byte (s .contents) (z .contents-size) d h b
+
+      dirents : Means (direntsSound (view s .tree) (shownOf (s .files) (s .contents) d) (file d LENGTH)) (Directory kind (rows d) × ((file d LENGTH ≡ nameCount (rows d)) × Zeros (DIRENTS * DIRENT) d))
+      dirents = means-same (means-dirents (view s .tree) (shownOf (s .files) (s .contents) d) (rows d) (agree d h e) (file d LENGTH))
+          (λ w. (w .0, (w .1 .0, λ b hb l. sym (byte b) ∙ w .1 .1 b (rw size hb) l)))
+          (λ w. (w .0, (w .1 .0, λ b hb l. byte b ∙ w .1 .1 b (rw size at hb) l)))
+
+  means-plain : (d : ℕ) → d < SLOTS → file d KIND ≡ PLAIN → Means (plainSound (view s) d) (OfPlain d)
+  unfolding plainSound
+  means-plain d h e = means-every (means-and (means-le (file d LENGTH) BLOCK) (means-and alive (means-last zeros)))
+    where
+      alive : Means (some (ltb 0 (file d LINKS) ∷ isOpen (tab OPEN (s .opens)) d ∷ [])) (0 < file d LINKS + onSlot d)
+      alive = means-same (means-or (means-lt 0 (file d LINKS)) (means-open (tab OPEN (s .opens)) d)) (λ f. go f (decLt 0 (file d LINKS))) (λ l n. omega arith)
+        where
+          go : ((0 < file d LINKS → ⊥) → 0 < onSlot d) → Dec (0 < file d LINKS) → 0 < file d LINKS + onSlot d
+          go f (yes l) = omega arith
+          go f (no l) = omega (arith, f l)
+
+      zeros : Means (allZero (shownOf (s .files) (s .contents) d)) (Zeros (file d LENGTH) d)
+      zeros = rw (shown-plain (s .files) (s .contents) d e) (zeros-block d h (file d LENGTH))
+
+  abbrev OfKind : ℕ → Type 0
+  OfKind d = (file d KIND ≡ DIRECTORY → OfDirectory d) × ((file d KIND ≡ DIRECTORY → ⊥) → (file d KIND ≡ PLAIN → OfPlain d) × ((file d KIND ≡ PLAIN → ⊥) → Zeros 0 d))
+
+  means-kind : (d : ℕ) → d < SLOTS → Means (kindSound (view s) d) (OfKind d)
+  unfolding kindSound
+  means-kind d h = means-choice (means-eq (file d KIND) DIRECTORY) (means-directory d h)
+      (λ _. means-choice (means-eq (file d KIND) PLAIN) (means-plain d h) (λ n. rw (shown-whole (s .files) (s .contents) d n) (zeros-block d h 0)))
+
+  -- ---- a slot
+
+  abbrev FileAt : ℕ → Type 0
+  FileAt d = File (file d KIND) (file d OWNER) (file d BITS) (file d LABEL) (file d LENGTH) (file d LINKS) (file d VERSION)
+
+  abbrev OfSlot : ℕ → Type 0
+  OfSlot d = FileAt d × (((d ≡ 0 → file d LINKS ≡ 0) × ((d ≡ 0 → ⊥) → file d LINKS ≡ linkCount kind rows d)) × OfKind d)
+
+  means-slot : (d : ℕ) → d < SLOTS → Means (slotSound (view s) d) (OfSlot d)
+  unfolding slotSound
+  means-slot d h = means-every (means-and (means-record (view s .tree) d) (means-and links (means-last (means-kind d h))))
+    where
+      links : Means (linksSound (view s .tree) d) ((d ≡ 0 → file d LINKS ≡ 0) × ((d ≡ 0 → ⊥) → file d LINKS ≡ linkCount kind rows d))
+      links = unfold linksSound in rw (links-total (view s .tree) rows agree d) (means-cond (means-eq d 0) (means-eq (file d LINKS) 0) (means-eq (file d LINKS) (linkCount kind rows d)))
+
+  -- ---- all tables
+
+  abbrev OfTables : Type 0
+  OfTables = (file 0 KIND ≡ DIRECTORY) × (All SLOTS OfSlot × (All OPENS (λ e. (tab OPEN (s .opens) e REFERENCES ≡ holderCount (view s .desc) e)
+      × OpenFile kind (tab OPEN (s .opens) e SLOT) (tab OPEN (s .opens) e MODE) (tab OPEN (s .opens) e OFFSET) (tab OPEN (s .opens) e REFERENCES))
+      × All PROCESSES (λ p. Process (view s .proc p USED) (view s .proc p USER) (view s .proc p DOMAIN) (view s .desc p))))
+
+  means-parts : Means (tablesSound (view s)) OfTables
+  unfolding tablesSound
+  means-parts = means-every (means-and (means-eq (file 0 KIND) DIRECTORY) (means-and (means-within SLOTS (slotSound (view s)) OfSlot means-slot)
+      (means-and (means-all OPENS (openSound (view s)) _ (means-opened (view s))) (means-last (means-all PROCESSES (procSound (view s)) _ (means-process (view s)))))))
+
+  from-parts : OfTables → Sound (tablesOf s)
+  unfolding tablesOf
+  from-parts w = record {
+    files = λ d h. w .1 .0 d h .0;
+    root-kind = w .0;
+    root-links = w .1 .0 0 (omega arith) .1 .0 .0 refl;
+    blocks = blocks;
+    dirs = λ d h e. w .1 .0 d h .1 .1 .0 e .0 .0;
+    lengths = λ d h e. w .1 .0 d h .1 .1 .0 e .0 .1 .0;
+    links = λ d h. w .1 .0 d h .1 .0 .1;
+    once = λ d h _ e n. once d h e n;
+    depths = depths-from kind rows (λ u hu e p hp. w .1 .0 u hu .1 .1 .0 e .0 .0 .dirents p hp .slot-small) (λ d h e n. sym (w .1 .0 d h .1 .0 .1 n) ∙ once d h e n) (λ d h e. w .1 .0 d h .1 .1 .0 e .1 .1);
+    alive = λ d h _ e. plain d h e .1 .0;
+    open-files = λ e h. w .1 .1 .0 e h .1;
+    refs = λ e h. w .1 .1 .0 e h .0;
+    procs = w .1 .1 .1;
+  }
+    where
+      once : (d : ℕ) → d < SLOTS → file d KIND ≡ DIRECTORY → (d ≡ 0 → ⊥) → file d LINKS ≡ 1
+      once d h e n = w .1 .0 d h .1 .1 .0 e .1 .0 n
+
+      plain : (d : ℕ) → d < SLOTS → file d KIND ≡ PLAIN → OfPlain d
+      plain d h e = w .1 .0 d h .1 .1 .1 (λ q. omega (arith, e)) .0 e
+
+      blocks : (d : ℕ) → d < SLOTS → Block (file d KIND) (file d LENGTH) (tab BLOCK (s .contents) d)
+      blocks d h = by (ℕ-discrete (file d KIND) DIRECTORY) (ℕ-discrete (file d KIND) PLAIN)
+        where
+          by : Dec (file d KIND ≡ DIRECTORY) → Dec (file d KIND ≡ PLAIN) → Block (file d KIND) (file d LENGTH) (tab BLOCK (s .contents) d)
+          by (yes e) p = record { length-most = λ n. absurd (n e); past-zero = λ n. absurd (n e); tail-zero = λ _. w .1 .0 d h .1 .1 .0 e .0 .1 .1 }
+          by (no n) (yes e) = record { length-most = λ _. plain d h e .0; past-zero = λ _. plain d h e .1 .1; tail-zero = λ q. absurd (n q) }
+          by (no n) (no o) =
+              let f : file d KIND ≡ FREE = omega (arith, w .1 .0 d h .0 .kind-most, n, o) in
+              let l : file d LENGTH ≡ 0 = w .1 .0 d h .0 .length-zero f in
+              record { length-most = λ _. omega arith; past-zero = λ _ b hb _. w .1 .0 d h .1 .1 .1 n .1 o b hb (omega arith); tail-zero = λ q. absurd (n q) }
+
+  to-parts : Sound (tablesOf s) → OfTables
+  unfolding tablesOf
+  to-parts h = (h .root-kind, (slots, ((λ e he. (h .refs e he, h .open-files e he)), h .procs)))
+    where
+      once : (d : ℕ) → d < SLOTS → file d KIND ≡ DIRECTORY → (d ≡ 0 → ⊥) → file d LINKS ≡ 1
+      once d hd = h .once d hd (λ q. omega (arith, hd))
+
+      deep : (d : ℕ) → d < SLOTS → file d KIND ≡ DIRECTORY → depthWithin kind rows NAMES d ≤ NAMES
+      deep d hd e =
+          let l : h .depths .depth d ≤ NAMES = h .depths .depth-most d hd e in
+          let q : depthWithin kind rows NAMES d ≡ h .depths .depth d = depth-is kind rows (λ c hc k n. sym (h .links c hc n) ∙ once c hc k n) (h .depths) NAMES d hd e l in
+          omega arith
+
+      slots : (d : ℕ) → d < SLOTS → OfSlot d
+      slots d hd = (
+        h .files d hd,
+        (
+          ((λ q. rw q (h .root-links)), h .links d hd),
+          (
+            (λ e. ((h .dirs d hd e, (h .lengths d hd e, b .tail-zero e)), (once d hd e, deep d hd e))),
+            λ n. ((λ e. (b .length-most n, (h .alive d hd (λ q. omega (arith, hd)) e, b .past-zero n))), λ o c hc _. b .past-zero n c hc (free n o)),
+          ),
+        ),
+      )
+        where
+          b : Block (file d KIND) (file d LENGTH) (tab BLOCK (s .contents) d)
+          b = h .blocks d hd
+
+          free : (file d KIND ≡ DIRECTORY → ⊥) → (file d KIND ≡ PLAIN → ⊥) → {c : ℕ} → file d LENGTH ≤ c
+          free n o {c} = let f : file d KIND ≡ FREE = omega (arith, h .files d hd .kind-most, n, o) in omega (arith, h .files d hd .length-zero f)
+
+  pub means-tables : Means (tablesSound (view s)) (Sound (tablesOf s))
+  means-tables = means-same means-parts from-parts to-parts
+
+-- ---- the store
+
+pub record SoundStore (s : Store) : Type 0 where
+  pub sized : Sized s
+  pub tables : Sound (tablesOf s)
+
+pub means-store : (s : Store) → Means (storeSound s) (SoundStore s)
+unfolding storeSound
+means-store s = by (sizesSound s) refl
+  where
+    by : (b : Bool) → sizesSound s ≡ b → Means (cond b (tablesSound (view s)) false) (SoundStore s)
+    by true e = let z = means-sized s .holds e in means-same (means-tables s z) (λ w. record { sized = z; tables = w }) (λ w. w .tables)
+    by false e = record { holds = λ q. absurd (false≢true q); tests = λ w. absurd (false≢true (sym e ∙ means-sized s .tests (w .sized))) }
+
+pub means-sound : (Q : List ℕ) (s : Store) → Means (sound Q s) ((policySound Q ≡ true) × SoundStore s)
+unfolding sound
+means-sound Q s = means-every (means-and (means-test (policySound Q)) (means-last (means-store s)))
+
+-- a store whose tables are sound
+pub kept : (s : Store) (m : Tables) → Has s m → Sound m → SoundStore s
+kept s m h w = record { sized = h .sized; tables = rw (h .is) w }
