@@ -1,7 +1,7 @@
 // Whole rows of the tables, and places that several calls write.
 ghost use mathlib.Core.Path.{_≡_};
 ghost use mathlib.Core.List.{[], _∷_};
-ghost use Prim.Native.Nat.{_+_, _*_};
+ghost use Prim.Native.Nat.{_+_, _*_, _%_};
 ghost use lib.ListN.{set};
 ghost use lib.Seq.{sets};
 ghost use Rattle.rules.specs.Layout.{FILE, BLOCK, DIRENT, NAME, OPEN, PROCESS, OWN};
