@@ -4,6 +4,7 @@ ghost use mathlib.Core.List.{[], _∷_};
 ghost use Rattle.rules.specs.Store.{store, applyAll};
 ghost use Rattle.rules.specs.Effects.{nameChanges, unnameChanges, createChanges, linkChanges, unnamedChanges, unlinkChanges, removeChanges};
 use crate::rows::clear_slot;
+use crate::rows::put_directory;
 use crate::rows::put_dirent;
 use crate::rows::put_record;
 use rules::decision::DirChange;
@@ -13,9 +14,7 @@ use rules::ids::Slot;
 use tables::layout::BLOCK;
 use tables::layout::DIRENT;
 use tables::layout::FILE;
-use tables::layout::LENGTH;
 use tables::layout::LINKS;
-use tables::layout::VERSION;
 use tables::words::put;
 use tables::words::zero_bytes;
 
@@ -33,8 +32,7 @@ pub fn add_name(
 {
     let dir = d.dir;
     put_dirent(contents, dir, d.dirent, name, s);
-    put(files, FILE * (dir.0 as usize) + LENGTH, d.length);
-    put(files, FILE * (dir.0 as usize) + VERSION, d.version);
+    put_directory(files, d);
 }
 
 // A directory loses a name.
@@ -53,8 +51,7 @@ pub fn remove_name(
         BLOCK * (dir.0 as usize) + DIRENT * (d.dirent as usize),
         DIRENT,
     );
-    put(files, FILE * (dir.0 as usize) + LENGTH, d.length);
-    put(files, FILE * (dir.0 as usize) + VERSION, d.version);
+    put_directory(files, d);
 }
 
 // A new file or directory.

@@ -23,9 +23,10 @@ pub fn make_process(
 )
     ensures { λ _. ⌜ store (now (files .exit)) (now (contents .exit)) (now (opens .exit)) (now (processes .exit)) ≡ applyAll (forkChanges child user label) (store (now (files .entry)) (now (contents .entry)) (now (opens .entry)) (now (processes .entry))) ⌝ }
 {
-    put(processes, PROCESS * (child.0 as usize) + USED, 1);
-    put(processes, PROCESS * (child.0 as usize) + USER, user);
-    put(processes, PROCESS * (child.0 as usize) + DOMAIN, label);
+    let at = PROCESS * (child.0 as usize);
+    put(processes, at + USED, 1);
+    put(processes, at + USER, user);
+    put(processes, at + DOMAIN, label);
 }
 
 pub fn free_process(

@@ -4,10 +4,11 @@ ghost use mathlib.Core.List.{[], _∷_};
 ghost use Prim.Native.Nat.{_+_, _*_, _%_};
 ghost use lib.ListN.{set};
 ghost use lib.Seq.{sets};
-ghost use Rattle.rules.specs.Layout.{FILE, BLOCK, DIRENT, NAME, OPEN, PROCESS, OWN};
+ghost use Rattle.rules.specs.Layout.{FILE, LENGTH, VERSION, BLOCK, DIRENT, NAME, OPEN, PROCESS, OWN};
 ghost use Rattle.rules.specs.Store.{store, puts, zeros, clearTo, applyAll};
 ghost use Rattle.rules.specs.Directories.{padded, dirent};
 ghost use Rattle.rules.specs.Effects.{words};
+use rules::decision::DirChange;
 use rules::decision::Record;
 use rules::ids::Fd;
 use rules::ids::Pid;
@@ -40,13 +41,14 @@ use tables::words::zero_bytes;
 pub fn put_record(files: &mut [u32], s: Slot, r: Record)
     ensures { λ _. ⌜ now (files .exit) ≡ puts FILE (now (files .entry)) (s .0) 0 (words r) ⌝ }
 {
-    put(files, FILE * (s.0 as usize) + KIND, r.kind);
-    put(files, FILE * (s.0 as usize) + OWNER, r.owner);
-    put(files, FILE * (s.0 as usize) + BITS, r.bits);
-    put(files, FILE * (s.0 as usize) + LABEL, r.label);
-    put(files, FILE * (s.0 as usize) + LENGTH, r.length);
-    put(files, FILE * (s.0 as usize) + LINKS, r.links);
-    put(files, FILE * (s.0 as usize) + VERSION, r.version);
+    let at = FILE * (s.0 as usize);
+    put(files, at + KIND, r.kind);
+    put(files, at + OWNER, r.owner);
+    put(files, at + BITS, r.bits);
+    put(files, at + LABEL, r.label);
+    put(files, at + LENGTH, r.length);
+    put(files, at + LINKS, r.links);
+    put(files, at + VERSION, r.version);
 }
 
 // A slot's record, and all its bytes 0.
@@ -64,14 +66,25 @@ pub fn clear_slot(
     zero_bytes(contents, BLOCK * (s.0 as usize) + 0, BLOCK);
 }
 
+// The length and version of a directory whose names change.
+pub fn put_directory(files: &mut [u32], d: DirChange)
+    ensures { λ _. ⌜ now (files .exit) ≡ set (set (now (files .entry)) (FILE * (d .dir .0) + LENGTH) (d .length)) (FILE * (d .dir .0) + VERSION) (d .version) ⌝ }
+{
+    let dir = d.dir;
+    let at = FILE * (dir.0 as usize);
+    put(files, at + LENGTH, d.length);
+    put(files, at + VERSION, d.version);
+}
+
 // An open file at offset 0 that one descriptor holds.
 pub fn put_open(opens: &mut [u32], e: u32, s: Slot, mode: OpenMode)
     ensures { λ _. ⌜ now (opens .exit) ≡ puts OPEN (now (opens .entry)) e 0 (s .0 ∷ mode .0 ∷ 0 ∷ 1 ∷ []) ⌝ }
 {
-    put(opens, OPEN * (e as usize) + SLOT, s.0);
-    put(opens, OPEN * (e as usize) + MODE, mode.0);
-    put(opens, OPEN * (e as usize) + OFFSET, 0);
-    put(opens, OPEN * (e as usize) + REFERENCES, 1);
+    let at = OPEN * (e as usize);
+    put(opens, at + SLOT, s.0);
+    put(opens, at + MODE, mode.0);
+    put(opens, at + OFFSET, 0);
+    put(opens, at + REFERENCES, 1);
 }
 
 // What a descriptor holds.
