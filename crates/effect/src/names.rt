@@ -1,6 +1,7 @@
 // Names: the entries of directories, and what becomes of a file whose names change.
 ghost use mathlib.Core.Path.{_≡_};
-ghost use mathlib.Core.List.{[], _∷_};
+ghost use mathlib.Core.List.{List};
+ghost use Prim.Native.Nat.{ℕ};
 ghost use Rattle.rules.specs.Store.{store, applyAll};
 ghost use Rattle.rules.specs.Effects.{nameChanges, unnameChanges, createChanges, linkChanges, unnamedChanges, unlinkChanges, removeChanges};
 use crate::rows::clear_slot;
@@ -19,16 +20,8 @@ use tables::words::put;
 use tables::words::zero_bytes;
 
 // A directory gains a name.
-pub fn add_name(
-    files: &mut [u32],
-    contents: &mut [u8],
-    opens: &mut [u32],
-    processes: &mut [u32],
-    name: &[u8],
-    s: Slot,
-    d: DirChange,
-)
-    ensures { λ _. ⌜ store (now (files .exit)) (now (contents .exit)) (now (opens .exit)) (now (processes .exit)) ≡ applyAll (nameChanges (now (name .entry)) s d) (store (now (files .entry)) (now (contents .entry)) (now (opens .entry)) (now (processes .entry))) ⌝ }
+fn add_name(files: &mut [u32], contents: &mut [u8], name: &[u8], s: Slot, d: DirChange)
+    ensures { λ _. ⌜ ((E P : List ℕ) → store (now (files .exit)) (now (contents .exit)) E P ≡ applyAll (nameChanges (now (name .entry)) s d) (store (now (files .entry)) (now (contents .entry)) E P)) ⌝ }
 {
     let dir = d.dir;
     put_dirent(contents, dir, d.dirent, name, s);
@@ -36,14 +29,8 @@ pub fn add_name(
 }
 
 // A directory loses a name.
-pub fn remove_name(
-    files: &mut [u32],
-    contents: &mut [u8],
-    opens: &mut [u32],
-    processes: &mut [u32],
-    d: DirChange,
-)
-    ensures { λ _. ⌜ store (now (files .exit)) (now (contents .exit)) (now (opens .exit)) (now (processes .exit)) ≡ applyAll (unnameChanges d) (store (now (files .entry)) (now (contents .entry)) (now (opens .entry)) (now (processes .entry))) ⌝ }
+fn remove_name(files: &mut [u32], contents: &mut [u8], d: DirChange)
+    ensures { λ _. ⌜ ((E P : List ℕ) → store (now (files .exit)) (now (contents .exit)) E P ≡ applyAll (unnameChanges d) (store (now (files .entry)) (now (contents .entry)) E P)) ⌝ }
 {
     let dir = d.dir;
     zero_bytes(
@@ -68,7 +55,7 @@ pub fn create_file(
     ensures { λ _. ⌜ store (now (files .exit)) (now (contents .exit)) (now (opens .exit)) (now (processes .exit)) ≡ applyAll (createChanges (now (name .entry)) d s r) (store (now (files .entry)) (now (contents .entry)) (now (opens .entry)) (now (processes .entry))) ⌝ }
 {
     put_record(files, s, r);
-    add_name(files, contents, opens, processes, name, s, d);
+    add_name(files, contents, name, s, d);
 }
 
 // One name more for a file.
@@ -85,25 +72,19 @@ pub fn link_file(
     ensures { λ _. ⌜ store (now (files .exit)) (now (contents .exit)) (now (opens .exit)) (now (processes .exit)) ≡ applyAll (linkChanges (now (name .entry)) d s links) (store (now (files .entry)) (now (contents .entry)) (now (opens .entry)) (now (processes .entry))) ⌝ }
 {
     put(files, FILE * (s.0 as usize) + LINKS, links);
-    add_name(files, contents, opens, processes, name, s, d);
+    add_name(files, contents, name, s, d);
 }
 
 // A plain file has one name less, or is freed.
-pub fn lose_name(
-    files: &mut [u32],
-    contents: &mut [u8],
-    opens: &mut [u32],
-    processes: &mut [u32],
-    u: Unnamed,
-)
-    ensures { λ _. ⌜ store (now (files .exit)) (now (contents .exit)) (now (opens .exit)) (now (processes .exit)) ≡ applyAll (unnamedChanges u) (store (now (files .entry)) (now (contents .entry)) (now (opens .entry)) (now (processes .entry))) ⌝ }
+fn lose_name(files: &mut [u32], contents: &mut [u8], u: Unnamed)
+    ensures { λ _. ⌜ ((E P : List ℕ) → store (now (files .exit)) (now (contents .exit)) E P ≡ applyAll (unnamedChanges u) (store (now (files .entry)) (now (contents .entry)) E P)) ⌝ }
 {
     match u {
         Unnamed::Kept(s, links) => {
             put(files, FILE * (s.0 as usize) + LINKS, links);
         }
         Unnamed::Freed(s, r) => {
-            clear_slot(files, contents, opens, processes, s, r);
+            clear_slot(files, contents, s, r);
         }
     }
 }
@@ -118,8 +99,8 @@ pub fn unlink_file(
 )
     ensures { λ _. ⌜ store (now (files .exit)) (now (contents .exit)) (now (opens .exit)) (now (processes .exit)) ≡ applyAll (unlinkChanges d u) (store (now (files .entry)) (now (contents .entry)) (now (opens .entry)) (now (processes .entry))) ⌝ }
 {
-    remove_name(files, contents, opens, processes, d);
-    lose_name(files, contents, opens, processes, u);
+    remove_name(files, contents, d);
+    lose_name(files, contents, u);
 }
 
 pub fn remove_directory(
@@ -133,6 +114,6 @@ pub fn remove_directory(
 )
     ensures { λ _. ⌜ store (now (files .exit)) (now (contents .exit)) (now (opens .exit)) (now (processes .exit)) ≡ applyAll (removeChanges d s r) (store (now (files .entry)) (now (contents .entry)) (now (opens .entry)) (now (processes .entry))) ⌝ }
 {
-    remove_name(files, contents, opens, processes, d);
-    clear_slot(files, contents, opens, processes, s, r);
+    remove_name(files, contents, d);
+    clear_slot(files, contents, s, r);
 }

@@ -1,6 +1,7 @@
 // Open files, and the descriptors that hold them.
 ghost use mathlib.Core.Path.{_≡_};
-ghost use mathlib.Core.List.{[], _∷_};
+ghost use mathlib.Core.List.{List, [], _∷_};
+ghost use Prim.Native.Nat.{ℕ};
 ghost use Rattle.rules.specs.Layout.{OFFSET};
 ghost use Rattle.rules.specs.Store.{store, openWord, applyAll};
 ghost use Rattle.rules.specs.Effects.{openChanges, truncateChanges, releaseChanges, closeChanges, duplicateChanges, shareChanges};
@@ -51,18 +52,12 @@ pub fn open_truncated(
 {
     let s = n.slot;
     open_file(files, contents, opens, processes, p, n);
-    clear_slot(files, contents, opens, processes, s, r);
+    clear_slot(files, contents, s, r);
 }
 
 // An open file loses a reference; with the last one it goes, and a file without a name goes with it.
-pub fn release_open(
-    files: &mut [u32],
-    contents: &mut [u8],
-    opens: &mut [u32],
-    processes: &mut [u32],
-    r: Release,
-)
-    ensures { λ _. ⌜ store (now (files .exit)) (now (contents .exit)) (now (opens .exit)) (now (processes .exit)) ≡ applyAll (releaseChanges r) (store (now (files .entry)) (now (contents .entry)) (now (opens .entry)) (now (processes .entry))) ⌝ }
+fn release_open(files: &mut [u32], contents: &mut [u8], opens: &mut [u32], r: Release)
+    ensures { λ _. ⌜ ((P : List ℕ) → store (now (files .exit)) (now (contents .exit)) (now (opens .exit)) P ≡ applyAll (releaseChanges r) (store (now (files .entry)) (now (contents .entry)) (now (opens .entry)) P)) ⌝ }
 {
     match r {
         Release::Nothing => {}
@@ -74,7 +69,7 @@ pub fn release_open(
         }
         Release::Freed(e, s, record) => {
             zero_words(opens, OPEN * (e as usize) + 0, OPEN);
-            clear_slot(files, contents, opens, processes, s, record);
+            clear_slot(files, contents, s, record);
         }
     }
 }
@@ -91,7 +86,7 @@ pub fn close_descriptor(
     ensures { λ _. ⌜ store (now (files .exit)) (now (contents .exit)) (now (opens .exit)) (now (processes .exit)) ≡ applyAll (closeChanges p i r) (store (now (files .entry)) (now (contents .entry)) (now (opens .entry)) (now (processes .entry))) ⌝ }
 {
     put_descriptor(processes, p, i, 0);
-    release_open(files, contents, opens, processes, r);
+    release_open(files, contents, opens, r);
 }
 
 pub fn duplicate_descriptor(

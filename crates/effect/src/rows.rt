@@ -1,7 +1,7 @@
 // Whole rows of the tables, and places that several calls write.
 ghost use mathlib.Core.Path.{_≡_};
-ghost use mathlib.Core.List.{[], _∷_};
-ghost use Prim.Native.Nat.{_+_, _*_, _%_};
+ghost use mathlib.Core.List.{List, [], _∷_};
+ghost use Prim.Native.Nat.{ℕ, _+_, _*_, _%_};
 ghost use lib.ListN.{set};
 ghost use lib.Seq.{sets};
 ghost use Rattle.rules.specs.Layout.{FILE, LENGTH, VERSION, BLOCK, DIRENT, NAME, OPEN, PROCESS, OWN};
@@ -52,15 +52,8 @@ pub fn put_record(files: &mut [u32], s: Slot, r: Record)
 }
 
 // A slot's record, and all its bytes 0.
-pub fn clear_slot(
-    files: &mut [u32],
-    contents: &mut [u8],
-    opens: &mut [u32],
-    processes: &mut [u32],
-    s: Slot,
-    r: Record,
-)
-    ensures { λ _. ⌜ store (now (files .exit)) (now (contents .exit)) (now (opens .exit)) (now (processes .exit)) ≡ applyAll (clearTo (s .0) (words r) ∷ []) (store (now (files .entry)) (now (contents .entry)) (now (opens .entry)) (now (processes .entry))) ⌝ }
+pub fn clear_slot(files: &mut [u32], contents: &mut [u8], s: Slot, r: Record)
+    ensures { λ _. ⌜ ((E P : List ℕ) → store (now (files .exit)) (now (contents .exit)) E P ≡ applyAll (clearTo (s .0) (words r) ∷ []) (store (now (files .entry)) (now (contents .entry)) E P)) ⌝ }
 {
     put_record(files, s, r);
     zero_bytes(contents, BLOCK * (s.0 as usize) + 0, BLOCK);

@@ -13,4 +13,4 @@ add-name-spec =
     (λ c κs. tt)
     (λ c. search needs)
     (λ c. search needs)
-    (λ c. rw (c .before .before .put-directory .ensures, c .before .before .before .before .before .before .put-dirent .ensures)))
+    (λ c. λ E P. rw (c .before .before .put-directory .ensures, c .before .before .before .before .before .before .put-dirent .ensures)))

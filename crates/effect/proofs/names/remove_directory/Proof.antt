@@ -1,5 +1,5 @@
 use Rattle.rules.specs.Effects.{removeChanges}
-use Rattle.effect.proofs.Changes.{applyAll-append}
+use Rattle.effect.proofs.Changes.{in-turn}
 use borrow.Author.Needs.{needs}
 use Rattle.effect.proofs.names.remove_directory.Statement.{statement}
 use Rattle.effect.proofs.names.remove_directory.Tie as tie
@@ -13,6 +13,4 @@ remove-directory-spec =
     (λ c κs. tt)
     (λ c. search needs)
     (λ c. search needs)
-    (λ c. search needs)
-    (λ c. search needs)
-    (λ c. rw (applyAll-append, ← c .before .before .before .before .before .before .before .before .before .before .before .before .before .before .before .before .before .before .before .before .before .remove-name .ensures) (c .before .before .before .before .before .before .before .before .clear-slot .ensures)))
+    (λ c. in-turn _ _ _ (c .before .before .before .before .clear-slot .ensures _ _) (c .before .before .before .before .before .before .before .before .before .before .before .remove-name .ensures _ _)))

@@ -18,4 +18,4 @@ remove-name-spec =
     (λ c κs. tt)
     (λ c. search needs)
     (λ c. search needs)
-    (λ c. rw (c .before .before .put-directory .ensures, c .before .before .before .before .before .before .zero-bytes .ensures)))
+    (λ c. λ E P. rw (c .before .before .put-directory .ensures, c .before .before .before .before .before .before .zero-bytes .ensures)))

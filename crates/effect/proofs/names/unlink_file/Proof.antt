@@ -1,5 +1,5 @@
 use Rattle.rules.specs.Effects.{unlinkChanges}
-use Rattle.effect.proofs.Changes.{applyAll-append}
+use Rattle.effect.proofs.Changes.{in-turn}
 use borrow.Author.Needs.{needs}
 use Rattle.effect.proofs.names.unlink_file.Statement.{statement}
 use Rattle.effect.proofs.names.unlink_file.Tie as tie
@@ -13,6 +13,4 @@ unlink-file-spec =
     (λ c κs. tt)
     (λ c. search needs)
     (λ c. search needs)
-    (λ c. search needs)
-    (λ c. search needs)
-    (λ c. rw (applyAll-append, ← c .before .before .before .before .before .before .before .before .before .before .before .before .before .before .before .before .before .before .before .before .before .remove-name .ensures) (c .before .before .before .before .before .before .before .before .lose-name .ensures)))
+    (λ c. in-turn _ _ _ (c .before .before .before .before .lose-name .ensures _ _) (c .before .before .before .before .before .before .before .before .before .before .before .remove-name .ensures _ _)))

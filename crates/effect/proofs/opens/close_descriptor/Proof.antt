@@ -1,11 +1,11 @@
-use Rattle.rules.specs.Store.{applyAll}
 use Rattle.rules.specs.Effects.{closeChanges}
+use Rattle.effect.proofs.Changes.{after-change}
 use borrow.Author.Needs.{needs}
 use Rattle.effect.proofs.opens.close_descriptor.Statement.{statement}
 use Rattle.effect.proofs.opens.close_descriptor.Tie as tie
 
 pub close-descriptor-spec : {M : Type 1} → statement M
-unfolding applyAll closeChanges
+unfolding closeChanges
 close-descriptor-spec =
     tie.close
     (tie.spec
@@ -15,4 +15,4 @@ close-descriptor-spec =
     (λ c. search needs)
     (λ c. search needs)
     (λ c. search needs)
-    (λ c. rw (c .before .before .before .before .before .before .before .before .before .before .before .before .before .before .before .put-descriptor .ensures) at (c .before .before .before .before .before .before .before .before .release-open .ensures)))
+    (λ c. after-change _ _ _ (c .before .before .before .before .before .before .release-open .ensures _) (rw (c .before .before .before .before .before .before .before .before .before .before .before .before .put-descriptor .ensures))))

@@ -1,5 +1,5 @@
 use Rattle.rules.specs.Effects.{truncateChanges}
-use Rattle.effect.proofs.Changes.{applyAll-append}
+use Rattle.effect.proofs.Changes.{in-turn}
 use borrow.Author.Needs.{needs}
 use Rattle.effect.proofs.opens.open_truncated.Statement.{statement}
 use Rattle.effect.proofs.opens.open_truncated.Tie as tie
@@ -15,4 +15,4 @@ open-truncated-spec =
     (λ c. search needs)
     (λ c. search needs)
     (λ c. search needs)
-    (λ c. rw (applyAll-append, ← c .before .before .before .before .before .before .before .before .before .before .before .before .before .before .before .before .before .before .before .before .before .open-file .ensures) (c .before .before .before .before .before .before .before .before .clear-slot .ensures)))
+    (λ c. in-turn _ _ _ (c .before .before .before .before .clear-slot .ensures _ _) (c .before .before .before .before .before .before .before .before .before .before .before .before .before .before .before .open-file .ensures)))

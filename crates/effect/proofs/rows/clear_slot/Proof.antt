@@ -15,4 +15,4 @@ clear-slot-spec =
     (λ c κs. tt)
     (λ c. search needs)
     (λ c. search needs)
-    (λ c. rw (c .before .before .zero-bytes .ensures, c .before .before .before .before .before .before .before .put-record .ensures)))
+    (λ c. λ E P. rw (c .before .before .zero-bytes .ensures, c .before .before .before .before .before .before .before .put-record .ensures)))
