@@ -5,7 +5,7 @@ ghost use Prim.Native.Nat.{ℕ, _+_, _*_, _%_};
 ghost use lib.ListN.{set};
 ghost use lib.Seq.{sets};
 ghost use Rattle.rules.specs.Layout.{FILE, LENGTH, VERSION, BLOCK, DIRENT, NAME, OPEN, PROCESS, OWN};
-ghost use Rattle.rules.specs.Store.{store, puts, zeros, clearTo, applyAll};
+ghost use Rattle.rules.specs.Store.{store, puts, clearTo, applyAll};
 ghost use Rattle.rules.specs.Directories.{padded, dirent};
 ghost use Rattle.rules.specs.Effects.{words};
 use rules::decision::DirChange;
