@@ -1,0 +1,61 @@
+// A file's bytes and permission bits.
+ghost use mathlib.Core.Path.{_≡_};
+ghost use mathlib.Core.List.{[], _∷_};
+ghost use Prim.Native.Nat.{_+_, _*_};
+ghost use lib.Seq.{sets};
+ghost use Rattle.rules.specs.Layout.{BITS, BLOCK};
+ghost use Rattle.rules.specs.Store.{store, zeros, fileWord, applyAll};
+ghost use Rattle.rules.specs.Effects.{storeChanges};
+use rules::decision::Placement;
+use rules::ids::Slot;
+use rules::rights::Bits;
+use tables::layout::BITS;
+use tables::layout::BLOCK;
+use tables::layout::FILE;
+use tables::layout::LENGTH;
+use tables::layout::OFFSET;
+use tables::layout::OPEN;
+use tables::layout::VERSION;
+use tables::words::copy_bytes;
+use tables::words::put;
+use tables::words::zero_bytes;
+
+// The gap past the file's end is filled with 0, then the bytes are written.
+fn put_bytes(contents: &mut [u8], bytes: &[u8], w: Placement)
+    ensures { λ _. ⌜ now (contents .exit) ≡ sets (sets (now (contents .entry)) (BLOCK * (w .slot .0) + w .end) (zeros (w .gap))) (BLOCK * (w .slot .0) + w .at) (now (bytes .entry)) ⌝ }
+{
+    let s = w.slot;
+    let block = BLOCK * (s.0 as usize);
+    zero_bytes(contents, block + (w.end as usize), w.gap as usize);
+    copy_bytes(contents, block + (w.at as usize), bytes);
+}
+
+pub fn write_bytes(
+    files: &mut [u32],
+    contents: &mut [u8],
+    opens: &mut [u32],
+    processes: &mut [u32],
+    bytes: &[u8],
+    w: Placement,
+)
+    ensures { λ _. ⌜ store (now (files .exit)) (now (contents .exit)) (now (opens .exit)) (now (processes .exit)) ≡ applyAll (storeChanges (now (bytes .entry)) w) (store (now (files .entry)) (now (contents .entry)) (now (opens .entry)) (now (processes .entry))) ⌝ }
+{
+    let s = w.slot;
+    put_bytes(contents, bytes, w);
+    put(files, FILE * (s.0 as usize) + LENGTH, w.length);
+    put(files, FILE * (s.0 as usize) + VERSION, w.version);
+    put(opens, OPEN * (w.ofd as usize) + OFFSET, w.offset);
+}
+
+pub fn change_bits(
+    files: &mut [u32],
+    contents: &mut [u8],
+    opens: &mut [u32],
+    processes: &mut [u32],
+    s: Slot,
+    bits: Bits,
+)
+    ensures { λ _. ⌜ store (now (files .exit)) (now (contents .exit)) (now (opens .exit)) (now (processes .exit)) ≡ applyAll (fileWord (s .0) BITS (bits .0) ∷ []) (store (now (files .entry)) (now (contents .entry)) (now (opens .entry)) (now (processes .entry))) ⌝ }
+{
+    put(files, FILE * (s.0 as usize) + BITS, bits.0);
+}

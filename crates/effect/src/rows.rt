@@ -1,0 +1,121 @@
+// Whole rows of the tables, and places that several calls write.
+ghost use mathlib.Core.Path.{_≡_};
+ghost use mathlib.Core.List.{List, [], _∷_};
+ghost use Prim.Native.Nat.{ℕ, _+_, _*_, _%_};
+ghost use lib.ListN.{set};
+ghost use lib.Seq.{sets};
+ghost use Rattle.rules.specs.Layout.{FILE, LENGTH, VERSION, BLOCK, DIRENT, NAME, OPEN, PROCESS, OWN};
+ghost use Rattle.rules.specs.Store.{store, puts, clearTo, applyAll};
+ghost use Rattle.rules.specs.Directories.{padded, dirent};
+ghost use Rattle.rules.specs.Effects.{words};
+use rules::decision::DirChange;
+use rules::decision::Record;
+use rules::ids::Fd;
+use rules::ids::Pid;
+use rules::ids::Slot;
+use rules::rights::OpenMode;
+use tables::layout::BITS;
+use tables::layout::BLOCK;
+use tables::layout::DIRENT;
+use tables::layout::FILE;
+use tables::layout::KIND;
+use tables::layout::LABEL;
+use tables::layout::LENGTH;
+use tables::layout::LINKS;
+use tables::layout::MODE;
+use tables::layout::NAME;
+use tables::layout::OFFSET;
+use tables::layout::OPEN;
+use tables::layout::OWN;
+use tables::layout::OWNER;
+use tables::layout::PROCESS;
+use tables::layout::REFERENCES;
+use tables::layout::SLOT;
+use tables::layout::VERSION;
+use tables::words::byte;
+use tables::words::put;
+use tables::words::put_byte;
+use tables::words::zero_bytes;
+
+// A slot's record.
+pub fn put_record(files: &mut [u32], s: Slot, r: Record)
+    ensures { λ _. ⌜ now (files .exit) ≡ puts FILE (now (files .entry)) (s .0) 0 (words r) ⌝ }
+{
+    let at = FILE * (s.0 as usize);
+    put(files, at + KIND, r.kind);
+    put(files, at + OWNER, r.owner);
+    put(files, at + BITS, r.bits);
+    put(files, at + LABEL, r.label);
+    put(files, at + LENGTH, r.length);
+    put(files, at + LINKS, r.links);
+    put(files, at + VERSION, r.version);
+}
+
+// A slot's record, and all its bytes 0.
+pub fn clear_slot(files: &mut [u32], contents: &mut [u8], s: Slot, r: Record)
+    ensures { λ _. ⌜ ((E P : List ℕ) → store (now (files .exit)) (now (contents .exit)) E P ≡ applyAll (clearTo (s .0) (words r) ∷ []) (store (now (files .entry)) (now (contents .entry)) E P)) ⌝ }
+{
+    put_record(files, s, r);
+    zero_bytes(contents, BLOCK * (s.0 as usize) + 0, BLOCK);
+}
+
+// The length and version of a directory whose names change.
+pub fn put_directory(files: &mut [u32], d: DirChange)
+    ensures { λ _. ⌜ now (files .exit) ≡ set (set (now (files .entry)) (FILE * (d .dir .0) + LENGTH) (d .length)) (FILE * (d .dir .0) + VERSION) (d .version) ⌝ }
+{
+    let dir = d.dir;
+    let at = FILE * (dir.0 as usize);
+    put(files, at + LENGTH, d.length);
+    put(files, at + VERSION, d.version);
+}
+
+// An open file at offset 0 that one descriptor holds.
+pub fn put_open(opens: &mut [u32], e: u32, s: Slot, mode: OpenMode)
+    ensures { λ _. ⌜ now (opens .exit) ≡ puts OPEN (now (opens .entry)) e 0 (s .0 ∷ mode .0 ∷ 0 ∷ 1 ∷ []) ⌝ }
+{
+    let at = OPEN * (e as usize);
+    put(opens, at + SLOT, s.0);
+    put(opens, at + MODE, mode.0);
+    put(opens, at + OFFSET, 0);
+    put(opens, at + REFERENCES, 1);
+}
+
+// What a descriptor holds.
+pub fn put_descriptor(processes: &mut [u32], p: Pid, i: Fd, x: u32)
+    ensures { λ _. ⌜ now (processes .exit) ≡ set (now (processes .entry)) (PROCESS * (p .0) + (OWN + (i .0))) x ⌝ }
+{
+    put(
+        processes,
+        PROCESS * (p.0 as usize) + (OWN + (i.0 as usize)),
+        x,
+    );
+}
+
+// The name into entry i of directory d, padded to 14 bytes with 0.
+fn put_name(contents: &mut [u8], d: Slot, i: u32, name: &[u8])
+    ensures { λ _. ⌜ now (contents .exit) ≡ sets (now (contents .entry)) (BLOCK * (d .0) + DIRENT * i) (padded NAME (now (name .entry))) ⌝ }
+{
+    let at = BLOCK * (d.0 as usize) + DIRENT * (i as usize);
+    let mut k = 0;
+    while k < NAME {
+        put_byte(contents, at + k, byte(name, k));
+        k += 1;
+    }
+}
+
+// A slot as a byte of a directory entry.
+fn slot_byte(s: Slot) -> u8
+    ensures { λ r. ⌜ r ≡ s .0 % 256 ⌝ }
+{
+    (s.0 % 256) as u8
+}
+
+// Entry i of directory d: the name, the slot, 0.
+pub fn put_dirent(contents: &mut [u8], d: Slot, i: u32, name: &[u8], s: Slot)
+    ensures { λ _. ⌜ now (contents .exit) ≡ sets (now (contents .entry)) (BLOCK * (d .0) + DIRENT * i) (dirent (now (name .entry)) s) ⌝ }
+{
+    let at = BLOCK * (d.0 as usize) + DIRENT * (i as usize);
+    put_name(contents, d, i, name);
+    put_byte(contents, at + NAME, slot_byte(s));
+    put_byte(contents, at + (NAME + 1), 0);
+}
