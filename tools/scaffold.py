@@ -1,6 +1,7 @@
 #!/usr/bin/env python3
 """Run `rt dev NAME` and write each proof file that it offers and that is not there yet.
-usage, in the repository's root: scaffold.py NAME [--auto]
+usage, in the repository's root: scaffold.py NAME [--auto] [--log=FILE] [--no-simp]
+--log reads what an earlier `RT_CUT=0 rt dev NAME` printed; --no-simp leaves matches as they are, to be filled by hand.
 --auto writes the short form of a function without a loop and not in a cycle: every answer inline in `tie.spec`; at a `returns` that the
 check leaves open `search steps` where the function's body has an `if`, else `cc`; under `unfolding SPEC`, SPEC being the head of the
 function's `ensures { λ r. ⌜ r ≡ SPEC .. ⌝ }`. Where it has a `match` or more than three `if`s: `simp` with the facts on the way (paths.py).
@@ -11,8 +12,12 @@ auto = '--auto' in sys.argv
 root = os.getcwd()
 here = os.path.dirname(os.path.abspath(__file__))
 env = dict(os.environ, RT_CUT='0')
-out = subprocess.run(['rt', 'dev', name], capture_output=True, text=True, env=env, cwd=root)
-lines = (out.stdout + out.stderr).split('\n')
+log = next((a[6:] for a in sys.argv if a.startswith('--log=')), None)
+if log:
+    lines = open(log).read().split('\n')
+else:
+    out = subprocess.run(['rt', 'dev', name], capture_output=True, text=True, env=env, cwd=root)
+    lines = (out.stdout + out.stderr).split('\n')
 src = '\n'.join(open(f).read() for f in glob.glob(f'{root}/crates/{name}/src/*.rt'))
 specs = '\n'.join(open(f).read() for f in glob.glob(f'{root}/crates/*/specs/*.antt'))
 ghost = {}
@@ -100,6 +105,6 @@ for l in lines:
     if (l.startswith(('fn ', 'logic=', 'error')) and not l.endswith(': proved')) or ': error' in l:
         print(l[:200])
 # a match, or more than three branches: `simp` with the facts by their paths, in the place of `cc` or `search steps`
-for fn in again:
+for fn in [] if '--no-simp' in sys.argv else again:
     subprocess.run([here + '/simp.py', name, fn])
     print('simp', fn)

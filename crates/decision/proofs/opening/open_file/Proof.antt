@@ -1,0 +1,18 @@
+use Rattle.rules.specs.DecidePaths.{openFile}
+use Rattle.rules.proofs.Choices.{steps}
+use Rattle.decision.proofs.opening.open_file.Statement.{statement}
+use Rattle.decision.proofs.opening.open_file.Tie as tie
+
+pub open-file-spec : {M : Type 1} → statement M
+unfolding openFile
+open-file-spec =
+    tie.close
+    (tie.spec
+    (λ c κs. tt)
+    (λ c. search steps)
+    (λ c κs. tt)
+    (λ c. search steps)
+    (λ c κs. tt)
+    (λ c. search steps)
+    (λ c κs. tt)
+    (λ c. search steps))
