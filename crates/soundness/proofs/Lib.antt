@@ -1,0 +1,4 @@
+-- Laws of the loops of this crate, and that what is counted is what the rules count.
+pub mod Climbs
+pub mod Flags
+pub mod Folds

@@ -1,0 +1,12 @@
+use borrow.Author.Needs.{needs}
+use Rattle.soundness.proofs.census.count_descriptor.Statement.{statement}
+use Rattle.soundness.proofs.census.count_descriptor.Tie as tie
+
+pub count-descriptor-spec : {M : Type 1} → statement M
+count-descriptor-spec =
+    tie.close
+    (tie.spec
+    (λ c κs. tt)
+    (λ c κs. tt)
+    (λ c. search needs)
+    (λ c. cc))

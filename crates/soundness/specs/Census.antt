@@ -1,0 +1,45 @@
+-- One pass over the entries of all directories counts the links of every slot and finds its parent; one over the descriptors counts the holders of
+-- every open file. A pass goes from the last to the first, so that the lowest directory is the last to claim a slot.
+use Prim.Native.Nat.{ℕ, zero, suc, _+_}
+use mathlib.Core.Bool.{Bool, true, false, cond}
+use mathlib.Core.List.{List, [], _∷_}
+use lib.ListN.{getD, set, replicate}
+use Rattle.rules.specs.Scan.{fold}
+use Rattle.rules.specs.Layout.{SLOTS, DIRENTS, OPENS, PROCESSES, DESCRIPTORS}
+use Rattle.rules.specs.Store.{Tree, slot, up}
+use Rattle.rules.specs.Directories.{direntSlot}
+use Rattle.rules.specs.Walk.{isDirectory}
+
+-- one more at k; nothing where there is no place k
+abbrev pub counted : ℕ → List ℕ → List ℕ
+counted k L = set L k (up (getD L k 0))
+
+unfoldable pub entryCounted : List ℕ → ℕ → List ℕ → List ℕ
+entryCounted D i L = counted (direntSlot D i) L
+
+unfoldable pub slotCounted : Tree → ℕ → List ℕ → List ℕ
+slotCounted t d L = cond (isDirectory t (slot d)) (fold (entryCounted (t .shown d)) 0 DIRENTS L) L
+
+-- directory d claims the slot that its entry i names
+unfoldable pub entryClaimed : List ℕ → ℕ → ℕ → List ℕ → List ℕ
+entryClaimed D d i P = set P (direntSlot D i) d
+
+unfoldable pub slotClaimed : Tree → ℕ → List ℕ → List ℕ
+slotClaimed t d P = cond (isDirectory t (slot d)) (fold (entryClaimed (t .shown d) d) 0 DIRENTS P) P
+
+-- the links of slots 0 to 64: the way up from a directory that nothing names leads to 64
+abbrev pub links : Tree → List ℕ
+links t = fold (slotCounted t) 0 SLOTS (replicate 65 0)
+
+abbrev pub parents : Tree → List ℕ
+parents t = fold (slotClaimed t) 0 SLOTS (replicate 65 64)
+
+-- what descriptor i of process p holds: 0 nothing, e + 1 open file e
+unfoldable pub descCounted : (ℕ → ℕ → ℕ) → ℕ → ℕ → List ℕ → List ℕ
+descCounted desc p i H = counted (desc p i) H
+
+unfoldable pub procCounted : (ℕ → ℕ → ℕ) → ℕ → List ℕ → List ℕ
+procCounted desc p H = fold (descCounted desc p) 0 DESCRIPTORS H
+
+abbrev pub held : (ℕ → ℕ → ℕ) → List ℕ
+held desc = fold (procCounted desc) 0 PROCESSES (replicate 33 0)
