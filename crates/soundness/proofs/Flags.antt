@@ -41,7 +41,7 @@ zero-from (suc k) xs i e = rw (drop-cons xs i 0 inside) (by (eqb (getD xs i 0) 0
     inside = omega arith
 
     by : (b : Bool) → isPadding xs i ≡ b → all (isPadding xs) (i + 1) (length xs) ≡ allZero (drop (i + 1) xs)
-      → all (isPadding xs) i (length xs) ≡ cond b (allZero (drop (suc i) xs)) false
+        → all (isPadding xs) i (length xs) ≡ cond b (allZero (drop (suc i) xs)) false
     by true q rest = sym (all-yes (isPadding xs) i (length xs) refl inside q refl) ∙ rest ∙ rw add-one refl
     by false q rest = sym (all-no (isPadding xs) i (length xs) refl inside q refl)
 

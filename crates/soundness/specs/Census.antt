@@ -27,12 +27,18 @@ entryClaimed D d i P = set P (direntSlot D i) d
 unfoldable pub slotClaimed : Tree → ℕ → List ℕ → List ℕ
 slotClaimed t d P = cond (isDirectory t (slot d)) (fold (entryClaimed (t .shown d) d) 0 DIRENTS P) P
 
--- the links of slots 0 to 64: the way up from a directory that nothing names leads to 64
+-- Slots 0 to 64: the way up from a directory that nothing names leads to 64.
+abbrev pub noLinks : List ℕ
+noLinks = replicate 65 0
+
+abbrev pub noParents : List ℕ
+noParents = replicate 65 64
+
 abbrev pub links : Tree → List ℕ
-links t = fold (slotCounted t) 0 SLOTS (replicate 65 0)
+links t = fold (slotCounted t) 0 SLOTS noLinks
 
 abbrev pub parents : Tree → List ℕ
-parents t = fold (slotClaimed t) 0 SLOTS (replicate 65 64)
+parents t = fold (slotClaimed t) 0 SLOTS noParents
 
 -- what descriptor i of process p holds: 0 nothing, e + 1 open file e
 unfoldable pub descCounted : (ℕ → ℕ → ℕ) → ℕ → ℕ → List ℕ → List ℕ
@@ -41,5 +47,8 @@ descCounted desc p i H = counted (desc p i) H
 unfoldable pub procCounted : (ℕ → ℕ → ℕ) → ℕ → List ℕ → List ℕ
 procCounted desc p H = fold (descCounted desc p) 0 DESCRIPTORS H
 
+abbrev pub noHolders : List ℕ
+noHolders = replicate 33 0
+
 abbrev pub held : (ℕ → ℕ → ℕ) → List ℕ
-held desc = fold (procCounted desc) 0 PROCESSES (replicate 33 0)
+held desc = fold (procCounted desc) 0 PROCESSES noHolders

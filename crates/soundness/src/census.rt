@@ -1,7 +1,7 @@
 // Everything that must be counted, counted once: a pass over the entries of all directories, and one over the descriptors.
 ghost use mathlib.Core.Path.{_≡_};
 ghost use Rattle.rules.specs.Scan.{fold};
-ghost use Rattle.rules.specs.Store.{tree, descOf};
+ghost use Rattle.rules.specs.Store.{tree, shownOf, descOf};
 ghost use Rattle.soundness.specs.Census.{counted, entryCounted, slotCounted, entryClaimed, slotClaimed, descCounted, procCounted};
 use rules::ids::Fd;
 use rules::ids::Pid;
@@ -43,13 +43,19 @@ fn count_directory(links: &mut [u32], parents: &mut [u32], dir: &[u8], d: u32)
     }
 }
 
+fn count_shown(files: &[u32], contents: &[u8], links: &mut [u32], parents: &mut [u32], d: u32)
+    ensures { λ _. ⌜ (now (links .exit) ≡ fold (entryCounted (shownOf (now (files .entry)) (now (contents .entry)) d)) 0 16 (now (links .entry))) × (now (parents .exit) ≡ fold (entryClaimed (shownOf (now (files .entry)) (now (contents .entry)) d) d) 0 16 (now (parents .entry))) ⌝ }
+{
+    count_directory(links, parents, shown(files, contents, Slot(d)), d);
+}
+
 fn count_slot(files: &[u32], contents: &[u8], links: &mut [u32], parents: &mut [u32], d: u32)
     ensures { λ _. ⌜ (now (links .exit) ≡ slotCounted (tree (now (files .entry)) (now (contents .entry))) d (now (links .entry))) × (now (parents .exit) ≡ slotClaimed (tree (now (files .entry)) (now (contents .entry))) d (now (parents .entry))) ⌝ }
 {
     if !is_directory(files, Slot(d)) {
         return;
     }
-    count_directory(links, parents, shown(files, contents, Slot(d)), d);
+    count_shown(files, contents, links, parents, d);
 }
 
 // From the last directory to the first: the lowest is the last to claim a slot.

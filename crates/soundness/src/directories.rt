@@ -20,7 +20,6 @@ use tables::directories::dirent_slot;
 use tables::directories::is_empty;
 use tables::directories::is_padding;
 use tables::files::is_free;
-use tables::layout::DIRENT;
 use tables::layout::DIRENTS;
 use tables::layout::NAME;
 use tables::layout::SLOTS;
@@ -29,6 +28,9 @@ use tables::names::same_name;
 use tables::parts::after;
 
 const SLASH: u8 = 47;
+
+// The bytes of all entries.
+const ENTRIES: usize = 256;
 
 // Byte k is the last of a name, or 0 follows it.
 fn ends(name: &[u8], k: u32) -> bool
@@ -265,7 +267,7 @@ fn counts_right(dir: &[u8], n: u32) -> bool
 fn rest_zero(dir: &[u8]) -> bool
     ensures { λ r. ⌜ r ≡ allZero (drop 256 (now (dir .entry))) ⌝ }
 {
-    all_zero(after(dir, (DIRENTS as usize) * DIRENT))
+    all_zero(after(dir, ENTRIES))
 }
 
 // n is the directory's length.

@@ -2,8 +2,8 @@
 mod bytes;
 mod census;
 mod directories;
-mod files;
 mod fields;
+mod files;
 mod opens;
 pub mod policy;
 mod processes;

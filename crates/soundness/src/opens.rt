@@ -73,7 +73,11 @@ pub fn is_open(opens: &[u32], s: u32) -> bool
 fn references_right(opens: &[u32], held: &[u32], e: u32) -> bool
     ensures { λ r. ⌜ r ≡ eqb (tab OPEN (now (opens .entry)) e REFERENCES) (getD (now (held .entry)) (e + 1) 0) ⌝ }
 {
-    is_word(opens, OPEN * (e as usize) + REFERENCES, get(held, (e as usize) + 1))
+    is_word(
+        opens,
+        OPEN * (e as usize) + REFERENCES,
+        get(held, (e as usize) + 1),
+    )
 }
 
 fn open_free(opens: &[u32], e: u32) -> bool
@@ -134,7 +138,14 @@ fn referred_sound(files: &[u32], contents: &[u8], opens: &[u32], processes: &[u3
     open_used(files, contents, opens, processes, e)
 }
 
-fn open_sound(files: &[u32], contents: &[u8], opens: &[u32], processes: &[u32], held: &[u32], e: u32) -> bool
+fn open_sound(
+    files: &[u32],
+    contents: &[u8],
+    opens: &[u32],
+    processes: &[u32],
+    held: &[u32],
+    e: u32,
+) -> bool
     ensures { λ r. ⌜ r ≡ openSoundBy (view (store (now (files .entry)) (now (contents .entry)) (now (opens .entry)) (now (processes .entry)))) (now (held .entry)) e ⌝ }
 {
     if !references_right(opens, held, e) {
@@ -143,7 +154,13 @@ fn open_sound(files: &[u32], contents: &[u8], opens: &[u32], processes: &[u32], 
     referred_sound(files, contents, opens, processes, e)
 }
 
-fn all_opens_sound(files: &[u32], contents: &[u8], opens: &[u32], processes: &[u32], held: &[u32]) -> bool
+fn all_opens_sound(
+    files: &[u32],
+    contents: &[u8],
+    opens: &[u32],
+    processes: &[u32],
+    held: &[u32],
+) -> bool
     ensures { λ r. ⌜ r ≡ all (openSoundBy (view (store (now (files .entry)) (now (contents .entry)) (now (opens .entry)) (now (processes .entry)))) (now (held .entry))) 0 32 ⌝ }
 {
     let mut e = 0;

@@ -57,7 +57,14 @@ fn plain_sound(files: &[u32], contents: &[u8], opens: &[u32], processes: &[u32],
     shown_zero(files, contents, s)
 }
 
-fn kind_sound(files: &[u32], contents: &[u8], opens: &[u32], processes: &[u32], parents: &[u32], s: u32) -> bool
+fn kind_sound(
+    files: &[u32],
+    contents: &[u8],
+    opens: &[u32],
+    processes: &[u32],
+    parents: &[u32],
+    s: u32,
+) -> bool
     ensures { λ r. ⌜ r ≡ kindSoundBy (view (store (now (files .entry)) (now (contents .entry)) (now (opens .entry)) (now (processes .entry)))) (now (parents .entry)) s ⌝ }
 {
     if is_directory(files, Slot(s)) {
@@ -69,7 +76,15 @@ fn kind_sound(files: &[u32], contents: &[u8], opens: &[u32], processes: &[u32], 
     shown_zero(files, contents, s)
 }
 
-fn slot_sound(files: &[u32], contents: &[u8], opens: &[u32], processes: &[u32], links: &[u32], parents: &[u32], s: u32) -> bool
+fn slot_sound(
+    files: &[u32],
+    contents: &[u8],
+    opens: &[u32],
+    processes: &[u32],
+    links: &[u32],
+    parents: &[u32],
+    s: u32,
+) -> bool
     ensures { λ r. ⌜ r ≡ slotSoundBy (view (store (now (files .entry)) (now (contents .entry)) (now (opens .entry)) (now (processes .entry)))) (now (links .entry)) (now (parents .entry)) s ⌝ }
 {
     if !record_sound(files, contents, s) {
@@ -81,7 +96,14 @@ fn slot_sound(files: &[u32], contents: &[u8], opens: &[u32], processes: &[u32], 
     kind_sound(files, contents, opens, processes, parents, s)
 }
 
-fn all_slots_sound(files: &[u32], contents: &[u8], opens: &[u32], processes: &[u32], links: &[u32], parents: &[u32]) -> bool
+fn all_slots_sound(
+    files: &[u32],
+    contents: &[u8],
+    opens: &[u32],
+    processes: &[u32],
+    links: &[u32],
+    parents: &[u32],
+) -> bool
     ensures { λ r. ⌜ r ≡ all (slotSoundBy (view (store (now (files .entry)) (now (contents .entry)) (now (opens .entry)) (now (processes .entry)))) (now (links .entry)) (now (parents .entry))) 0 64 ⌝ }
 {
     let mut s = 0;

@@ -60,7 +60,13 @@ pub fn store_sound(files: &[u32], contents: &[u8], opens: &[u32], processes: &[u
     false
 }
 
-pub fn sound(files: &[u32], contents: &[u8], opens: &[u32], processes: &[u32], policy: &[u8]) -> bool
+pub fn sound(
+    files: &[u32],
+    contents: &[u8],
+    opens: &[u32],
+    processes: &[u32],
+    policy: &[u8],
+) -> bool
     ensures { λ r. ⌜ r ≡ sound (now (policy .entry)) (store (now (files .entry)) (now (contents .entry)) (now (opens .entry)) (now (processes .entry))) ⌝ }
 {
     if !policy_sound(policy) {

@@ -34,6 +34,12 @@ pub fn links_sound(files: &[u32], contents: &[u8], links: &[u32], s: u32) -> boo
     links_right(files, links, s)
 }
 
+fn parent_of(parents: &[u32], d: u32) -> u32
+    ensures { λ r. ⌜ r ≡ getD (now (parents .entry)) d 0 ⌝ }
+{
+    get(parents, d as usize)
+}
+
 fn climbs(parents: &[u32], n: u8, d: u32) -> bool
     ensures { λ r. ⌜ r ≡ climbsBy (now (parents .entry)) n d ⌝ }
 {
@@ -43,7 +49,7 @@ fn climbs(parents: &[u32], n: u8, d: u32) -> bool
         if at == 0 {
             return true;
         }
-        at = get(parents, at as usize);
+        at = parent_of(parents, at);
         left -= 1;
     }
     at == 0
@@ -62,7 +68,12 @@ fn named_once(files: &[u32], d: u32) -> bool
 fn shown_sound(files: &[u32], contents: &[u8], d: u32) -> bool
     ensures { λ r. ⌜ r ≡ direntsSound (tree (now (files .entry)) (now (contents .entry))) (shownOf (now (files .entry)) (now (contents .entry)) d) (tab FILE (now (files .entry)) d LENGTH) ⌝ }
 {
-    dirents_sound(files, contents, shown(files, contents, Slot(d)), length(files, Slot(d)))
+    dirents_sound(
+        files,
+        contents,
+        shown(files, contents, Slot(d)),
+        length(files, Slot(d)),
+    )
 }
 
 pub fn directory_sound(files: &[u32], contents: &[u8], parents: &[u32], d: u32) -> bool

@@ -12,7 +12,6 @@ count-slot-spec =
     (λ c κs. tt)
     (λ c. (search steps, search steps))
     (λ c κs. tt)
-    (λ c κs. tt)
     (λ c. search needs)
     (λ c. search needs)
     (λ c. (search steps, search steps)))

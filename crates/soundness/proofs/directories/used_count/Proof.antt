@@ -26,7 +26,8 @@ used-count-spec =
     (λ c. search needs)
     (λ c. search needs)
     (λ c. search needs)
-    (λ c.
-    (⊎-elim (λ w. omega arith) (λ w. omega arith) (c .if1 .came),
-    ⊎-elim (λ w. cc (count-yes _ _ _ _ (c .loop .inv .1) (c .loop-test .taken) (w .0 .taken) (c .is-used .ensures))) (λ w. cc (count-no _ _ _ _ (c .loop .inv .1) (c .loop-test .taken) (w .0 .left) (c .is-used .ensures))) (c .if1 .came)))
+    (λ c. (
+      ⊎-elim (λ w. omega arith) (λ w. omega arith) (c .if1 .came),
+      ⊎-elim (λ w. cc (count-yes _ _ _ _ (c .before .before .before .loop .inv .1) (c .before .before .loop-test .taken) (w .0 .taken) (c .before .is-used .ensures))) (λ w. cc (count-no _ _ _ _ (c .before .before .before .loop .inv .1) (c .before .before .loop-test .taken) (w .0 .left) (c .before .is-used .ensures))) (c .if1 .came),
+    ))
     (λ c. search count-done))

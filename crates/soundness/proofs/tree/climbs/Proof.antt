@@ -19,8 +19,7 @@ climbs-spec =
     μ-loop
     (λ c. refl)
     (λ c. search climb-top)
-    (λ c. search needs)
-    (λ c κs. search needs)
+    (λ c κs. tt)
     (λ c. search needs)
     (λ c. search needs)
     (λ c. search climb-on)

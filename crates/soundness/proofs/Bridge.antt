@@ -1,0 +1,62 @@
+-- The tests with what was counted are the rules' tests.
+use mathlib.Core.Path.{_≡_, refl, _∙_, sym, ap}
+use mathlib.Core.Bool.{Bool, true, false, cond}
+use mathlib.Core.List.{List, [], _∷_}
+use Prim.Native.Nat.{ℕ, zero, suc, _+_, _-_, _≤_, _<_}
+use native.Mathlib.Omega.{arith}
+use lib.Dec.{eqb}
+use lib.ListN.{getD}
+use Rattle.rules.specs.Choice.{every, some}
+use Rattle.rules.specs.Scan.{all}
+use Rattle.rules.specs.Layout.{SLOTS, NAMES, OPENS}
+use Rattle.rules.specs.Store.{Tree, View, slot}
+use Rattle.rules.specs.Sound.{linksTo, linksSound, isParent, parentOf, climbs, directorySound, kindSound, slotSound, holders, openSound}
+use Rattle.rules.proofs.Scans.{all-yes, all-no, all-done}
+use Rattle.soundness.specs.Census.{links, parents, held}
+use Rattle.soundness.specs.Counted.{linksSoundBy, climbsBy, directorySoundBy, kindSoundBy, slotSoundBy, openSoundBy}
+use Rattle.soundness.proofs.Counting.{first-le}
+use Rattle.soundness.proofs.Counts.{links-at, parents-at, held-at}
+
+-- two tests that agree on each number agree on all
+all-same-from : (p q : ℕ → Bool) (k i n : ℕ) → n - i ≡ k → ((j : ℕ) → j < n → p j ≡ q j) → all p i n ≡ all q i n
+all-same-from p q zero i n e h =
+    let a : n ≤ i = omega arith in
+    sym (all-done p i n refl a) ∙ all-done q i n refl a
+all-same-from p q (suc k) i n e h = by (q i) refl (all-same-from p q k (i + 1) n (omega arith) h)
+  where
+    inside : i < n
+    inside = omega arith
+
+    by : (b : Bool) → q i ≡ b → all p (i + 1) n ≡ all q (i + 1) n → all p i n ≡ all q i n
+    by true c rest = sym (all-yes p i n refl inside (h i inside ∙ c) refl) ∙ rest ∙ all-yes q i n refl inside c refl
+    by false c rest = sym (all-no p i n refl inside (h i inside ∙ c) refl) ∙ all-no q i n refl inside c refl
+
+all-same : (p q : ℕ → Bool) (n : ℕ) → ((j : ℕ) → j < n → p j ≡ q j) → all p 0 n ≡ all q 0 n
+all-same p q n h = all-same-from p q (n - 0) 0 n refl h
+
+climbs-by : (t : Tree) (n d : ℕ) → d < 65 → climbsBy (parents t) n d ≡ climbs t n d
+unfolding climbsBy climbs
+climbs-by t zero d h = refl
+climbs-by t (suc n) d h =
+    let b : parentOf t d ≤ 64 = first-le (isParent t d) SLOTS in
+    rw (parents-at t d h, climbs-by t n (parentOf t d) (omega arith))
+
+slot-by : (v : View) (s : ℕ) → s < 64 → slotSoundBy v (links (v .tree)) (parents (v .tree)) s ≡ slotSound v s
+unfolding slotSoundBy slotSound linksSoundBy linksSound kindSoundBy kindSound directorySoundBy directorySound
+slot-by v s h =
+    let l : getD (links (v .tree)) s 0 ≡ linksTo (v .tree) s = links-at (v .tree) s (omega arith) in
+    let c : climbsBy (parents (v .tree)) NAMES s ≡ climbs (v .tree) NAMES s = climbs-by (v .tree) NAMES s (omega arith) in
+    rw (l, c)
+
+pub slots-by : (v : View) (L P : List ℕ) (r : Bool) → L ≡ links (v .tree) → P ≡ parents (v .tree) → r ≡ all (slotSoundBy v L P) 0 SLOTS → r ≡ all (slotSound v) 0 SLOTS
+slots-by v L P r a b e =
+    rw (a, b) at e ∙ all-same (slotSoundBy v (links (v .tree)) (parents (v .tree))) (slotSound v) SLOTS (slot-by v)
+
+open-by : (v : View) (e : ℕ) → e < 32 → openSoundBy v (held (v .desc)) e ≡ openSound v e
+unfolding openSoundBy openSound
+open-by v e h =
+    let l : getD (held (v .desc)) (e + 1) 0 ≡ holders (v .desc) e = held-at (v .desc) e (omega arith) in
+    rw l
+
+pub opens-by : (v : View) (H : List ℕ) (r : Bool) → H ≡ held (v .desc) → r ≡ all (openSoundBy v H) 0 OPENS → r ≡ all (openSound v) 0 OPENS
+opens-by v H r a e = rw a at e ∙ all-same (openSoundBy v (held (v .desc))) (openSound v) OPENS (open-by v)
