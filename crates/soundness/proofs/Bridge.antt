@@ -10,10 +10,11 @@ use Rattle.rules.specs.Choice.{every, some}
 use Rattle.rules.specs.Scan.{all}
 use Rattle.rules.specs.Layout.{SLOTS, NAMES, OPENS}
 use Rattle.rules.specs.Store.{Tree, View, slot}
-use Rattle.rules.specs.Sound.{linksTo, linksSound, isParent, parentOf, climbs, directorySound, kindSound, slotSound, holders, openSound}
-use Rattle.rules.proofs.Scans.{all-yes, all-no, all-done}
+use Rattle.rules.specs.Directories.{isEmpty}
+use Rattle.rules.specs.Sound.{differs, isNew, linksTo, linksSound, isParent, parentOf, climbs, directorySound, kindSound, slotSound, holders, openSound}
+use Rattle.rules.proofs.Scans.{all-yes, all-no, all-done, all-of}
 use Rattle.soundness.specs.Census.{links, parents, held}
-use Rattle.soundness.specs.Counted.{linksSoundBy, climbsBy, directorySoundBy, kindSoundBy, slotSoundBy, openSoundBy}
+use Rattle.soundness.specs.Counted.{otherThan, linksSoundBy, climbsBy, directorySoundBy, kindSoundBy, slotSoundBy, openSoundBy}
 use Rattle.soundness.proofs.Counting.{first-le}
 use Rattle.soundness.proofs.Counts.{links-at, parents-at, held-at}
 
@@ -31,7 +32,7 @@ all-same-from p q (suc k) i n e h = by (q i) refl (all-same-from p q k (i + 1) n
     by true c rest = sym (all-yes p i n refl inside (h i inside ∙ c) refl) ∙ rest ∙ all-yes q i n refl inside c refl
     by false c rest = sym (all-no p i n refl inside (h i inside ∙ c) refl) ∙ all-no q i n refl inside c refl
 
-all-same : (p q : ℕ → Bool) (n : ℕ) → ((j : ℕ) → j < n → p j ≡ q j) → all p 0 n ≡ all q 0 n
+pub all-same : (p q : ℕ → Bool) (n : ℕ) → ((j : ℕ) → j < n → p j ≡ q j) → all p 0 n ≡ all q 0 n
 all-same p q n h = all-same-from p q (n - 0) 0 n refl h
 
 climbs-by : (t : Tree) (n d : ℕ) → d < 65 → climbsBy (parents t) n d ≡ climbs t n d
@@ -60,3 +61,13 @@ open-by v e h =
 
 pub opens-by : (v : View) (H : List ℕ) (r : Bool) → H ≡ held (v .desc) → r ≡ all (openSoundBy v H) 0 OPENS → r ≡ all (openSound v) 0 OPENS
 opens-by v H r a e = rw a at e ∙ all-same (openSoundBy v (held (v .desc))) (openSound v) OPENS (open-by v)
+
+-- ---- an entry with no name, and one that has a name
+
+pub empty-new : (D : List ℕ) (i : ℕ) (r : Bool) → r ≡ isEmpty D i → r ≡ true → true ≡ isNew D i
+unfolding isNew differs some
+empty-new D i r q e = sym (all-of (differs D i) 0 i (λ j a b. rw (sym q ∙ e)))
+
+pub named-new : (D : List ℕ) (i : ℕ) (r z : Bool) → r ≡ isEmpty D i → r ≡ false → z ≡ all (otherThan D i) 0 i → z ≡ isNew D i
+unfolding isNew differs otherThan some
+named-new D i r z q e v = v ∙ all-same (otherThan D i) (differs D i) i (λ j a. rw (sym q ∙ e))

@@ -1,14 +1,20 @@
 -- The rules' tests of a slot and of an open file, with the counted links L, parents P and holders H.
 use Prim.Native.Nat.{ℕ, zero, suc, _+_}
-use mathlib.Core.Bool.{Bool, true, false, cond}
+use mathlib.Core.Bool.{Bool, true, false, cond, not}
 use mathlib.Core.List.{List, [], _∷_}
 use lib.Dec.{eqb}
 use lib.ListN.{getD}
 use Rattle.rules.specs.Choice.{every, some}
 use Rattle.rules.specs.Layout.{NAMES, LENGTH, LINKS, REFERENCES}
 use Rattle.rules.specs.Store.{Tree, View, slot}
+use Rattle.rules.specs.Paths.{sameName}
+use Rattle.rules.specs.Directories.{direntAt, isEmpty}
 use Rattle.rules.specs.Walk.{isDirectory, isPlain}
 use Rattle.rules.specs.Sound.{recordSound, direntsSound, plainSound, allZero, openFree, openUsed}
+
+-- entry j is empty or has another name than entry i, which is not empty
+unfoldable pub otherThan : List ℕ → ℕ → ℕ → Bool
+otherThan D i j = some (isEmpty D j ∷ not (sameName (direntAt D i) (direntAt D j)) ∷ [])
 
 unfoldable pub linksSoundBy : Tree → List ℕ → ℕ → Bool
 linksSoundBy t L s = cond (eqb s 0) (eqb (t .file s LINKS) 0) (eqb (t .file s LINKS) (getD L s 0))

@@ -11,7 +11,8 @@ ghost use Rattle.rules.specs.Layout.{NAME, SLASH, FILE, KIND, FREE};
 ghost use Rattle.rules.specs.Store.{tab, tree};
 ghost use Rattle.rules.specs.Paths.{sameName, isDots};
 ghost use Rattle.rules.specs.Directories.{direntAt, direntSlot, isEmpty, isPadding};
-ghost use Rattle.rules.specs.Sound.{allZero, nameByteSound, nameSound, usedSound, direntSound, differs, isNew, isUsed, direntsSound};
+ghost use Rattle.rules.specs.Sound.{allZero, nameByteSound, nameSound, usedSound, direntSound, isNew, isUsed, direntsSound};
+ghost use Rattle.soundness.specs.Counted.{otherThan};
 use crate::bytes::all_zero;
 use crate::fields::is_byte;
 use rules::ids::Slot;
@@ -197,30 +198,38 @@ fn other_name(dir: &[u8], i: u32, j: u32) -> bool
     !same_name(dirent_at(dir, i), dirent_at(dir, j))
 }
 
-fn differs(dir: &[u8], i: u32, j: u32) -> bool
-    ensures { λ r. ⌜ r ≡ differs (now (dir .entry)) i j ⌝ }
+// Entry j is empty or has another name than entry i.
+fn other_than(dir: &[u8], i: u32, j: u32) -> bool
+    ensures { λ r. ⌜ r ≡ otherThan (now (dir .entry)) i j ⌝ }
 {
-    if is_empty(dir, i) {
-        return true;
-    }
     if is_empty(dir, j) {
         return true;
     }
     other_name(dir, i, j)
 }
 
-fn is_new(dir: &[u8], i: u32) -> bool
-    ensures { λ r. ⌜ r ≡ isNew (now (dir .entry)) i ⌝ }
+fn name_new(dir: &[u8], i: u32) -> bool
+    ensures { λ r. ⌜ r ≡ all (otherThan (now (dir .entry)) i) 0 i ⌝ }
 {
     let mut j = 0;
     while j < i {
-        if differs(dir, i, j) {
+        if other_than(dir, i, j) {
             j += 1;
         } else {
             return false;
         }
     }
     true
+}
+
+// An empty entry differs from all.
+fn is_new(dir: &[u8], i: u32) -> bool
+    ensures { λ r. ⌜ r ≡ isNew (now (dir .entry)) i ⌝ }
+{
+    if is_empty(dir, i) {
+        return true;
+    }
+    name_new(dir, i)
 }
 
 fn all_new(dir: &[u8]) -> bool

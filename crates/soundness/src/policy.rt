@@ -3,6 +3,7 @@ ghost use mathlib.Core.Path.{_≡_};
 ghost use Rattle.rules.specs.Scan.{all};
 ghost use Rattle.rules.specs.Layout.{RIGHTS};
 ghost use Rattle.rules.specs.Sound.{rightSound, transitionSound, policySound};
+use crate::bytes::both;
 use crate::fields::byte_at_most;
 use crate::fields::is_byte;
 use tables::layout::RIGHTS;
@@ -24,32 +25,29 @@ fn transition_sound(policy: &[u8], i: usize) -> bool
     is_byte(policy, i, 255)
 }
 
+// No exit before the end, as in all_zero.
 fn rights_sound(policy: &[u8]) -> bool
     ensures { λ r. ⌜ r ≡ all (rightSound (now (policy .entry))) 0 256 ⌝ }
 {
+    let mut fine = true;
     let mut i = 0;
     while i < RIGHTS {
-        if right_sound(policy, i) {
-            i += 1;
-        } else {
-            return false;
-        }
+        fine = both(fine, right_sound(policy, i));
+        i += 1;
     }
-    true
+    fine
 }
 
 fn transitions_sound(policy: &[u8]) -> bool
     ensures { λ r. ⌜ r ≡ all (transitionSound (now (policy .entry))) 256 512 ⌝ }
 {
+    let mut fine = true;
     let mut i = RIGHTS;
     while i < POLICY {
-        if transition_sound(policy, i) {
-            i += 1;
-        } else {
-            return false;
-        }
+        fine = both(fine, transition_sound(policy, i));
+        i += 1;
     }
-    true
+    fine
 }
 
 pub fn policy_sound(policy: &[u8]) -> bool
