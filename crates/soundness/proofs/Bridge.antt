@@ -4,11 +4,12 @@ use mathlib.Core.Bool.{Bool, true, false, cond}
 use mathlib.Core.List.{List, [], _∷_}
 use Prim.Native.Nat.{ℕ, zero, suc, _+_, _-_, _≤_, _<_}
 use native.Mathlib.Omega.{arith}
+use borrow.Author.Tests.{eqb-false}
 use lib.Dec.{eqb}
 use lib.ListN.{getD}
 use Rattle.rules.specs.Choice.{every, some}
 use Rattle.rules.specs.Scan.{all}
-use Rattle.rules.specs.Layout.{SLOTS, NAMES, OPENS}
+use Rattle.rules.specs.Layout.{SLOTS, NAMES, OPENS, LINKS}
 use Rattle.rules.specs.Store.{Tree, View, slot}
 use Rattle.rules.specs.Directories.{isEmpty}
 use Rattle.rules.specs.Sound.{differs, isNew, linksTo, linksSound, isParent, parentOf, climbs, directorySound, kindSound, slotSound, holders, openSound}
@@ -38,16 +39,29 @@ all-same p q n h = all-same-from p q (n - 0) 0 n refl h
 climbs-by : (t : Tree) (n d : ℕ) → d < 65 → climbsBy (parents t) n d ≡ climbs t n d
 unfolding climbsBy climbs
 climbs-by t zero d h = refl
-climbs-by t (suc n) d h =
-    let b : parentOf t d ≤ 64 = first-le (isParent t d) SLOTS in
-    rw (parents-at t d h, climbs-by t n (parentOf t d) (omega arith))
+climbs-by t (suc n) d h = by (eqb d 0) refl (λ o. rw (parents-at t d o h) (climbs-by t n (parentOf t d) below))
+  where
+    below : parentOf t d < 65
+    below = let b : parentOf t d ≤ 64 = first-le (isParent t d) SLOTS in omega arith
+
+    by : (b : Bool) → eqb d 0 ≡ b → ((d ≡ 0 → ⊥) → climbsBy (parents t) n (getD (parents t) d 0) ≡ climbs t n (parentOf t d))
+        → cond b true (climbsBy (parents t) n (getD (parents t) d 0)) ≡ cond b true (climbs t n (parentOf t d))
+    by true q up = refl
+    by false q up = up (eqb-false d 0 q)
+
+links-by : (t : Tree) (s : ℕ) → s < 64 → linksSoundBy t (links t) s ≡ linksSound t s
+unfolding linksSoundBy linksSound
+links-by t s h = by (eqb s 0) refl
+  where
+    by : (b : Bool) → eqb s 0 ≡ b → cond b (eqb (t .file s LINKS) 0) (eqb (t .file s LINKS) (getD (links t) s 0)) ≡ cond b (eqb (t .file s LINKS) 0) (eqb (t .file s LINKS) (linksTo t s))
+    by true q = refl
+    by false q = rw (links-at t s (eqb-false s 0 q) (omega arith))
 
 slot-by : (v : View) (s : ℕ) → s < 64 → slotSoundBy v (links (v .tree)) (parents (v .tree)) s ≡ slotSound v s
-unfolding slotSoundBy slotSound linksSoundBy linksSound kindSoundBy kindSound directorySoundBy directorySound
+unfolding slotSoundBy slotSound kindSoundBy kindSound directorySoundBy directorySound
 slot-by v s h =
-    let l : getD (links (v .tree)) s 0 ≡ linksTo (v .tree) s = links-at (v .tree) s (omega arith) in
     let c : climbsBy (parents (v .tree)) NAMES s ≡ climbs (v .tree) NAMES s = climbs-by (v .tree) NAMES s (omega arith) in
-    rw (l, c)
+    rw (links-by (v .tree) s h, c)
 
 pub slots-by : (v : View) (L P : List ℕ) (r : Bool) → L ≡ links (v .tree) → P ≡ parents (v .tree) → r ≡ all (slotSoundBy v L P) 0 SLOTS → r ≡ all (slotSound v) 0 SLOTS
 slots-by v L P r a b e =

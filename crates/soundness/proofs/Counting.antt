@@ -5,7 +5,7 @@ use mathlib.Core.List.{List, [], _∷_}
 use Prim.Native.Nat.{ℕ, zero, suc, _+_, _-_, _*_, _%_, _^_, _≤_, _<_}
 use native.Mathlib.Nat.{mod-eq-of-lt}
 use native.Mathlib.Omega.{arith}
-use borrow.Author.Tests.{eqb-true, eqb-false}
+use borrow.Author.Tests.{eqb-true, eqb-false, ne-eqb}
 use lib.Dec.{eqb}
 use lib.ListN.{length, getD, set, length-set}
 use lib.Seq.{getD-set-same, getD-set-other}
@@ -82,16 +82,30 @@ module _ (f : ℕ → List ℕ → List ℕ) (keeps : (i : ℕ) (L : List ℕ) �
   length-fold i n L = length-from (n - i) i n refl L
 
 -- one more at k, seen at s
-pub counted-at : (L : List ℕ) (k s : ℕ) → s < length L → k ≡ s → getD (counted k L) s 0 ≡ up (getD L s 0)
-counted-at L k s h e = rw e (getD-set-same L s (up (getD L s 0)) 0 h)
+pub counted-keeps : (k : ℕ) (L : List ℕ) → length (counted k L) ≡ length L
+unfolding counted
+counted-keeps k L = by (eqb k 0)
+  where
+    by : (b : Bool) → length (cond b L (set L k (up (getD L k 0)))) ≡ length L
+    by true = refl
+    by false = length-set L k (up (getD L k 0))
 
-pub counted-other : (L : List ℕ) (k s : ℕ) → (k ≡ s → ⊥) → getD (counted k L) s 0 ≡ getD L s 0
-counted-other L k s h = getD-set-other L k s (up (getD L k 0)) 0 (λ e. h (sym e))
+counted-at : (L : List ℕ) (k s : ℕ) → (s ≡ 0 → ⊥) → s < length L → k ≡ s → getD (counted k L) s 0 ≡ up (getD L s 0)
+unfolding counted
+counted-at L k s o h e = rw (e, ne-eqb s 0 o) (getD-set-same L s (up (getD L s 0)) 0 h)
+
+counted-other : (L : List ℕ) (k s : ℕ) → (k ≡ s → ⊥) → getD (counted k L) s 0 ≡ getD L s 0
+unfolding counted
+counted-other L k s h = by (eqb k 0)
+  where
+    by : (b : Bool) → getD (cond b L (set L k (up (getD L k 0)))) s 0 ≡ getD L s 0
+    by true = refl
+    by false = getD-set-other L k s (up (getD L k 0)) 0 (λ e. h (sym e))
 
 -- each step counts its key: at s are as many more as keys are s
-module _ (f : ℕ → List ℕ → List ℕ) (key : ℕ → ℕ) (does : (i : ℕ) (L : List ℕ) → f i L ≡ counted (key i) L) (p : ℕ → Bool) (s : ℕ) (tells : (i : ℕ) → p i ≡ eqb (key i) s) where
+module _ (f : ℕ → List ℕ → List ℕ) (key : ℕ → ℕ) (does : (i : ℕ) (L : List ℕ) → f i L ≡ counted (key i) L) (p : ℕ → Bool) (s : ℕ) (some : s ≡ 0 → ⊥) (tells : (i : ℕ) → p i ≡ eqb (key i) s) where
   keeps : (i : ℕ) (L : List ℕ) → length (f i L) ≡ length L
-  keeps i L = rw (does i L) (length-set L (key i) (up (getD L (key i) 0)))
+  keeps i L = rw (does i L) (counted-keeps (key i) L)
 
   counts-from : (k i n : ℕ) → n - i ≡ k → (L : List ℕ) → s < length L → getD L s 0 + (n - i) < 2 ^ 32 → getD (fold f i n L) s 0 ≡ count p i n + getD L s 0
   counts-from zero i n e L h b =
@@ -114,7 +128,7 @@ module _ (f : ℕ → List ℕ → List ℕ) (key : ℕ → ℕ) (does : (i : �
       by true q ih le =
           let c : 0 + 1 + count p (i + 1) n ≡ 0 + count p i n = count-yes p i n 0 refl inside (tells i ∙ q) refl in
           let u : up (getD M s 0) ≡ getD M s 0 + 1 = up-one (getD M s 0) (omega arith) in
-          let a : getD (counted (key i) M) s 0 ≡ up (getD M s 0) = counted-at M (key i) s long (eqb-true (key i) s q) in
+          let a : getD (counted (key i) M) s 0 ≡ up (getD M s 0) = counted-at M (key i) s some long (eqb-true (key i) s q) in
           omega arith
       by false q ih le =
           let c : 0 + count p (i + 1) n ≡ 0 + count p i n = count-no p i n 0 refl inside (tells i ∙ q) refl in

@@ -5,7 +5,7 @@ use mathlib.Core.List.{List, [], _∷_}
 use Prim.Native.Nat.{ℕ, zero, suc, _+_, _-_, _*_, _^_, _≤_, _<_}
 use native.Mathlib.Omega.{arith}
 use native.Mathlib.Nat.{add-zero}
-use borrow.Author.Tests.{eqb-true, eqb-false}
+use borrow.Author.Tests.{eqb-true, eqb-false, ne-eqb}
 use lib.Dec.{eqb}
 use lib.ListN.{length, getD, set, replicate, length-set, length-replicate, getD-replicate}
 use lib.Seq.{getD-set-same, getD-set-other}
@@ -17,13 +17,13 @@ use Rattle.rules.specs.Directories.{direntSlot}
 use Rattle.rules.specs.Walk.{isDirectory}
 use Rattle.rules.specs.Sound.{linksAt, linksFrom, linksTo, isParent, parentOf, holdsAt, holdersIn, holders}
 use Rattle.rules.proofs.Scans.{any-yes, any-no, any-done, first-yes, first-no, first-done}
-use Rattle.soundness.specs.Census.{counted, entryCounted, slotCounted, entryClaimed, slotClaimed, descCounted, procCounted, noLinks, noParents, noHolders, links, parents, held}
+use Rattle.soundness.specs.Census.{counted, claimed, entryCounted, slotCounted, entryClaimed, slotClaimed, descCounted, procCounted, noLinks, noParents, noHolders, links, parents, held}
 use Rattle.soundness.proofs.Folds.{fold-in, fold-out}
 use Rattle.soundness.proofs.Counting.{count-le, first-le, length-fold, counts, counts-keep, totals}
 
 -- ---- links
 
-module _ (t : Tree) (s : ℕ) where
+module _ (t : Tree) (s : ℕ) (some : s ≡ 0 → ⊥) where
   entry-does : (D : List ℕ) (i : ℕ) (L : List ℕ) → entryCounted D i L ≡ counted (direntSlot D i) L
   unfolding entryCounted
   entry-does D i L = refl
@@ -37,7 +37,7 @@ module _ (t : Tree) (s : ℕ) where
   slot-keeps d L = by (isDirectory t (slot d))
     where
       by : (b : Bool) → length (cond b (fold (entryCounted (t .shown d)) 0 DIRENTS L) L) ≡ length L
-      by true = counts-keep (entryCounted (t .shown d)) (direntSlot (t .shown d)) (entry-does (t .shown d)) (linksAt (t .shown d) s) s (entry-tells (t .shown d)) 0 DIRENTS L
+      by true = counts-keep (entryCounted (t .shown d)) (direntSlot (t .shown d)) (entry-does (t .shown d)) (linksAt (t .shown d) s) s some (entry-tells (t .shown d)) 0 DIRENTS L
       by false = refl
 
   slot-adds : (d : ℕ) (L : List ℕ) → s < length L → getD L s 0 + 16 < 2 ^ 32 → getD (slotCounted t d L) s 0 ≡ linksFrom t s d + getD L s 0
@@ -45,7 +45,7 @@ module _ (t : Tree) (s : ℕ) where
   slot-adds d L h b = by (isDirectory t (slot d))
     where
       by : (q : Bool) → getD (cond q (fold (entryCounted (t .shown d)) 0 DIRENTS L) L) s 0 ≡ cond q (count (linksAt (t .shown d) s) 0 DIRENTS) 0 + getD L s 0
-      by true = counts (entryCounted (t .shown d)) (direntSlot (t .shown d)) (entry-does (t .shown d)) (linksAt (t .shown d) s) s (entry-tells (t .shown d)) DIRENTS L h b
+      by true = counts (entryCounted (t .shown d)) (direntSlot (t .shown d)) (entry-does (t .shown d)) (linksAt (t .shown d) s) s some (entry-tells (t .shown d)) DIRENTS L h b
       by false = omega arith
 
   slot-small : (d : ℕ) → linksFrom t s d ≤ 16
@@ -67,11 +67,27 @@ module _ (t : Tree) (s : ℕ) where
 
 -- ---- parents
 
-module _ (s : ℕ) where
-  claim-keeps : (D : List ℕ) (d i : ℕ) (P : List ℕ) → length (entryClaimed D d i P) ≡ length P
-  unfolding entryClaimed
-  claim-keeps D d i P = length-set P (direntSlot D i) d
+claim-keeps : (D : List ℕ) (d i : ℕ) (P : List ℕ) → length (entryClaimed D d i P) ≡ length P
+unfolding entryClaimed claimed
+claim-keeps D d i P = by (eqb (direntSlot D i) 0)
+  where
+    by : (b : Bool) → length (cond b P (set P (direntSlot D i) d)) ≡ length P
+    by true = refl
+    by false = length-set P (direntSlot D i) d
 
+claimed-at : (P : List ℕ) (k s d : ℕ) → (s ≡ 0 → ⊥) → s < length P → k ≡ s → getD (claimed k d P) s 0 ≡ d
+unfolding claimed
+claimed-at P k s d o h e = rw (e, ne-eqb s 0 o) (getD-set-same P s d 0 h)
+
+claimed-other : (P : List ℕ) (k s d : ℕ) → (k ≡ s → ⊥) → getD (claimed k d P) s 0 ≡ getD P s 0
+unfolding claimed
+claimed-other P k s d h = by (eqb k 0)
+  where
+    by : (b : Bool) → getD (cond b P (set P k d)) s 0 ≡ getD P s 0
+    by true = refl
+    by false = getD-set-other P k s d 0 (λ e. h (sym e))
+
+module _ (s : ℕ) (some : s ≡ 0 → ⊥) where
   claims-from : (D : List ℕ) (d k i n : ℕ) → n - i ≡ k → (P : List ℕ) → s < length P
       → getD (fold (entryClaimed D d) i n P) s 0 ≡ cond (any (linksAt D s) i n) d (getD P s 0)
   unfolding linksAt entryClaimed
@@ -91,27 +107,27 @@ module _ (s : ℕ) where
       long = rw (length-fold (entryClaimed D d) (claim-keeps D d) (i + 1) n P) h
 
       by : (b : Bool) → eqb (direntSlot D i) s ≡ b → getD M s 0 ≡ cond (any (linksAt D s) (i + 1) n) d (getD P s 0)
-          → getD (set M (direntSlot D i) d) s 0 ≡ cond (any (linksAt D s) i n) d (getD P s 0)
+          → getD (claimed (direntSlot D i) d M) s 0 ≡ cond (any (linksAt D s) i n) d (getD P s 0)
       by true q ih =
           let c : true ≡ any (linksAt D s) i n = any-yes (linksAt D s) i n refl inside q refl in
-          rw (← c, eqb-true (direntSlot D i) s q) (getD-set-same M s d 0 long)
+          rw (← c) (claimed-at M (direntSlot D i) s d some long (eqb-true (direntSlot D i) s q))
       by false q ih =
           let c : any (linksAt D s) (i + 1) n ≡ any (linksAt D s) i n = any-no (linksAt D s) i n refl inside q refl in
-          rw (← c) (getD-set-other M (direntSlot D i) s d 0 (λ x. eqb-false (direntSlot D i) s q (sym x)) ∙ ih)
+          rw (← c) (claimed-other M (direntSlot D i) s d (eqb-false (direntSlot D i) s q) ∙ ih)
 
-module _ (t : Tree) (s : ℕ) where
+module _ (t : Tree) (s : ℕ) (some : s ≡ 0 → ⊥) where
   slot-claim-keeps : (d : ℕ) (P : List ℕ) → length (slotClaimed t d P) ≡ length P
   unfolding slotClaimed
   slot-claim-keeps d P = by (isDirectory t (slot d))
     where
       by : (b : Bool) → length (cond b (fold (entryClaimed (t .shown d) d) 0 DIRENTS P) P) ≡ length P
-      by true = length-fold (entryClaimed (t .shown d) d) (claim-keeps s (t .shown d) d) 0 DIRENTS P
+      by true = length-fold (entryClaimed (t .shown d) d) (claim-keeps (t .shown d) d) 0 DIRENTS P
       by false = refl
 
   -- directory d claims s where it names s
   slot-claims : (d : ℕ) (P : List ℕ) → s < length P → getD (slotClaimed t d P) s 0 ≡ cond (isParent t s d) d (getD P s 0)
   unfolding slotClaimed isParent every
-  slot-claims d P h = by (isDirectory t (slot d)) (any (linksAt (t .shown d) s) 0 DIRENTS) (claims-from s (t .shown d) d (DIRENTS - 0) 0 DIRENTS refl P h)
+  slot-claims d P h = by (isDirectory t (slot d)) (any (linksAt (t .shown d) s) 0 DIRENTS) (claims-from s some (t .shown d) d (DIRENTS - 0) 0 DIRENTS refl P h)
     where
       by : (b a : Bool) → getD (fold (entryClaimed (t .shown d) d) 0 DIRENTS P) s 0 ≡ cond a d (getD P s 0)
           → getD (cond b (fold (entryClaimed (t .shown d) d) 0 DIRENTS P) P) s 0 ≡ cond (cond b (cond a true false) false) d (getD P s 0)
@@ -157,11 +173,11 @@ module _ (desc : ℕ → ℕ → ℕ) (e : ℕ) where
 
   proc-keeps : (p : ℕ) (H : List ℕ) → length (procCounted desc p H) ≡ length H
   unfolding procCounted
-  proc-keeps p H = counts-keep (descCounted desc p) (desc p) (desc-does p) (holdsAt desc e p) (e + 1) (desc-tells p) 0 DESCRIPTORS H
+  proc-keeps p H = counts-keep (descCounted desc p) (desc p) (desc-does p) (holdsAt desc e p) (e + 1) (λ x. omega arith) (desc-tells p) 0 DESCRIPTORS H
 
   proc-adds : (p : ℕ) (H : List ℕ) → e + 1 < length H → getD H (e + 1) 0 + 16 < 2 ^ 32 → getD (procCounted desc p H) (e + 1) 0 ≡ holdersIn desc e p + getD H (e + 1) 0
   unfolding procCounted holdersIn
-  proc-adds p H h b = counts (descCounted desc p) (desc p) (desc-does p) (holdsAt desc e p) (e + 1) (desc-tells p) DESCRIPTORS H h (omega arith)
+  proc-adds p H h b = counts (descCounted desc p) (desc p) (desc-does p) (holdsAt desc e p) (e + 1) (λ x. omega arith) (desc-tells p) DESCRIPTORS H h (omega arith)
 
   proc-small : (p : ℕ) → holdersIn desc e p ≤ 16
   unfolding holdersIn

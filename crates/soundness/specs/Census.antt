@@ -3,6 +3,7 @@
 use Prim.Native.Nat.{ℕ, zero, suc, _+_}
 use mathlib.Core.Bool.{Bool, true, false, cond}
 use mathlib.Core.List.{List, [], _∷_}
+use lib.Dec.{eqb}
 use lib.ListN.{getD, set, replicate}
 use Rattle.rules.specs.Scan.{fold}
 use Rattle.rules.specs.Layout.{SLOTS, DIRENTS, OPENS, PROCESSES, DESCRIPTORS}
@@ -10,9 +11,13 @@ use Rattle.rules.specs.Store.{Tree, slot, up}
 use Rattle.rules.specs.Directories.{direntSlot}
 use Rattle.rules.specs.Walk.{isDirectory}
 
--- one more at k; nothing where there is no place k
-abbrev pub counted : ℕ → List ℕ → List ℕ
-counted k L = set L k (up (getD L k 0))
+-- One more at k. An empty entry names slot 0, a descriptor that holds nothing is 0: that is not counted.
+unfoldable pub counted : ℕ → List ℕ → List ℕ
+counted k L = cond (eqb k 0) L (set L k (up (getD L k 0)))
+
+-- d stands at k
+unfoldable pub claimed : ℕ → ℕ → List ℕ → List ℕ
+claimed k d P = cond (eqb k 0) P (set P k d)
 
 unfoldable pub entryCounted : List ℕ → ℕ → List ℕ → List ℕ
 entryCounted D i L = counted (direntSlot D i) L
@@ -22,7 +27,7 @@ slotCounted t d L = cond (isDirectory t (slot d)) (fold (entryCounted (t .shown 
 
 -- directory d claims the slot that its entry i names
 unfoldable pub entryClaimed : List ℕ → ℕ → ℕ → List ℕ → List ℕ
-entryClaimed D d i P = set P (direntSlot D i) d
+entryClaimed D d i P = claimed (direntSlot D i) d P
 
 unfoldable pub slotClaimed : Tree → ℕ → List ℕ → List ℕ
 slotClaimed t d P = cond (isDirectory t (slot d)) (fold (entryClaimed (t .shown d) d) 0 DIRENTS P) P

@@ -1,8 +1,9 @@
 // Everything that must be counted, counted once: a pass over the entries of all directories, and one over the descriptors.
 ghost use mathlib.Core.Path.{_≡_};
+ghost use lib.ListN.{getD, set};
 ghost use Rattle.rules.specs.Scan.{fold};
-ghost use Rattle.rules.specs.Store.{tree, shownOf, descOf};
-ghost use Rattle.soundness.specs.Census.{counted, entryCounted, slotCounted, entryClaimed, slotClaimed, descCounted, procCounted};
+ghost use Rattle.rules.specs.Store.{tree, shownOf, descOf, up};
+ghost use Rattle.soundness.specs.Census.{counted, claimed, entryCounted, slotCounted, entryClaimed, slotClaimed, descCounted, procCounted};
 use rules::ids::Fd;
 use rules::ids::Pid;
 use rules::ids::Slot;
@@ -18,10 +19,32 @@ use tables::processes::descriptor;
 use tables::words::get;
 use tables::words::put;
 
+fn raise(counts: &mut [u32], k: u32)
+    ensures { λ _. ⌜ now (counts .exit) ≡ set (now (counts .entry)) k (up (getD (now (counts .entry)) k 0)) ⌝ }
+{
+    put(counts, k as usize, up_one(get(counts, k as usize)));
+}
+
+// One more at k, where k is not 0.
 fn count_one(counts: &mut [u32], k: u32)
     ensures { λ _. ⌜ now (counts .exit) ≡ counted k (now (counts .entry)) ⌝ }
 {
-    put(counts, k as usize, up_one(get(counts, k as usize)));
+    let none = k == 0;
+    if none {
+        return;
+    }
+    raise(counts, k);
+}
+
+// d stands at k, where k is not 0.
+fn claim(parents: &mut [u32], k: u32, d: u32)
+    ensures { λ _. ⌜ now (parents .exit) ≡ claimed k d (now (parents .entry)) ⌝ }
+{
+    let none = k == 0;
+    if none {
+        return;
+    }
+    put(parents, k as usize, d);
 }
 
 // Entry i of directory d.
@@ -30,7 +53,7 @@ fn count_entry(links: &mut [u32], parents: &mut [u32], dir: &[u8], d: u32, i: u3
 {
     let s = dirent_slot(dir, i);
     count_one(links, s);
-    put(parents, s as usize, d);
+    claim(parents, s, d);
 }
 
 fn count_directory(links: &mut [u32], parents: &mut [u32], dir: &[u8], d: u32)
