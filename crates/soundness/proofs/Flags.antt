@@ -5,6 +5,8 @@ use mathlib.Core.List.{List, [], _∷_}
 use Prim.Native.Nat.{ℕ, zero, suc, _+_, _-_, _≤_, _<_}
 use native.Mathlib.Numerals.{add-one}
 use native.Mathlib.Omega.{arith}
+use borrow.Author.Tests.{eqb-true, eqb-false, ne-eqb}
+use lib.Bits.{bitOr, bitAnd, or-add-and, and-le-r}
 use lib.Dec.{eqb}
 use lib.ListN.{length, getD, drop, drop-of-length-le}
 use lib.Seq.{drop-cons}
@@ -47,3 +49,30 @@ zero-from (suc k) xs i e = rw (drop-cons xs i 0 inside) (by (eqb (getD xs i 0) 0
 
 pub zero-all : (xs : List ℕ) → all (isPadding xs) 0 (length xs) ≡ allZero xs
 zero-all xs = zero-from (length xs - 0) xs 0 refl
+
+-- ---- bytes joined by `|`: the result is 0 where each is
+
+or-none : (a b : ℕ) → bitOr a b ≡ 0 → a ≡ 0
+or-none a b e =
+    let s : bitOr a b + bitAnd a b ≡ a + b = or-add-and a b in
+    let l : bitAnd a b ≤ b = and-le-r a b in
+    rest (bitOr a b) (bitAnd a b) e s l
+  where
+    rest : (o n : ℕ) → o ≡ 0 → o + n ≡ a + b → n ≤ b → a ≡ 0
+    rest o n e s l = omega arith
+
+or-zero : (a b : ℕ) → eqb (bitOr a b) 0 ≡ cond (eqb a 0) (eqb b 0) false
+or-zero a b = by (eqb a 0) refl
+  where
+    by : (t : Bool) → eqb a 0 ≡ t → eqb (bitOr a b) 0 ≡ cond t (eqb b 0) false
+    by true q = rw (eqb-true a 0 q)
+    by false q = ne-eqb (bitOr a b) 0 (λ e. eqb-false a 0 q (or-none a b e))
+
+module _ (xs : List ℕ) (i n seen : ℕ) where
+  pub or-next : {z : Bool} → cond (eqb seen 0) (all (isPadding xs) i n) false ≡ z → i < n → (b r : ℕ) → b ≡ getD xs i 0 → r ≡ bitOr seen b
+      → cond (eqb r 0) (all (isPadding xs) (i + 1) n) false ≡ z
+  unfolding isPadding
+  or-next v h b r q e = flag-next (isPadding xs) i n (eqb seen 0) v h (eqb b 0) (eqb r 0) (rw q) (rw (e, or-zero seen b))
+
+  pub or-done : {z : Bool} → cond (eqb seen 0) (all (isPadding xs) i n) false ≡ z → n ≤ i → eqb seen 0 ≡ z
+  or-done v h = flag-done (isPadding xs) i n (eqb seen 0) v h

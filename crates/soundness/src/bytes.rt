@@ -2,7 +2,7 @@
 ghost use mathlib.Core.Path.{_≡_};
 ghost use mathlib.Core.Bool.{cond, false};
 ghost use Rattle.rules.specs.Sound.{allZero};
-use tables::directories::is_padding;
+use tables::words::byte;
 
 // Both tests, with no jump between them.
 pub fn both(a: bool, b: bool) -> bool
@@ -15,11 +15,11 @@ pub fn both(a: bool, b: bool) -> bool
 pub fn all_zero(bytes: &[u8]) -> bool
     ensures { λ r. ⌜ r ≡ allZero (now (bytes .entry)) ⌝ }
 {
-    let mut clean = true;
+    let mut seen: u8 = 0;
     let mut i = 0;
     while i < bytes.len() {
-        clean = both(clean, is_padding(bytes, i));
+        seen = seen | byte(bytes, i);
         i += 1;
     }
-    clean
+    seen == 0
 }
