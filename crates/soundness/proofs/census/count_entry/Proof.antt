@@ -1,0 +1,16 @@
+use borrow.Author.Needs.{needs}
+use Rattle.soundness.specs.Census.{entryCounted, entryClaimed}
+use Rattle.soundness.proofs.census.count_entry.Statement.{statement}
+use Rattle.soundness.proofs.census.count_entry.Tie as tie
+
+pub count-entry-spec : {M : Type 1} → statement M
+unfolding entryCounted entryClaimed
+count-entry-spec =
+    tie.close
+    (tie.spec
+    (λ c κs. tt)
+    (λ c κs. tt)
+    (λ c κs. tt)
+    (λ c. search needs)
+    (λ c. search needs)
+    (λ c. (cc, cc)))

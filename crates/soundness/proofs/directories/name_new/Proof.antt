@@ -1,0 +1,28 @@
+use mathlib.Core.Path.{_≡_, refl}
+use Prim.Native.Nat.{_-_}
+use borrow.Author.Needs.{needs}
+use Rattle.rules.specs.Scan.{all}
+use Rattle.rules.proofs.Scans.{all-yes, all-no, all-done}
+use Rattle.soundness.specs.Counted.{otherThan}
+use Rattle.soundness.proofs.directories.name_new.Statement.{statement}
+use Rattle.soundness.proofs.directories.name_new.Tie as tie
+
+abbrev Inv-loop : tie.InvT-loop
+Inv-loop dir i j₀ j = all (otherThan dir i) j i ≡ all (otherThan dir i) 0 i
+
+abbrev μ-loop : tie.MeasureT-loop
+μ-loop dir i j₀ j = i - j
+
+pub name-new-spec : {M : Type 1} → statement M
+name-new-spec =
+    tie.close
+    (tie.spec
+    Inv-loop
+    μ-loop
+    (λ c. refl)
+    (λ c κs. search needs)
+    (λ c. search needs)
+    (λ c. search needs)
+    (λ c. search all-yes)
+    (λ c. search all-no)
+    (λ c. search all-done))

@@ -1,0 +1,33 @@
+use mathlib.Core.Path.{_≡_, refl}
+use mathlib.Core.Logic.{⊎-elim}
+use Prim.Native.Nat.{_+_, _-_, _≤_}
+use native.Mathlib.Omega.{arith}
+use borrow.Author.Needs.{needs}
+use Rattle.rules.specs.Scan.{count}
+use Rattle.rules.proofs.Scans.{count-yes, count-no, count-done}
+use Rattle.rules.specs.Sound.{isUsed}
+use Rattle.soundness.proofs.directories.used_count.Statement.{statement}
+use Rattle.soundness.proofs.directories.used_count.Tie as tie
+
+abbrev Inv-loop : tie.InvT-loop
+Inv-loop dir n₀ i₀ n i = (n ≤ i) × (n + count (isUsed dir) i 16 ≡ count (isUsed dir) 0 16)
+
+abbrev μ-loop : tie.MeasureT-loop
+μ-loop dir n₀ i₀ n i = 16 - i
+
+pub used-count-spec : {M : Type 1} → statement M
+used-count-spec =
+    tie.close
+    (tie.spec
+    Inv-loop
+    μ-loop
+    (λ c. (search needs, omega arith))
+    (λ c κs. search needs)
+    (λ c. search needs)
+    (λ c. search needs)
+    (λ c. search needs)
+    (λ c. (
+      ⊎-elim (λ w. omega arith) (λ w. omega arith) (c .if1 .came),
+      ⊎-elim (λ w. cc (count-yes _ _ _ _ (c .before .before .before .loop .inv .1) (c .before .before .loop-test .taken) (w .0 .taken) (c .before .is-used .ensures))) (λ w. cc (count-no _ _ _ _ (c .before .before .before .loop .inv .1) (c .before .before .loop-test .taken) (w .0 .left) (c .before .is-used .ensures))) (c .if1 .came),
+    ))
+    (λ c. search count-done))

@@ -1,0 +1,13 @@
+use Rattle.rules.proofs.Choices.{steps}
+use Rattle.soundness.proofs.opens.referred_sound.Statement.{statement}
+use Rattle.soundness.proofs.opens.referred_sound.Tie as tie
+
+pub referred-sound-spec : {M : Type 1} → statement M
+referred-sound-spec =
+    tie.close
+    (tie.spec
+    (λ c κs. tt)
+    (λ c κs. tt)
+    (λ c. search steps)
+    (λ c κs. tt)
+    (λ c. search steps))

@@ -1,0 +1,29 @@
+use mathlib.Core.Path.{_≡_, refl}
+use Prim.Native.Nat.{_-_}
+use borrow.Author.Needs.{needs}
+use Rattle.rules.specs.Scan.{all}
+use Rattle.rules.proofs.Scans.{all-yes, all-no, all-done}
+use Rattle.rules.specs.Store.{descOf}
+use Rattle.rules.specs.Sound.{descFree}
+use Rattle.soundness.proofs.processes.all_desc_free.Statement.{statement}
+use Rattle.soundness.proofs.processes.all_desc_free.Tie as tie
+
+abbrev Inv-loop : tie.InvT-loop
+Inv-loop processes p i₀ i = all (descFree (descOf processes) p) i 8 ≡ all (descFree (descOf processes) p) 0 8
+
+abbrev μ-loop : tie.MeasureT-loop
+μ-loop processes p i₀ i = 8 - i
+
+pub all-desc-free-spec : {M : Type 1} → statement M
+all-desc-free-spec =
+    tie.close
+    (tie.spec
+    Inv-loop
+    μ-loop
+    (λ c. refl)
+    (λ c κs. search needs)
+    (λ c. search needs)
+    (λ c. search needs)
+    (λ c. search all-yes)
+    (λ c. search all-no)
+    (λ c. search all-done))

@@ -1,0 +1,296 @@
+// A directory's entries. `dir` is what the view shows of its slot, `name` an entry from its first byte on.
+ghost use mathlib.Core.Path.{_≡_};
+ghost use mathlib.Core.Bool.{not, cond};
+ghost use mathlib.Core.List.{[], _∷_};
+ghost use lib.Dec.{eqb};
+ghost use lib.ListN.{getD, drop};
+ghost use Prim.Native.Nat.{_+_};
+ghost use Rattle.rules.specs.Choice.{some, implies};
+ghost use Rattle.rules.specs.Scan.{all, count};
+ghost use Rattle.rules.specs.Layout.{NAME, SLASH, FILE, KIND, FREE};
+ghost use Rattle.rules.specs.Store.{tab, tree};
+ghost use Rattle.rules.specs.Paths.{sameName, isDots};
+ghost use Rattle.rules.specs.Directories.{direntAt, direntSlot, isEmpty, isPadding};
+ghost use Rattle.rules.specs.Sound.{allZero, nameByteSound, nameSound, usedSound, direntSound, isNew, isUsed, direntsSound};
+ghost use Rattle.soundness.specs.Counted.{otherThan};
+use crate::bytes::all_zero;
+use crate::fields::is_byte;
+use rules::ids::Slot;
+use tables::directories::dirent_at;
+use tables::directories::dirent_slot;
+use tables::directories::is_empty;
+use tables::directories::is_padding;
+use tables::files::is_free;
+use tables::layout::DIRENTS;
+use tables::layout::NAME;
+use tables::layout::SLOTS;
+use tables::names::is_dots;
+use tables::names::same_name;
+use tables::parts::after;
+
+const SLASH: u8 = 47;
+
+// The bytes of all entries.
+const ENTRIES: usize = 256;
+
+// Byte k is the last of a name, or 0 follows it.
+fn ends(name: &[u8], k: u32) -> bool
+    ensures { λ r. ⌜ r ≡ some (eqb (k + 1) NAME ∷ isPadding (now (name .entry)) (k + 1) ∷ []) ⌝ }
+{
+    let last = (k as usize) + 1 == NAME;
+    if last {
+        return true;
+    }
+    is_padding(name, (k as usize) + 1)
+}
+
+// After a 0 comes 0.
+fn padding_sound(name: &[u8], k: u32) -> bool
+    ensures { λ r. ⌜ r ≡ implies (isPadding (now (name .entry)) k) (some (eqb (k + 1) NAME ∷ isPadding (now (name .entry)) (k + 1) ∷ [])) ⌝ }
+{
+    if is_padding(name, k as usize) {
+        return ends(name, k);
+    }
+    true
+}
+
+fn no_slash(name: &[u8], k: u32) -> bool
+    ensures { λ r. ⌜ r ≡ not (eqb (getD (now (name .entry)) k 0) SLASH) ⌝ }
+{
+    !is_byte(name, k as usize, SLASH)
+}
+
+fn name_byte_sound(name: &[u8], k: u32) -> bool
+    ensures { λ r. ⌜ r ≡ nameByteSound (now (name .entry)) k ⌝ }
+{
+    if !no_slash(name, k) {
+        return false;
+    }
+    padding_sound(name, k)
+}
+
+fn name_bytes_sound(name: &[u8]) -> bool
+    ensures { λ r. ⌜ r ≡ all (nameByteSound (now (name .entry))) 0 NAME ⌝ }
+{
+    let mut k: u32 = 0;
+    while k < 14 {
+        if name_byte_sound(name, k) {
+            k += 1;
+        } else {
+            return false;
+        }
+    }
+    true
+}
+
+fn no_padding(name: &[u8]) -> bool
+    ensures { λ r. ⌜ r ≡ not (isPadding (now (name .entry)) 0) ⌝ }
+{
+    !is_padding(name, 0)
+}
+
+fn no_dots(name: &[u8]) -> bool
+    ensures { λ r. ⌜ r ≡ not (isDots (now (name .entry))) ⌝ }
+{
+    !is_dots(name)
+}
+
+fn name_sound(name: &[u8]) -> bool
+    ensures { λ r. ⌜ r ≡ nameSound (now (name .entry)) ⌝ }
+{
+    if !no_padding(name) {
+        return false;
+    }
+    if !name_bytes_sound(name) {
+        return false;
+    }
+    no_dots(name)
+}
+
+fn not_free(files: &[u32], s: u32) -> bool
+    ensures { λ r. ⌜ r ≡ not (eqb (tab FILE (now (files .entry)) s KIND) FREE) ⌝ }
+{
+    !is_free(files, Slot(s))
+}
+
+// A name, and a slot in use.
+fn used_sound(files: &[u32], contents: &[u8], name: &[u8], target: u32) -> bool
+    ensures { λ r. ⌜ r ≡ usedSound (tree (now (files .entry)) (now (contents .entry))) (now (name .entry)) target ⌝ }
+{
+    if !name_sound(name) {
+        return false;
+    }
+    let inside = target < SLOTS;
+    if !inside {
+        return false;
+    }
+    not_free(files, target)
+}
+
+fn all_padding(name: &[u8]) -> bool
+    ensures { λ r. ⌜ r ≡ all (isPadding (now (name .entry))) 0 NAME ⌝ }
+{
+    let mut k = 0;
+    while k < NAME {
+        if is_padding(name, k) {
+            k += 1;
+        } else {
+            return false;
+        }
+    }
+    true
+}
+
+fn padding_at(dir: &[u8], i: u32) -> bool
+    ensures { λ r. ⌜ r ≡ all (isPadding (direntAt (now (dir .entry)) i)) 0 NAME ⌝ }
+{
+    all_padding(dirent_at(dir, i))
+}
+
+fn used_at(files: &[u32], contents: &[u8], dir: &[u8], i: u32) -> bool
+    ensures { λ r. ⌜ r ≡ usedSound (tree (now (files .entry)) (now (contents .entry))) (direntAt (now (dir .entry)) i) (direntSlot (now (dir .entry)) i) ⌝ }
+{
+    used_sound(files, contents, dirent_at(dir, i), dirent_slot(dir, i))
+}
+
+// Entry i, but for its last byte.
+fn entry_sound(files: &[u32], contents: &[u8], dir: &[u8], i: u32) -> bool
+    ensures { λ r. ⌜ r ≡ cond (isEmpty (now (dir .entry)) i) (all (isPadding (direntAt (now (dir .entry)) i)) 0 NAME) (usedSound (tree (now (files .entry)) (now (contents .entry))) (direntAt (now (dir .entry)) i) (direntSlot (now (dir .entry)) i)) ⌝ }
+{
+    if is_empty(dir, i) {
+        return padding_at(dir, i);
+    }
+    used_at(files, contents, dir, i)
+}
+
+fn last_zero(dir: &[u8], i: u32) -> bool
+    ensures { λ r. ⌜ r ≡ eqb (getD (direntAt (now (dir .entry)) i) 15 0) 0 ⌝ }
+{
+    is_byte(dirent_at(dir, i), NAME + 1, 0)
+}
+
+fn dirent_sound(files: &[u32], contents: &[u8], dir: &[u8], i: u32) -> bool
+    ensures { λ r. ⌜ r ≡ direntSound (tree (now (files .entry)) (now (contents .entry))) (now (dir .entry)) i ⌝ }
+{
+    if !last_zero(dir, i) {
+        return false;
+    }
+    entry_sound(files, contents, dir, i)
+}
+
+fn all_dirents_sound(files: &[u32], contents: &[u8], dir: &[u8]) -> bool
+    ensures { λ r. ⌜ r ≡ all (direntSound (tree (now (files .entry)) (now (contents .entry))) (now (dir .entry))) 0 16 ⌝ }
+{
+    let mut i = 0;
+    while i < DIRENTS {
+        if dirent_sound(files, contents, dir, i) {
+            i += 1;
+        } else {
+            return false;
+        }
+    }
+    true
+}
+
+fn other_name(dir: &[u8], i: u32, j: u32) -> bool
+    ensures { λ r. ⌜ r ≡ not (sameName (direntAt (now (dir .entry)) i) (direntAt (now (dir .entry)) j)) ⌝ }
+{
+    !same_name(dirent_at(dir, i), dirent_at(dir, j))
+}
+
+// Entry j is empty or has another name than entry i.
+fn other_than(dir: &[u8], i: u32, j: u32) -> bool
+    ensures { λ r. ⌜ r ≡ otherThan (now (dir .entry)) i j ⌝ }
+{
+    if is_empty(dir, j) {
+        return true;
+    }
+    other_name(dir, i, j)
+}
+
+fn name_new(dir: &[u8], i: u32) -> bool
+    ensures { λ r. ⌜ r ≡ all (otherThan (now (dir .entry)) i) 0 i ⌝ }
+{
+    let mut j = 0;
+    while j < i {
+        if other_than(dir, i, j) {
+            j += 1;
+        } else {
+            return false;
+        }
+    }
+    true
+}
+
+// An empty entry differs from all.
+fn is_new(dir: &[u8], i: u32) -> bool
+    ensures { λ r. ⌜ r ≡ isNew (now (dir .entry)) i ⌝ }
+{
+    if is_empty(dir, i) {
+        return true;
+    }
+    name_new(dir, i)
+}
+
+fn all_new(dir: &[u8]) -> bool
+    ensures { λ r. ⌜ r ≡ all (isNew (now (dir .entry))) 0 16 ⌝ }
+{
+    let mut i = 0;
+    while i < DIRENTS {
+        if is_new(dir, i) {
+            i += 1;
+        } else {
+            return false;
+        }
+    }
+    true
+}
+
+fn is_used(dir: &[u8], i: u32) -> bool
+    ensures { λ r. ⌜ r ≡ isUsed (now (dir .entry)) i ⌝ }
+{
+    !is_empty(dir, i)
+}
+
+fn used_count(dir: &[u8]) -> u32
+    ensures { λ r. ⌜ r ≡ count (isUsed (now (dir .entry))) 0 16 ⌝ }
+{
+    let mut n = 0;
+    let mut i = 0;
+    while i < DIRENTS {
+        if is_used(dir, i) {
+            n += 1;
+        }
+        i += 1;
+    }
+    n
+}
+
+fn counts_right(dir: &[u8], n: u32) -> bool
+    ensures { λ r. ⌜ r ≡ eqb n (count (isUsed (now (dir .entry))) 0 16) ⌝ }
+{
+    n == used_count(dir)
+}
+
+// What is past the entries is 0.
+fn rest_zero(dir: &[u8]) -> bool
+    ensures { λ r. ⌜ r ≡ allZero (drop 256 (now (dir .entry))) ⌝ }
+{
+    all_zero(after(dir, ENTRIES))
+}
+
+// n is the directory's length.
+pub fn dirents_sound(files: &[u32], contents: &[u8], dir: &[u8], n: u32) -> bool
+    ensures { λ r. ⌜ r ≡ direntsSound (tree (now (files .entry)) (now (contents .entry))) (now (dir .entry)) n ⌝ }
+{
+    if !all_dirents_sound(files, contents, dir) {
+        return false;
+    }
+    if !all_new(dir) {
+        return false;
+    }
+    if !counts_right(dir, n) {
+        return false;
+    }
+    rest_zero(dir)
+}

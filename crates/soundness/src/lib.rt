@@ -1,0 +1,12 @@
+// "Sound": the test that runs before every call, of the store and of the policy apart.
+mod bytes;
+mod census;
+mod directories;
+mod fields;
+mod files;
+mod opens;
+pub mod policy;
+mod processes;
+mod slots;
+pub mod store;
+mod tree;

@@ -1,0 +1,64 @@
+// "Policy": rights 0 to 7; a transition to a label, or 255.
+ghost use mathlib.Core.Path.{_≡_};
+ghost use Rattle.rules.specs.Scan.{all};
+ghost use Rattle.rules.specs.Layout.{RIGHTS};
+ghost use Rattle.rules.specs.Sound.{rightSound, transitionSound, policySound};
+use crate::bytes::both;
+use crate::fields::byte_at_most;
+use crate::fields::is_byte;
+use tables::layout::RIGHTS;
+
+const POLICY: usize = 512;
+
+fn right_sound(policy: &[u8], i: usize) -> bool
+    ensures { λ r. ⌜ r ≡ rightSound (now (policy .entry)) i ⌝ }
+{
+    byte_at_most(policy, i, 7)
+}
+
+fn transition_sound(policy: &[u8], i: usize) -> bool
+    ensures { λ r. ⌜ r ≡ transitionSound (now (policy .entry)) i ⌝ }
+{
+    if byte_at_most(policy, i, 15) {
+        return true;
+    }
+    is_byte(policy, i, 255)
+}
+
+// No exit before the end, as in all_zero.
+fn rights_sound(policy: &[u8]) -> bool
+    ensures { λ r. ⌜ r ≡ all (rightSound (now (policy .entry))) 0 256 ⌝ }
+{
+    let mut fine = true;
+    let mut i = 0;
+    while i < RIGHTS {
+        fine = both(fine, right_sound(policy, i));
+        i += 1;
+    }
+    fine
+}
+
+fn transitions_sound(policy: &[u8]) -> bool
+    ensures { λ r. ⌜ r ≡ all (transitionSound (now (policy .entry))) 256 512 ⌝ }
+{
+    let mut fine = true;
+    let mut i = RIGHTS;
+    while i < POLICY {
+        fine = both(fine, transition_sound(policy, i));
+        i += 1;
+    }
+    fine
+}
+
+pub fn policy_sound(policy: &[u8]) -> bool
+    ensures { λ r. ⌜ r ≡ policySound (now (policy .entry)) ⌝ }
+{
+    let sized = policy.len() == POLICY;
+    if !sized {
+        return false;
+    }
+    if !rights_sound(policy) {
+        return false;
+    }
+    transitions_sound(policy)
+}

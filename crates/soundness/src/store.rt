@@ -1,0 +1,76 @@
+// The whole test.
+ghost use mathlib.Core.Path.{_≡_};
+ghost use lib.Dec.{eqb};
+ghost use Rattle.rules.specs.Layout.{FILE, KIND, DIRECTORY};
+ghost use Rattle.rules.specs.Store.{tab, view, store};
+ghost use Rattle.rules.specs.Sound.{sizesSound, tablesSound, storeSound, sound};
+use crate::opens::opens_sound;
+use crate::policy::policy_sound;
+use crate::processes::processes_sound;
+use crate::slots::slots_sound;
+use rules::ids::Slot;
+use tables::files::is_directory;
+
+// "Lent tables of another size are 1".
+fn sizes_sound(files: &[u32], contents: &[u8], opens: &[u32], processes: &[u32]) -> bool
+    ensures { λ r. ⌜ r ≡ sizesSound (store (now (files .entry)) (now (contents .entry)) (now (opens .entry)) (now (processes .entry))) ⌝ }
+{
+    let files_sized = files.len() == 448;
+    if !files_sized {
+        return false;
+    }
+    let contents_sized = contents.len() == 32768;
+    if !contents_sized {
+        return false;
+    }
+    let opens_sized = opens.len() == 128;
+    if !opens_sized {
+        return false;
+    }
+    processes.len() == 88
+}
+
+fn root_directory(files: &[u32]) -> bool
+    ensures { λ r. ⌜ r ≡ eqb (tab FILE (now (files .entry)) 0 KIND) DIRECTORY ⌝ }
+{
+    is_directory(files, Slot(0))
+}
+
+fn tables_sound(files: &[u32], contents: &[u8], opens: &[u32], processes: &[u32]) -> bool
+    ensures { λ r. ⌜ r ≡ tablesSound (view (store (now (files .entry)) (now (contents .entry)) (now (opens .entry)) (now (processes .entry)))) ⌝ }
+{
+    if !root_directory(files) {
+        return false;
+    }
+    if !slots_sound(files, contents, opens, processes) {
+        return false;
+    }
+    if !opens_sound(files, contents, opens, processes) {
+        return false;
+    }
+    processes_sound(files, contents, opens, processes)
+}
+
+pub fn store_sound(files: &[u32], contents: &[u8], opens: &[u32], processes: &[u32]) -> bool
+    ensures { λ r. ⌜ r ≡ storeSound (store (now (files .entry)) (now (contents .entry)) (now (opens .entry)) (now (processes .entry))) ⌝ }
+{
+    if sizes_sound(files, contents, opens, processes) {
+        return tables_sound(files, contents, opens, processes);
+    }
+    false
+}
+
+pub fn sound(
+    files: &[u32],
+    contents: &[u8],
+    opens: &[u32],
+    processes: &[u32],
+    policy: &[u8],
+) -> bool
+    ensures { λ r. ⌜ r ≡ sound (now (policy .entry)) (store (now (files .entry)) (now (contents .entry)) (now (opens .entry)) (now (processes .entry))) ⌝ }
+{
+    if !policy_sound(policy) {
+        return false;
+    }
+    store_sound(files, contents, opens, processes)
+}

@@ -1,0 +1,89 @@
+// The tree, by the counted links and parents: each slot is named as often as its record says, and each directory is reached from the root.
+ghost use mathlib.Core.Path.{_≡_};
+ghost use mathlib.Core.List.{[], _∷_};
+ghost use lib.Dec.{eqb};
+ghost use lib.ListN.{getD};
+ghost use Rattle.rules.specs.Choice.{some};
+ghost use Rattle.rules.specs.Layout.{FILE, LINKS, LENGTH};
+ghost use Rattle.rules.specs.Store.{tab, tree, shownOf};
+ghost use Rattle.rules.specs.Sound.{direntsSound};
+ghost use Rattle.soundness.specs.Counted.{linksSoundBy, climbsBy, directorySoundBy};
+use crate::directories::dirents_sound;
+use crate::fields::is_word;
+use rules::ids::Slot;
+use tables::files::length;
+use tables::files::shown;
+use tables::layout::FILE;
+use tables::layout::LINKS;
+use tables::layout::NAMES;
+use tables::words::get;
+
+fn links_right(files: &[u32], links: &[u32], s: u32) -> bool
+    ensures { λ r. ⌜ r ≡ eqb (tab FILE (now (files .entry)) s LINKS) (getD (now (links .entry)) s 0) ⌝ }
+{
+    is_word(files, FILE * (s as usize) + LINKS, get(links, s as usize))
+}
+
+pub fn links_sound(files: &[u32], contents: &[u8], links: &[u32], s: u32) -> bool
+    ensures { λ r. ⌜ r ≡ linksSoundBy (tree (now (files .entry)) (now (contents .entry))) (now (links .entry)) s ⌝ }
+{
+    let root = s == 0;
+    if root {
+        return is_word(files, FILE * (s as usize) + LINKS, 0);
+    }
+    links_right(files, links, s)
+}
+
+fn parent_of(parents: &[u32], d: u32) -> u32
+    ensures { λ r. ⌜ r ≡ getD (now (parents .entry)) d 0 ⌝ }
+{
+    get(parents, d as usize)
+}
+
+fn climbs(parents: &[u32], n: u8, d: u32) -> bool
+    ensures { λ r. ⌜ r ≡ climbsBy (now (parents .entry)) n d ⌝ }
+{
+    let mut left = n;
+    let mut at = d;
+    while 0 < left {
+        if at == 0 {
+            return true;
+        }
+        at = parent_of(parents, at);
+        left -= 1;
+    }
+    at == 0
+}
+
+fn named_once(files: &[u32], d: u32) -> bool
+    ensures { λ r. ⌜ r ≡ some (eqb d 0 ∷ eqb (tab FILE (now (files .entry)) d LINKS) 1 ∷ []) ⌝ }
+{
+    let root = d == 0;
+    if root {
+        return true;
+    }
+    is_word(files, FILE * (d as usize) + LINKS, 1)
+}
+
+fn shown_sound(files: &[u32], contents: &[u8], d: u32) -> bool
+    ensures { λ r. ⌜ r ≡ direntsSound (tree (now (files .entry)) (now (contents .entry))) (shownOf (now (files .entry)) (now (contents .entry)) d) (tab FILE (now (files .entry)) d LENGTH) ⌝ }
+{
+    dirents_sound(
+        files,
+        contents,
+        shown(files, contents, Slot(d)),
+        length(files, Slot(d)),
+    )
+}
+
+pub fn directory_sound(files: &[u32], contents: &[u8], parents: &[u32], d: u32) -> bool
+    ensures { λ r. ⌜ r ≡ directorySoundBy (tree (now (files .entry)) (now (contents .entry))) (now (parents .entry)) d ⌝ }
+{
+    if !shown_sound(files, contents, d) {
+        return false;
+    }
+    if !named_once(files, d) {
+        return false;
+    }
+    climbs(parents, NAMES, d)
+}
