@@ -1,4 +1,4 @@
--- The rules' tests of a slot and of an open file, with the counted links L, parents P and holders H.
+-- The rules' tests of a slot and of an open file, with the counted links L, parents P and holders H; and of an entry whose name is looked for.
 use Prim.Native.Nat.{ℕ, zero, suc, _+_}
 use mathlib.Core.Bool.{Bool, true, false, cond, not}
 use mathlib.Core.List.{List, [], _∷_}

@@ -1,15 +1,7 @@
 // Bytes that must be 0.
 ghost use mathlib.Core.Path.{_≡_};
-ghost use mathlib.Core.Bool.{cond, false};
 ghost use Rattle.rules.specs.Sound.{allZero};
 use tables::words::byte;
-
-// Both tests, with no jump between them.
-pub fn both(a: bool, b: bool) -> bool
-    ensures { λ r. ⌜ r ≡ cond a b false ⌝ }
-{
-    if a { b } else { false }
-}
 
 // No exit before the end: the loop is then made to look at many bytes at once.
 pub fn all_zero(bytes: &[u8]) -> bool

@@ -1,9 +1,9 @@
 // "Policy": rights 0 to 7; a transition to a label, or 255.
 ghost use mathlib.Core.Path.{_≡_};
+ghost use mathlib.Core.Bool.{cond, false};
 ghost use Rattle.rules.specs.Scan.{all};
 ghost use Rattle.rules.specs.Layout.{RIGHTS};
 ghost use Rattle.rules.specs.Sound.{rightSound, transitionSound, policySound};
-use crate::bytes::both;
 use crate::fields::byte_at_most;
 use crate::fields::is_byte;
 use tables::layout::RIGHTS;
@@ -25,7 +25,13 @@ fn transition_sound(policy: &[u8], i: usize) -> bool
     is_byte(policy, i, 255)
 }
 
-// No exit before the end, as in all_zero.
+// Both tests, with no exit between them: a loop over them looks at many bytes at once.
+fn both(a: bool, b: bool) -> bool
+    ensures { λ r. ⌜ r ≡ cond a b false ⌝ }
+{
+    if a { b } else { false }
+}
+
 fn rights_sound(policy: &[u8]) -> bool
     ensures { λ r. ⌜ r ≡ all (rightSound (now (policy .entry))) 0 256 ⌝ }
 {
