@@ -1,0 +1,124 @@
+// A call: the soundness test, the decision, and what it does.
+ghost use mathlib.Core.Path.{_≡_};
+ghost use Rattle.rules.specs.Store.{store};
+ghost use Rattle.rules.specs.Step.{outcomeOf, act, step};
+ghost use Rattle.decision.specs.Arms.{callOf};
+ghost use Rattle.store.specs.Lent.{lent, lentOf, granting};
+use crate::answer::refused_answer;
+use crate::answer::say;
+use crate::carry::carry_out;
+use rules::answer::Answer;
+use rules::decision::Decision;
+use rules::decision::Effect;
+use rules::decision::Output;
+use rules::refusal::Refusal;
+use rules::request::Request;
+
+fn grant(
+    files: &mut [u32],
+    contents: &mut [u8],
+    opens: &mut [u32],
+    processes: &mut [u32],
+    c: Request,
+    path: &[u8],
+    bytes: &[u8],
+    buffer: &mut [u8],
+    value: u32,
+    o: Output,
+    e: Effect,
+) -> Answer
+    ensures { λ r. ⌜ lent r (now (buffer .exit)) (store (now (files .exit)) (now (contents .exit)) (now (opens .exit)) (now (processes .exit))) ≡ granting (store (now (files .entry)) (now (contents .entry)) (now (opens .entry)) (now (processes .entry))) (callOf c (now (path .entry)) (now (bytes .entry)) (now (buffer .entry))) value o e ⌝ }
+{
+    let a = say(files, contents, opens, processes, buffer, value, o);
+    carry_out(files, contents, opens, processes, c, path, bytes, e);
+    a
+}
+
+fn settle(
+    files: &mut [u32],
+    contents: &mut [u8],
+    opens: &mut [u32],
+    processes: &mut [u32],
+    c: Request,
+    path: &[u8],
+    bytes: &[u8],
+    buffer: &mut [u8],
+    d: Decision,
+) -> Answer
+    ensures { λ r. ⌜ lent r (now (buffer .exit)) (store (now (files .exit)) (now (contents .exit)) (now (opens .exit)) (now (processes .exit))) ≡ lentOf (outcomeOf (store (now (files .entry)) (now (contents .entry)) (now (opens .entry)) (now (processes .entry))) (callOf c (now (path .entry)) (now (bytes .entry)) (now (buffer .entry))) d) ⌝ }
+{
+    match d {
+        Decision::Refused(why, stop) => refused_answer(why, stop),
+        Decision::Granted(value, o, e) => grant(
+            files,
+            contents,
+            opens,
+            processes,
+            c,
+            path,
+            bytes,
+            buffer,
+            value,
+            o,
+            e,
+        ),
+    }
+}
+
+// A call on tables that are known to be sound: no test is made.
+pub fn act_on(
+    files: &mut [u32],
+    contents: &mut [u8],
+    opens: &mut [u32],
+    processes: &mut [u32],
+    policy: &[u8],
+    c: Request,
+    path: &[u8],
+    bytes: &[u8],
+    buffer: &mut [u8],
+) -> Answer
+    ensures { λ r. ⌜ lent r (now (buffer .exit)) (store (now (files .exit)) (now (contents .exit)) (now (opens .exit)) (now (processes .exit))) ≡ lentOf (act (now (policy .entry)) (store (now (files .entry)) (now (contents .entry)) (now (opens .entry)) (now (processes .entry))) (callOf c (now (path .entry)) (now (bytes .entry)) (now (buffer .entry)))) ⌝ }
+{
+    let d = decision::decide::decide_call(
+        files,
+        contents,
+        opens,
+        processes,
+        policy,
+        c,
+        path,
+        bytes,
+        buffer,
+    );
+    settle(files, contents, opens, processes, c, path, bytes, buffer, d)
+}
+
+// A call: refused with 1 where the tables or the policy are not sound.
+pub fn call(
+    files: &mut [u32],
+    contents: &mut [u8],
+    opens: &mut [u32],
+    processes: &mut [u32],
+    policy: &[u8],
+    c: Request,
+    path: &[u8],
+    bytes: &[u8],
+    buffer: &mut [u8],
+) -> Answer
+    ensures { λ r. ⌜ lent r (now (buffer .exit)) (store (now (files .exit)) (now (contents .exit)) (now (opens .exit)) (now (processes .exit))) ≡ lentOf (step (now (policy .entry)) (store (now (files .entry)) (now (contents .entry)) (now (opens .entry)) (now (processes .entry))) (callOf c (now (path .entry)) (now (bytes .entry)) (now (buffer .entry)))) ⌝ }
+{
+    if !soundness::store::sound(files, contents, opens, processes, policy) {
+        return refused_answer(Refusal::Unsound, 0);
+    }
+    act_on(
+        files,
+        contents,
+        opens,
+        processes,
+        policy,
+        c,
+        path,
+        bytes,
+        buffer,
+    )
+}
