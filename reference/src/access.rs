@@ -1,0 +1,63 @@
+//! Who is calling, and what the caller may do with a file.
+
+use crate::numbers::{Descriptor, EntryNumber, ProcessNumber, Slot};
+use crate::records::File;
+use crate::refusal::Refusal;
+use crate::rights::Rights;
+use crate::tables::Store;
+
+const SUPERUSER: u32 = 0;
+
+/// The process that makes a call.
+#[derive(Clone, Copy, Debug)]
+pub struct Caller {
+    pub process: ProcessNumber,
+    pub user: u32,
+    pub label: u32,
+}
+
+impl Caller {
+    /// Whether the caller owns the file or is user 0.
+    pub fn is_master_of(self, file: &File) -> bool {
+        self.user == SUPERUSER || self.user == file.owner
+    }
+}
+
+impl Store<'_> {
+    /// The calling process, if it is in use.
+    pub fn caller(&self, number: u8) -> Option<Caller> {
+        let number = ProcessNumber::new(number)?;
+        let process = self.process(number);
+        (process.in_use != 0).then_some(Caller {
+            process: number,
+            user: process.user,
+            label: process.label,
+        })
+    }
+
+    /// Refuses the wanted rights by the bits, then by the labels.
+    pub fn check_rights(&self, caller: Caller, slot: Slot, wanted: Rights) -> Result<(), Refusal> {
+        let file = self.file(slot);
+        if !caller.is_master_of(&file) && !file.bits.hold(wanted) {
+            return Err(Refusal::BitsForbid);
+        }
+        self.check_label(caller, &file, wanted)
+    }
+
+    /// Refuses the wanted rights by the labels alone.
+    pub fn check_label(&self, caller: Caller, file: &File, wanted: Rights) -> Result<(), Refusal> {
+        if self.label_rights(caller.label, file.label).hold(wanted) {
+            Ok(())
+        } else {
+            Err(Refusal::LabelForbids)
+        }
+    }
+
+    /// The descriptor of this number and the entry that it holds.
+    pub fn held(&self, caller: Caller, number: u8) -> Result<(Descriptor, EntryNumber), Refusal> {
+        let descriptor = Descriptor::new(number).ok_or(Refusal::NotHeld)?;
+        let words = self.process(caller.process).descriptors;
+        let entry = EntryNumber::from_word(words[descriptor.index()]).ok_or(Refusal::NotHeld)?;
+        Ok((descriptor, entry))
+    }
+}

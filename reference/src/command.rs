@@ -1,0 +1,152 @@
+//! A call as it comes in, and as it is understood.
+
+use crate::path::{Path, Target};
+use crate::records::Kind;
+use crate::rights::{Opening, Rights};
+
+pub const LAST_POSITION: u32 = 512;
+
+/// The numbers of a call; its paths and bytes come beside it.
+#[derive(Clone, Copy, Debug, PartialEq, Eq)]
+pub struct Request {
+    pub process: u8,
+    pub call: u8,
+    pub descriptor: u8,
+    /// Mode, bits, index or position.
+    pub number: u16,
+}
+
+/// A well-formed call. A descriptor is kept as given: one that is too high is
+/// not malformed but not held.
+pub enum Command<'a> {
+    Open {
+        path: Path<'a>,
+        opening: Opening,
+    },
+    Make {
+        kind: Kind,
+        target: Target<'a>,
+        bits: Rights,
+    },
+    Unlink {
+        target: Target<'a>,
+    },
+    RemoveDirectory {
+        target: Target<'a>,
+    },
+    Link {
+        old: Path<'a>,
+        new: Target<'a>,
+    },
+    List {
+        path: Path<'a>,
+        index: usize,
+    },
+    ChangeBits {
+        path: Path<'a>,
+        bits: Rights,
+    },
+    Stat {
+        path: Path<'a>,
+    },
+    Close {
+        descriptor: u8,
+    },
+    Read {
+        descriptor: u8,
+    },
+    Write {
+        descriptor: u8,
+        bytes: &'a [u8],
+    },
+    Seek {
+        descriptor: u8,
+        position: u32,
+    },
+    Duplicate {
+        descriptor: u8,
+    },
+    Fork,
+    Exit,
+    Execute {
+        path: Path<'a>,
+    },
+}
+
+impl<'a> Command<'a> {
+    /// The call asked for, unless it is malformed. Parts that the call does
+    /// not use are not looked at.
+    pub fn parse(request: Request, path: &'a [u8], data: &'a [u8]) -> Option<Command<'a>> {
+        match request.call {
+            1..=9 | 17 => Command::parse_on_path(request, path, data),
+            10..=14 => Command::parse_on_descriptor(request, data),
+            15 => Some(Command::Fork),
+            16 => Some(Command::Exit),
+            _ => None,
+        }
+    }
+
+    fn parse_on_path(request: Request, path: &'a [u8], data: &'a [u8]) -> Option<Command<'a>> {
+        let number = u32::from(request.number);
+        Some(match request.call {
+            1 => Command::Open {
+                path: Path::parse(path)?,
+                opening: Opening::new(number)?,
+            },
+            2 => Command::parse_make(Kind::PLAIN, path, number)?,
+            3 => Command::parse_make(Kind::DIRECTORY, path, number)?,
+            4 => Command::Unlink {
+                target: Target::parse(path)?,
+            },
+            5 => Command::RemoveDirectory {
+                target: Target::parse(path)?,
+            },
+            6 => Command::Link {
+                old: Path::parse(path)?,
+                new: Target::parse(data)?,
+            },
+            7 => Command::List {
+                path: Path::parse(path)?,
+                index: usize::from(request.number),
+            },
+            8 => Command::ChangeBits {
+                path: Path::parse(path)?,
+                bits: Rights::new(number)?,
+            },
+            9 => Command::Stat {
+                path: Path::parse(path)?,
+            },
+            17 => Command::Execute {
+                path: Path::parse(path)?,
+            },
+            _ => return None,
+        })
+    }
+
+    fn parse_make(kind: Kind, path: &'a [u8], bits: u32) -> Option<Command<'a>> {
+        Some(Command::Make {
+            kind,
+            target: Target::parse(path)?,
+            bits: Rights::new(bits)?,
+        })
+    }
+
+    fn parse_on_descriptor(request: Request, data: &'a [u8]) -> Option<Command<'a>> {
+        let descriptor = request.descriptor;
+        Some(match request.call {
+            10 => Command::Close { descriptor },
+            11 => Command::Read { descriptor },
+            12 => Command::Write {
+                descriptor,
+                bytes: data,
+            },
+            13 => Command::Seek {
+                descriptor,
+                position: Some(u32::from(request.number))
+                    .filter(|&position| position <= LAST_POSITION)?,
+            },
+            14 => Command::Duplicate { descriptor },
+            _ => return None,
+        })
+    }
+}

@@ -1,0 +1,85 @@
+//! A plain file store over flat lent tables: the second program, written from
+//! the rules alone so that the two can be compared.
+//!
+//! [`call`] answers one call, [`sound`] tells whether tables are sound, and
+//! [`act`] answers a call without testing soundness first.
+
+mod access;
+mod answer;
+mod command;
+mod descriptor_calls;
+mod directory;
+mod name_calls;
+mod numbers;
+mod path;
+mod path_calls;
+mod process_calls;
+mod records;
+mod refusal;
+mod rights;
+mod serve;
+mod sound;
+mod tables;
+mod upkeep;
+mod walk;
+
+pub use answer::Answer;
+pub use command::Request;
+
+use refusal::Refusal;
+use tables::{Store, Tables};
+
+/// Answers one call on the lent tables.
+///
+/// Tables of another size and unsound ones are refused. A refusal changes
+/// nothing lent; only a granted read writes to the buffer.
+#[allow(clippy::too_many_arguments)] // the lent tables come one by one
+pub fn call(
+    files: &mut [u32],
+    contents: &mut [u8],
+    open_files: &mut [u32],
+    processes: &mut [u32],
+    policy: &[u8],
+    request: Request,
+    path: &[u8],
+    data: &[u8],
+    buffer: &mut [u8],
+) -> Answer {
+    match Store::lend(files, contents, open_files, processes, policy) {
+        Some(store) if sound::is_sound(&store.tables()) => {
+            serve::answer(store, request, path, data, buffer)
+        }
+        _ => Answer::from(Refusal::Unsound),
+    }
+}
+
+/// As [`call`], without the soundness test: for sound tables only.
+#[allow(clippy::too_many_arguments)] // the lent tables come one by one
+pub fn act(
+    files: &mut [u32],
+    contents: &mut [u8],
+    open_files: &mut [u32],
+    processes: &mut [u32],
+    policy: &[u8],
+    request: Request,
+    path: &[u8],
+    data: &[u8],
+    buffer: &mut [u8],
+) -> Answer {
+    match Store::lend(files, contents, open_files, processes, policy) {
+        Some(store) => serve::answer(store, request, path, data, buffer),
+        None => Answer::from(Refusal::Unsound),
+    }
+}
+
+/// Whether the tables have the right sizes and the store and policy are sound.
+pub fn sound(
+    files: &[u32],
+    contents: &[u8],
+    open_files: &[u32],
+    processes: &[u32],
+    policy: &[u8],
+) -> bool {
+    Tables::lend(files, contents, open_files, processes, policy)
+        .is_some_and(|tables| sound::is_sound(&tables))
+}

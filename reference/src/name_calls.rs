@@ -1,0 +1,84 @@
+//! The calls that give and take names: create, make directory, unlink,
+//! remove directory and link.
+
+use crate::access::Caller;
+use crate::answer::Answer;
+use crate::directory;
+use crate::numbers::Slot;
+use crate::path::{Path, Target};
+use crate::records::{File, Kind};
+use crate::refusal::{Refusal, Refused};
+use crate::rights::Rights;
+use crate::tables::Store;
+
+impl Store<'_> {
+    /// Calls 2 and 3: an empty plain file, or a directory.
+    pub fn make(
+        &mut self,
+        caller: Caller,
+        kind: Kind,
+        target: &Target,
+        bits: Rights,
+    ) -> Result<Answer, Refused> {
+        let parent = self.check_new_name(caller, target)?;
+        let slot = self.lowest_free_slot().ok_or(Refusal::TableFull)?;
+        let place = self.check_place(parent)?;
+        let made = File {
+            kind,
+            owner: caller.user,
+            bits,
+            label: self.file(parent).label,
+            ..File::free(self.file(slot).stamp)
+        };
+        self.set_file(slot, made);
+        self.add_name(parent, place, target.name, slot);
+        Ok(Answer::value(slot.0))
+    }
+
+    /// Call 4.
+    pub fn unlink(&mut self, caller: Caller, target: &Target) -> Result<Answer, Refused> {
+        let found = self.walk_to_name(caller, target)?;
+        self.check_kind(found.slot, Kind::PLAIN)?;
+        self.check_rights(caller, found.parent, Rights::WRITE)?;
+        self.remove_name(&found);
+        self.free_if_unreachable(found.slot);
+        Ok(Answer::done())
+    }
+
+    /// Call 5.
+    pub fn remove_directory(&mut self, caller: Caller, target: &Target) -> Result<Answer, Refused> {
+        let found = self.walk_to_name(caller, target)?;
+        self.check_kind(found.slot, Kind::DIRECTORY)?;
+        self.check_rights(caller, found.parent, Rights::WRITE)?;
+        if self.file(found.slot).length > 0 {
+            return Err(Refusal::NotEmpty.into());
+        }
+        self.remove_name(&found);
+        self.free(found.slot);
+        Ok(Answer::done())
+    }
+
+    /// Call 6.
+    pub fn link(&mut self, caller: Caller, old: &Path, new: &Target) -> Result<Answer, Refused> {
+        let slot = self.walk(caller, old)?;
+        self.check_kind(slot, Kind::PLAIN)?;
+        let parent = self.check_new_name(caller, new)?;
+        let place = self.check_place(parent)?;
+        self.add_name(parent, place, new.name, slot);
+        Ok(Answer::done())
+    }
+
+    /// The parent in which a new name may be made.
+    fn check_new_name(&self, caller: Caller, target: &Target) -> Result<Slot, Refused> {
+        let parent = self.walk_to_parent(caller, target)?;
+        if directory::find(self.block(parent), target.name).is_some() {
+            return Err(Refusal::NameThere.into());
+        }
+        self.check_rights(caller, parent, Rights::WRITE)?;
+        Ok(parent)
+    }
+
+    fn check_place(&self, parent: Slot) -> Result<usize, Refusal> {
+        directory::free_place(self.block(parent)).ok_or(Refusal::TableFull)
+    }
+}

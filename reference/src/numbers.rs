@@ -1,0 +1,88 @@
+//! The numbers that name things, each with its own type.
+//!
+//! Those read from the tables are taken as they stand; the soundness test is
+//! what makes sure that they are in range.
+
+pub const SLOTS: usize = 64;
+pub const ENTRIES: usize = 32;
+pub const PROCESSES: usize = 8;
+pub const DESCRIPTORS: usize = 8;
+
+/// The number of a file.
+#[derive(Clone, Copy, Debug, PartialEq, Eq)]
+pub struct Slot(pub u32);
+
+impl Slot {
+    pub const ROOT: Slot = Slot(0);
+
+    pub fn new(number: u32) -> Option<Slot> {
+        ((number as usize) < SLOTS).then_some(Slot(number))
+    }
+
+    pub fn index(self) -> usize {
+        self.0 as usize
+    }
+
+    pub fn all() -> impl Iterator<Item = Slot> {
+        (0..SLOTS as u32).map(Slot)
+    }
+}
+
+/// The number of an open entry.
+#[derive(Clone, Copy, Debug, PartialEq, Eq)]
+pub struct EntryNumber(pub u32);
+
+impl EntryNumber {
+    pub fn index(self) -> usize {
+        self.0 as usize
+    }
+
+    pub fn all() -> impl Iterator<Item = EntryNumber> {
+        (0..ENTRIES as u32).map(EntryNumber)
+    }
+
+    /// What a descriptor word names: 0 is nothing, `e + 1` is entry `e`.
+    pub fn from_word(word: u32) -> Option<EntryNumber> {
+        word.checked_sub(1).map(EntryNumber)
+    }
+
+    pub fn to_word(held: Option<EntryNumber>) -> u32 {
+        held.map_or(0, |entry| entry.0 + 1)
+    }
+}
+
+/// The number of a process.
+#[derive(Clone, Copy, Debug, PartialEq, Eq)]
+pub struct ProcessNumber(u8);
+
+impl ProcessNumber {
+    pub fn new(number: u8) -> Option<ProcessNumber> {
+        (usize::from(number) < PROCESSES).then_some(ProcessNumber(number))
+    }
+
+    pub fn index(self) -> usize {
+        usize::from(self.0)
+    }
+
+    pub fn all() -> impl Iterator<Item = ProcessNumber> {
+        (0..PROCESSES as u8).map(ProcessNumber)
+    }
+}
+
+/// The number by which a process holds an open entry.
+#[derive(Clone, Copy, Debug, PartialEq, Eq)]
+pub struct Descriptor(u8);
+
+impl Descriptor {
+    pub fn new(number: u8) -> Option<Descriptor> {
+        (usize::from(number) < DESCRIPTORS).then_some(Descriptor(number))
+    }
+
+    pub fn index(self) -> usize {
+        usize::from(self.0)
+    }
+
+    pub fn all() -> impl Iterator<Item = Descriptor> {
+        (0..DESCRIPTORS as u8).map(Descriptor)
+    }
+}

@@ -1,0 +1,96 @@
+//! The other calls on a path: open, list, change bits, stat and execute.
+
+use crate::access::Caller;
+use crate::answer::Answer;
+use crate::directory::{self, BLOCK};
+use crate::numbers::Slot;
+use crate::path::Path;
+use crate::records::{Entry, Kind};
+use crate::refusal::{Refusal, Refused};
+use crate::rights::{Opening, Rights};
+use crate::tables::Store;
+
+impl Store<'_> {
+    /// Call 1.
+    pub fn open(
+        &mut self,
+        caller: Caller,
+        path: &Path,
+        opening: Opening,
+    ) -> Result<Answer, Refused> {
+        let slot = self.walk(caller, path)?;
+        self.check_kind(slot, Kind::PLAIN)?;
+        self.check_rights(caller, slot, opening.mode.wanted())?;
+        let descriptor = self
+            .lowest_free_descriptor(caller.process)
+            .ok_or(Refusal::TableFull)?;
+        let number = self.lowest_free_entry().ok_or(Refusal::TableFull)?;
+        let entry = Entry {
+            slot,
+            mode: opening.mode,
+            position: 0,
+            references: 1,
+        };
+        self.set_entry(number, entry);
+        self.set_descriptor(caller.process, descriptor, Some(number));
+        if opening.cut {
+            self.cut(slot);
+        }
+        Ok(Answer::value(descriptor.index() as u32))
+    }
+
+    /// Empties a file. An empty one stays as it is.
+    fn cut(&mut self, slot: Slot) {
+        if self.file(slot).length > 0 {
+            *self.block_mut(slot) = [0; BLOCK];
+            self.change_file(slot, |file| {
+                file.length = 0;
+                file.raise_stamp();
+            });
+        }
+    }
+
+    /// Call 7.
+    pub fn list(&self, caller: Caller, path: &Path, index: usize) -> Result<Answer, Refused> {
+        let slot = self.walk(caller, path)?;
+        self.check_kind(slot, Kind::DIRECTORY)?;
+        self.check_rights(caller, slot, Rights::READ)?;
+        let name = directory::name_in_order(self.block(slot), index);
+        Ok(name.map_or_else(Answer::done, Answer::listed))
+    }
+
+    /// Call 8.
+    pub fn change_bits(
+        &mut self,
+        caller: Caller,
+        path: &Path,
+        bits: Rights,
+    ) -> Result<Answer, Refused> {
+        let slot = self.walk(caller, path)?;
+        let file = self.file(slot);
+        if !caller.is_master_of(&file) {
+            return Err(Refusal::BitsForbid.into());
+        }
+        self.check_label(caller, &file, Rights::WRITE)?;
+        self.change_file(slot, |file| file.bits = bits);
+        Ok(Answer::done())
+    }
+
+    /// Call 9.
+    pub fn stat(&self, caller: Caller, path: &Path) -> Result<Answer, Refused> {
+        let slot = self.walk(caller, path)?;
+        Ok(Answer::stat(self.file(slot).words()))
+    }
+
+    /// Call 17.
+    pub fn execute(&mut self, caller: Caller, path: &Path) -> Result<Answer, Refused> {
+        let slot = self.walk(caller, path)?;
+        self.check_kind(slot, Kind::PLAIN)?;
+        self.check_rights(caller, slot, Rights::EXECUTE)?;
+        let program_label = self.file(slot).label;
+        if let Some(label) = self.transition(caller.label, program_label) {
+            self.set_process_label(caller.process, label);
+        }
+        Ok(Answer::done())
+    }
+}

@@ -1,0 +1,82 @@
+//! Rights, and the modes in which a file can be open.
+
+/// A set of rights: read 4, write 2, search or execute 1.
+#[derive(Clone, Copy, Debug, PartialEq, Eq)]
+pub struct Rights(pub u32);
+
+impl Rights {
+    pub const NONE: Rights = Rights(0);
+    pub const SEARCH: Rights = Rights(1);
+    pub const EXECUTE: Rights = Rights(1);
+    pub const WRITE: Rights = Rights(2);
+    pub const READ: Rights = Rights(4);
+    pub const READ_WRITE: Rights = Rights(6);
+
+    const MAX: u32 = 7;
+
+    pub fn new(number: u32) -> Option<Rights> {
+        Some(Rights(number)).filter(|rights| rights.in_range())
+    }
+
+    pub fn in_range(self) -> bool {
+        self.0 <= Rights::MAX
+    }
+
+    /// Whether all the wanted rights stand in these.
+    pub fn hold(self, wanted: Rights) -> bool {
+        self.0 & wanted.0 == wanted.0
+    }
+}
+
+/// The mode of an open entry.
+#[derive(Clone, Copy, Debug, PartialEq, Eq)]
+pub struct OpenMode(pub u32);
+
+impl OpenMode {
+    pub const READ: OpenMode = OpenMode(1);
+    pub const WRITE: OpenMode = OpenMode(2);
+    pub const BOTH: OpenMode = OpenMode(3);
+    pub const APPEND: OpenMode = OpenMode(4);
+
+    pub fn new(number: u32) -> Option<OpenMode> {
+        Some(OpenMode(number)).filter(|mode| mode.in_range())
+    }
+
+    pub fn in_range(self) -> bool {
+        (OpenMode::READ.0..=OpenMode::APPEND.0).contains(&self.0)
+    }
+
+    pub fn reads(self) -> bool {
+        self == OpenMode::READ || self == OpenMode::BOTH
+    }
+
+    pub fn writes(self) -> bool {
+        self == OpenMode::WRITE || self == OpenMode::BOTH || self == OpenMode::APPEND
+    }
+
+    /// The rights that opening in this mode wants.
+    pub fn wanted(self) -> Rights {
+        match self {
+            OpenMode::READ => Rights::READ,
+            OpenMode::BOTH => Rights::READ_WRITE,
+            _ => Rights::WRITE,
+        }
+    }
+}
+
+/// An open call's number: a mode, and whether the file is to be cut.
+#[derive(Clone, Copy, Debug, PartialEq, Eq)]
+pub struct Opening {
+    pub mode: OpenMode,
+    pub cut: bool,
+}
+
+impl Opening {
+    const CUT: u32 = 8;
+
+    pub fn new(number: u32) -> Option<Opening> {
+        let cut = number & Opening::CUT != 0;
+        let mode = OpenMode::new(number & !Opening::CUT)?;
+        (mode.writes() || !cut).then_some(Opening { mode, cut })
+    }
+}

@@ -1,0 +1,171 @@
+//! The lent tables, cut into records, and the plain reading and setting of
+//! them.
+
+use crate::directory::Block;
+use crate::numbers::{Descriptor, EntryNumber, ProcessNumber, Slot, ENTRIES, PROCESSES, SLOTS};
+use crate::records::{Entry, File, Process, ENTRY_WORDS, FILE_WORDS, PROCESS_WORDS};
+use crate::rights::Rights;
+
+pub const LABELS: usize = 16;
+pub const RIGHTS: usize = LABELS * LABELS;
+pub const NO_TRANSITION: u8 = 255;
+
+pub type FileTable = [[u32; FILE_WORDS]; SLOTS];
+pub type ContentsTable = [Block; SLOTS];
+pub type EntryTable = [[u32; ENTRY_WORDS]; ENTRIES];
+pub type ProcessTable = [[u32; PROCESS_WORDS]; PROCESSES];
+pub type Policy = [u8; 2 * RIGHTS];
+
+/// The tables, lent for reading.
+#[derive(Clone, Copy)]
+pub struct Tables<'a> {
+    pub files: &'a FileTable,
+    pub contents: &'a ContentsTable,
+    pub open_files: &'a EntryTable,
+    pub processes: &'a ProcessTable,
+    pub policy: &'a Policy,
+}
+
+impl<'a> Tables<'a> {
+    /// The tables, if each has its right size.
+    pub fn lend(
+        files: &'a [u32],
+        contents: &'a [u8],
+        open_files: &'a [u32],
+        processes: &'a [u32],
+        policy: &'a [u8],
+    ) -> Option<Tables<'a>> {
+        Some(Tables {
+            files: records(files)?,
+            contents: records(contents)?,
+            open_files: records(open_files)?,
+            processes: records(processes)?,
+            policy: policy.try_into().ok()?,
+        })
+    }
+}
+
+/// The tables, lent for a call.
+pub struct Store<'a> {
+    files: &'a mut FileTable,
+    contents: &'a mut ContentsTable,
+    open_files: &'a mut EntryTable,
+    processes: &'a mut ProcessTable,
+    policy: &'a Policy,
+}
+
+impl<'a> Store<'a> {
+    /// The store, if each table has its right size.
+    pub fn lend(
+        files: &'a mut [u32],
+        contents: &'a mut [u8],
+        open_files: &'a mut [u32],
+        processes: &'a mut [u32],
+        policy: &'a [u8],
+    ) -> Option<Store<'a>> {
+        Some(Store {
+            files: records_mut(files)?,
+            contents: records_mut(contents)?,
+            open_files: records_mut(open_files)?,
+            processes: records_mut(processes)?,
+            policy: policy.try_into().ok()?,
+        })
+    }
+
+    pub fn tables(&self) -> Tables<'_> {
+        Tables {
+            files: self.files,
+            contents: self.contents,
+            open_files: self.open_files,
+            processes: self.processes,
+            policy: self.policy,
+        }
+    }
+
+    pub fn file(&self, slot: Slot) -> File {
+        File::from_words(self.files[slot.index()])
+    }
+
+    pub fn set_file(&mut self, slot: Slot, file: File) {
+        self.files[slot.index()] = file.words();
+    }
+
+    pub fn block(&self, slot: Slot) -> &Block {
+        &self.contents[slot.index()]
+    }
+
+    pub fn block_mut(&mut self, slot: Slot) -> &mut Block {
+        &mut self.contents[slot.index()]
+    }
+
+    pub fn entry(&self, number: EntryNumber) -> Entry {
+        Entry::from_words(self.open_files[number.index()])
+    }
+
+    pub fn set_entry(&mut self, number: EntryNumber, entry: Entry) {
+        self.open_files[number.index()] = entry.words();
+    }
+
+    pub fn clear_entry(&mut self, number: EntryNumber) {
+        self.open_files[number.index()] = Entry::FREE_WORDS;
+    }
+
+    pub fn process(&self, number: ProcessNumber) -> Process {
+        Process::from_words(self.processes[number.index()])
+    }
+
+    pub fn copy_process(&mut self, from: ProcessNumber, to: ProcessNumber) {
+        self.processes[to.index()] = self.processes[from.index()];
+    }
+
+    pub fn clear_process(&mut self, number: ProcessNumber) {
+        self.processes[number.index()] = Process::FREE_WORDS;
+    }
+
+    pub fn set_process_label(&mut self, number: ProcessNumber, label: u32) {
+        self.processes[number.index()][2] = label;
+    }
+
+    pub fn set_descriptor(
+        &mut self,
+        process: ProcessNumber,
+        descriptor: Descriptor,
+        held: Option<EntryNumber>,
+    ) {
+        self.processes[process.index()][3 + descriptor.index()] = EntryNumber::to_word(held);
+    }
+
+    /// The rights of a process label over a file label.
+    pub fn label_rights(&self, process_label: u32, file_label: u32) -> Rights {
+        Rights(u32::from(self.policy[cell(process_label, file_label)]))
+    }
+
+    /// The label to which a program's label moves a process's.
+    pub fn transition(&self, label: u32, program_label: u32) -> Option<u32> {
+        match self.policy[RIGHTS + cell(label, program_label)] {
+            NO_TRANSITION => None,
+            next => Some(u32::from(next)),
+        }
+    }
+}
+
+fn cell(process_label: u32, file_label: u32) -> usize {
+    LABELS * process_label as usize + file_label as usize
+}
+
+/// A flat table cut into `COUNT` records of `SIZE`, if it has just that size.
+fn records<T, const SIZE: usize, const COUNT: usize>(flat: &[T]) -> Option<&[[T; SIZE]; COUNT]> {
+    match flat.as_chunks() {
+        (records, []) => records.try_into().ok(),
+        _ => None,
+    }
+}
+
+fn records_mut<T, const SIZE: usize, const COUNT: usize>(
+    flat: &mut [T],
+) -> Option<&mut [[T; SIZE]; COUNT]> {
+    match flat.as_chunks_mut() {
+        (records, []) => records.try_into().ok(),
+        _ => None,
+    }
+}

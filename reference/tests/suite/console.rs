@@ -1,0 +1,203 @@
+//! The test console, and calls on it that are checked as they are made.
+
+use reference::{act, call, sound, Answer, Request};
+
+pub const FREE: u32 = 0;
+pub const PLAIN: u32 = 1;
+pub const DIRECTORY: u32 = 2;
+
+/// Tables that can be lent.
+#[derive(Clone, Debug, PartialEq, Eq)]
+pub struct Console {
+    pub files: Vec<u32>,
+    pub contents: Vec<u8>,
+    pub open_files: Vec<u32>,
+    pub processes: Vec<u32>,
+    pub policy: Vec<u8>,
+}
+
+/// The parts of a call that have no bytes, all 0 unless set.
+pub fn request(process: u8, call: u8) -> Request {
+    Request {
+        process,
+        call,
+        descriptor: 0,
+        number: 0,
+    }
+}
+
+impl Console {
+    /// A sound store with nothing but an empty root, and no rights.
+    pub fn empty() -> Console {
+        let mut policy = vec![0; 256];
+        policy.extend([255; 256]);
+        let mut console = Console {
+            files: vec![0; 64 * 7],
+            contents: vec![0; 64 * 512],
+            open_files: vec![0; 32 * 4],
+            processes: vec![0; 8 * 11],
+            policy,
+        };
+        console.set_file(0, [DIRECTORY, 0, 5, 0, 0, 0, 0]);
+        console
+    }
+
+    /// The console of the paper.
+    pub fn new() -> Console {
+        let mut console = Console::empty();
+        console.set_file(0, [DIRECTORY, 0, 5, 0, 2, 0, 0]);
+        console.set_file(1, [DIRECTORY, 10, 5, 0, 1, 1, 0]);
+        console.set_file(2, [PLAIN, 10, 4, 0, 5, 1, 0]);
+        console.set_file(3, [PLAIN, 10, 0, 3, 4, 1, 0]);
+        console.set_place(0, 0, b"fares", 1);
+        console.set_place(0, 1, b"key", 3);
+        console.set_place(1, 0, b"now", 2);
+        console.set_bytes(2, b"2.40\n");
+        console.set_bytes(3, b"1234");
+        for (process, user) in [0, 10, 20].into_iter().enumerate() {
+            console.set_process(process, user, process as u32);
+        }
+        for (label, over_0, over_3) in [(0, 7, 0), (1, 7, 2), (2, 5, 0)] {
+            console.policy[16 * label] = over_0;
+            console.policy[16 * label + 3] = over_3;
+        }
+        console
+    }
+
+    /// A console in which every label has every right over every file.
+    pub fn open_policy() -> Console {
+        let mut console = Console::new();
+        console.policy[..256].fill(7);
+        console
+    }
+
+    pub fn set_file(&mut self, slot: usize, record: [u32; 7]) {
+        self.files[7 * slot..][..7].copy_from_slice(&record);
+    }
+
+    pub fn file(&self, slot: usize) -> [u32; 7] {
+        self.files[7 * slot..][..7].try_into().unwrap()
+    }
+
+    pub fn kind(&self, slot: usize) -> u32 {
+        self.file(slot)[0]
+    }
+
+    pub fn length(&self, slot: usize) -> usize {
+        self.file(slot)[4] as usize
+    }
+
+    pub fn names(&self, slot: usize) -> u32 {
+        self.file(slot)[5]
+    }
+
+    pub fn stamp(&self, slot: usize) -> u32 {
+        self.file(slot)[6]
+    }
+
+    pub fn set_stamp(&mut self, slot: usize, stamp: u32) {
+        self.files[7 * slot + 6] = stamp;
+    }
+
+    pub fn set_place(&mut self, slot: usize, place: usize, name: &[u8], named: u8) {
+        let bytes = &mut self.contents[512 * slot + 16 * place..][..16];
+        bytes.fill(0);
+        bytes[..name.len()].copy_from_slice(name);
+        bytes[14] = named;
+    }
+
+    pub fn set_bytes(&mut self, slot: usize, bytes: &[u8]) {
+        self.contents[512 * slot..][..bytes.len()].copy_from_slice(bytes);
+    }
+
+    pub fn block(&self, slot: usize) -> &[u8] {
+        &self.contents[512 * slot..][..512]
+    }
+
+    pub fn bytes(&self, slot: usize) -> &[u8] {
+        &self.block(slot)[..self.length(slot)]
+    }
+
+    pub fn entry(&self, number: usize) -> [u32; 4] {
+        self.open_files[4 * number..][..4].try_into().unwrap()
+    }
+
+    pub fn set_process(&mut self, process: usize, user: u32, label: u32) {
+        self.processes[11 * process..][..3].copy_from_slice(&[1, user, label]);
+    }
+
+    pub fn process(&self, process: usize) -> [u32; 11] {
+        self.processes[11 * process..][..11].try_into().unwrap()
+    }
+
+    pub fn is_sound(&self) -> bool {
+        sound(
+            &self.files,
+            &self.contents,
+            &self.open_files,
+            &self.processes,
+            &self.policy,
+        )
+    }
+
+    /// The call as it is, with nothing checked.
+    pub fn raw(&mut self, request: Request, path: &[u8], data: &[u8], buffer: &mut [u8]) -> Answer {
+        call(
+            &mut self.files,
+            &mut self.contents,
+            &mut self.open_files,
+            &mut self.processes,
+            &self.policy,
+            request,
+            path,
+            data,
+            buffer,
+        )
+    }
+
+    fn raw_act(&mut self, request: Request, path: &[u8], data: &[u8], buffer: &mut [u8]) -> Answer {
+        act(
+            &mut self.files,
+            &mut self.contents,
+            &mut self.open_files,
+            &mut self.processes,
+            &self.policy,
+            request,
+            path,
+            data,
+            buffer,
+        )
+    }
+
+    /// A call on sound tables, held to what is true of every call.
+    pub fn call(
+        &mut self,
+        request: Request,
+        path: &[u8],
+        data: &[u8],
+        buffer: &mut [u8],
+    ) -> Answer {
+        assert!(self.is_sound());
+        let (before, lent) = (self.clone(), buffer.to_vec());
+        let answer = self.raw(request, path, data, buffer);
+
+        let (mut other, mut other_buffer) = (before.clone(), lent.clone());
+        let unasked = other.raw_act(request, path, data, &mut other_buffer);
+        assert_eq!((&unasked, &other), (&answer, &*self));
+        assert_eq!(other_buffer, buffer);
+
+        assert!(self.is_sound());
+        assert_eq!(self.policy, before.policy);
+        let read = (answer.refusal, request.call) == (0, 11);
+        let written = if read { answer.value as usize } else { 0 };
+        assert_eq!(buffer[written..], lent[written..]);
+        if answer.refusal != 0 {
+            assert_eq!(*self, before);
+            assert_eq!((answer.value, &answer.name[..]), (0, &b""[..]));
+            assert_eq!(answer.fields, None);
+        } else {
+            assert_eq!(answer.stop, 0);
+        }
+        answer
+    }
+}

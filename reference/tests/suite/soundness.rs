@@ -1,0 +1,375 @@
+//! Each clause of "Sound": one defect makes a sound store unsound.
+
+use crate::console::{Console, DIRECTORY, PLAIN};
+
+/// A sound console with something of everything: /fares/d/x beside the rest,
+/// descriptors 0 and 1 of process 1 on entry 0, and a nameless open slot 6.
+fn busy() -> Console {
+    let mut console = Console::new();
+    assert_eq!(console.make_directory(1, "/fares/d", 5), Ok(4));
+    assert_eq!(console.create(1, "/fares/d/x", 5), Ok(5));
+    assert_eq!(console.create(1, "/fares/gone", 5), Ok(6));
+    assert_eq!(console.open(1, "/fares/now", 3), Ok(0));
+    assert_eq!(console.duplicate(1, 0), Ok(1));
+    assert_eq!(console.open(1, "/fares/gone", 2), Ok(2));
+    assert_eq!(console.unlink(1, "/fares/gone"), Ok(0));
+    assert!(console.is_sound());
+    console
+}
+
+const fn file(slot: usize, field: usize) -> usize {
+    7 * slot + field
+}
+
+const fn byte(slot: usize, place: usize, at: usize) -> usize {
+    512 * slot + 16 * place + at
+}
+
+/// Each change makes the busy console unsound, taken alone.
+fn unsound(changes: &[fn(&mut Console)]) {
+    for (number, change) in changes.iter().enumerate() {
+        let mut console = busy();
+        let before = console.clone();
+        change(&mut console);
+        assert_ne!(console, before, "change {number} changes nothing");
+        assert!(!console.is_sound(), "change {number}");
+    }
+}
+
+/// Each change leaves the busy console sound, taken alone.
+fn still_sound(changes: &[fn(&mut Console)]) {
+    for (number, change) in changes.iter().enumerate() {
+        let mut console = busy();
+        change(&mut console);
+        assert!(console.is_sound(), "change {number}");
+    }
+}
+
+#[test]
+fn consoles_are_sound() {
+    assert!(Console::empty().is_sound());
+    assert!(Console::new().is_sound());
+    assert!(busy().is_sound());
+}
+
+#[test]
+fn a_file_has_its_fields_in_range() {
+    unsound(&[
+        |console| console.files[file(2, 0)] = 3,
+        |console| console.files[file(2, 0)] = u32::MAX,
+        |console| console.files[file(2, 1)] = 65_536,
+        |console| console.files[file(1, 1)] = 65_536,
+        |console| console.files[file(2, 2)] = 8,
+        |console| console.files[file(1, 2)] = 8,
+        |console| console.files[file(0, 3)] = 16,
+        |console| console.files[file(2, 3)] = 16,
+    ]);
+    still_sound(&[
+        |console| console.files[file(2, 1)] = 65_535,
+        |console| console.files[file(2, 2)] = 7,
+        |console| console.files[file(2, 3)] = 15,
+        |console| console.files[file(2, 6)] = u32::MAX,
+    ]);
+}
+
+#[test]
+fn a_free_record_is_zero_but_for_its_stamp() {
+    unsound(&[
+        |console| console.files[file(63, 1)] = 1,
+        |console| console.files[file(63, 2)] = 1,
+        |console| console.files[file(63, 3)] = 1,
+        |console| console.files[file(63, 4)] = 1,
+        |console| console.files[file(63, 5)] = 1,
+    ]);
+    still_sound(&[|console| console.files[file(63, 6)] = 1]);
+}
+
+#[test]
+fn an_entry_has_its_fields_in_range() {
+    unsound(&[
+        |console| console.open_files[0] = 64,
+        |console| console.open_files[0] = u32::MAX,
+        |console| console.open_files[1] = 0,
+        |console| console.open_files[1] = 5,
+        |console| console.open_files[1] = 11,
+        |console| console.open_files[2] = 513,
+    ]);
+    still_sound(&[
+        |console| console.open_files[1] = 4,
+        |console| console.open_files[2] = 512,
+    ]);
+}
+
+#[test]
+fn a_free_entry_is_all_zero() {
+    unsound(&[
+        |console| console.open_files[4 * 31] = 2,
+        |console| console.open_files[4 * 31 + 1] = 1,
+        |console| console.open_files[4 * 31 + 2] = 1,
+        |console| console.open_files[4 * 31 + 3] = 1,
+    ]);
+}
+
+#[test]
+fn a_process_has_its_fields_in_range() {
+    unsound(&[
+        |console| console.processes[0] = 2,
+        |console| console.processes[1] = 65_536,
+        |console| console.processes[2] = 16,
+        |console| console.processes[11 + 3] = 33,
+        |console| console.processes[11 + 10] = u32::MAX,
+    ]);
+    still_sound(&[
+        |console| console.processes[1] = 65_535,
+        |console| console.processes[2] = 15,
+    ]);
+}
+
+#[test]
+fn a_free_process_is_all_zero() {
+    unsound(&[
+        |console| console.processes[11 * 7 + 1] = 1,
+        |console| console.processes[11 * 7 + 2] = 1,
+        |console| {
+            console.processes[11 * 7 + 3] = 1;
+            console.open_files[3] = 3;
+        },
+        |console| console.processes[11] = 0,
+    ]);
+    still_sound(&[|console| console.processes[11 * 7] = 1]);
+}
+
+#[test]
+fn the_policy_is_in_range() {
+    unsound(&[
+        |console| console.policy[0] = 8,
+        |console| console.policy[255] = 255,
+        |console| console.policy[256] = 16,
+        |console| console.policy[511] = 254,
+    ]);
+    still_sound(&[
+        |console| console.policy[255] = 7,
+        |console| console.policy[256] = 15,
+        |console| console.policy[511] = 0,
+    ]);
+}
+
+#[test]
+fn the_root_is_a_directory_with_no_name() {
+    unsound(&[
+        |console| console.files[file(0, 5)] = 1,
+        |console| {
+            console.set_place(4, 1, b"root", 0);
+            console.files[file(4, 4)] = 2;
+        },
+        |console| {
+            console.set_place(4, 1, b"root", 0);
+            console.files[file(4, 4)] = 2;
+            console.files[file(0, 5)] = 1;
+        },
+    ]);
+    let mut console = Console::empty();
+    console.set_file(0, [PLAIN, 0, 5, 0, 0, 0, 0]);
+    assert!(!console.is_sound());
+    console.set_file(0, [0; 7]);
+    assert!(!console.is_sound());
+}
+
+#[test]
+fn every_other_directory_is_named_exactly_once() {
+    unsound(&[
+        |console| {
+            console.set_place(0, 2, b"again", 4);
+            console.files[file(0, 4)] = 3;
+            console.files[file(4, 5)] = 2;
+        },
+        |console| {
+            console.set_place(1, 3, b"again", 4);
+            console.files[file(1, 4)] = 3;
+            console.files[file(4, 5)] = 2;
+        },
+        |console| console.set_file(20, [DIRECTORY, 0, 0, 0, 0, 0, 0]),
+    ]);
+    // A plain file may have several names.
+    still_sound(&[|console| {
+        console.set_place(0, 2, b"again", 2);
+        console.files[file(0, 4)] = 3;
+        console.files[file(2, 5)] = 2;
+    }]);
+}
+
+/// A chain of directories, `depth` of them below the root.
+fn chain(depth: usize) -> Console {
+    let mut console = Console::empty();
+    for slot in 1..=depth {
+        console.set_place(slot - 1, 0, b"d", slot as u8);
+        console.files[file(slot - 1, 4)] = 1;
+        console.set_file(slot, [DIRECTORY, 0, 0, 0, 0, 1, 0]);
+    }
+    console
+}
+
+#[test]
+fn a_directory_is_at_most_8_names_deep() {
+    for depth in 0..=8 {
+        assert!(chain(depth).is_sound());
+    }
+    for depth in 9..=63 {
+        assert!(!chain(depth).is_sound());
+    }
+}
+
+#[test]
+fn a_plain_file_may_lie_in_the_deepest_directory() {
+    let mut console = chain(8);
+    console.set_place(8, 0, b"x", 9);
+    console.files[file(8, 4)] = 1;
+    console.set_file(9, [PLAIN, 0, 0, 0, 0, 1, 0]);
+    assert!(console.is_sound());
+}
+
+#[test]
+fn every_directory_is_reached_from_the_root() {
+    unsound(&[
+        |console| {
+            // One that names itself.
+            console.set_file(20, [DIRECTORY, 0, 0, 0, 1, 1, 0]);
+            console.set_place(20, 0, b"me", 20);
+        },
+        |console| {
+            // Two that name each other.
+            console.set_file(20, [DIRECTORY, 0, 0, 0, 1, 1, 0]);
+            console.set_file(21, [DIRECTORY, 0, 0, 0, 1, 1, 0]);
+            console.set_place(20, 0, b"you", 21);
+            console.set_place(21, 0, b"you", 20);
+        },
+    ]);
+}
+
+#[test]
+fn names_are_valid() {
+    unsound(&[
+        |console| console.set_place(1, 0, b".", 2),
+        |console| console.set_place(1, 0, b"..", 2),
+        |console| console.set_place(1, 0, b"n/w", 2),
+        |console| console.set_place(1, 0, b"/", 2),
+        |console| console.set_place(1, 0, b"", 2),
+        |console| console.set_place(1, 0, b"n\0w", 2),
+        |console| console.set_place(1, 0, b"\0now", 2),
+    ]);
+    still_sound(&[
+        |console| console.set_place(1, 0, b"...", 2),
+        |console| console.set_place(1, 0, b"12345678901234", 2),
+        |console| console.set_place(1, 0, b"\xff\x01", 2),
+    ]);
+}
+
+#[test]
+fn names_are_different_within_a_directory() {
+    unsound(&[
+        |console| console.set_place(0, 1, b"fares", 3),
+        |console| {
+            console.set_place(0, 15, b"key", 2);
+            console.files[file(0, 4)] = 3;
+            console.files[file(2, 5)] = 2;
+        },
+    ]);
+    still_sound(&[|console| console.set_place(4, 0, b"now", 5)]);
+}
+
+#[test]
+fn each_place_names_a_slot_in_use() {
+    unsound(&[
+        |console| console.contents[byte(0, 1, 14)] = 20,
+        |console| console.contents[byte(0, 1, 14)] = 64,
+        |console| console.contents[byte(0, 1, 14)] = 255,
+        |console| console.contents[byte(0, 1, 14)] = 0,
+        |console| {
+            console.set_place(0, 2, b"x", 20);
+            console.files[file(0, 4)] = 3;
+        },
+    ]);
+}
+
+#[test]
+fn names_equal_the_places_counted() {
+    unsound(&[
+        |console| console.files[file(2, 5)] = 2,
+        |console| console.files[file(2, 5)] = 0,
+        |console| console.files[file(4, 5)] = 0,
+        |console| console.files[file(4, 5)] = 2,
+        |console| console.files[file(6, 5)] = 1,
+        |console| console.contents[byte(0, 1, 14)] = 2,
+    ]);
+}
+
+#[test]
+fn lengths_are_right() {
+    unsound(&[
+        |console| console.files[file(2, 4)] = 513,
+        |console| console.files[file(2, 4)] = u32::MAX,
+        |console| console.files[file(1, 4)] = 1,
+        |console| console.files[file(1, 4)] = 3,
+        |console| console.files[file(4, 4)] = 0,
+    ]);
+    still_sound(&[|console| console.files[file(2, 4)] = 512]);
+}
+
+#[test]
+fn each_plain_file_is_named_or_open() {
+    unsound(&[
+        |console| console.set_file(20, [PLAIN, 0, 0, 0, 0, 0, 0]),
+        |console| {
+            // The entry of the nameless file, and its descriptor, taken away.
+            console.open_files[4..8].fill(0);
+            console.processes[11 + 5] = 0;
+        },
+    ]);
+}
+
+#[test]
+fn open_entries_are_only_on_plain_files() {
+    unsound(&[
+        |console| console.open_files[0] = 0,
+        |console| console.open_files[0] = 1,
+        |console| console.open_files[0] = 20,
+    ]);
+    still_sound(&[|console| console.open_files[0] = 3]);
+}
+
+#[test]
+fn references_equal_the_descriptors_counted() {
+    unsound(&[
+        |console| console.open_files[3] = 1,
+        |console| console.open_files[3] = 3,
+        |console| console.open_files[3] = 0,
+        |console| console.processes[3] = 1,
+        |console| console.processes[11 + 3] = 0,
+        |console| console.processes[3] = 32,
+        |console| console.open_files[4 * 31..].copy_from_slice(&[2, 1, 0, 0]),
+        |console| console.open_files[4 * 31..].copy_from_slice(&[2, 1, 0, 1]),
+    ]);
+    still_sound(&[|console| {
+        console.open_files[4 * 31..].copy_from_slice(&[2, 1, 0, 1]);
+        console.processes[3] = 32;
+    }]);
+}
+
+#[test]
+fn the_zero_bytes_are_zero() {
+    unsound(&[
+        |console| console.contents[512 * 2 + 5] = 1, // past a plain file's length
+        |console| console.contents[512 * 2 + 511] = 1,
+        |console| console.contents[512 * 6] = 1, // in an empty file
+        |console| console.contents[512 * 63] = 1, // in a free slot
+        |console| console.contents[512 * 63 + 511] = 1,
+        |console| console.contents[byte(0, 0, 13)] = 1, // in a name's padding
+        |console| console.contents[byte(0, 0, 15)] = 1, // after a place's slot
+        |console| console.contents[byte(0, 5, 0)] = 1,  // in an empty place
+        |console| console.contents[byte(0, 5, 14)] = 2,
+        |console| console.contents[byte(0, 5, 15)] = 1,
+        |console| console.contents[byte(0, 16, 0)] = 1, // after the last place
+        |console| console.contents[byte(0, 31, 15)] = 1,
+    ]);
+    still_sound(&[|console| console.contents[512 * 2 + 4] = 0]);
+}
