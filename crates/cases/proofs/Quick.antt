@@ -42,7 +42,7 @@ entries D i (suc k) rest = let e = direntSlot D i in let es = entries D (suc i) 
 -- the slots that the directories among k slots name, from slot d on
 unfoldable pub named : Tree → ℕ → ℕ → List ℕ
 named t d zero = []
-named t d (suc k) = let rest = named t (suc d) k in cond (isDirectory t (slot d)) (entries (t .shown d) 0 DIRENTS rest) rest
+named t d (suc k) = let rest = named t (suc d) k in cond (isDirectory (t .file) (slot d)) (entries (t .shown d) 0 DIRENTS rest) rest
 
 -- how often s is named
 unfoldable pub tally : ℕ → List ℕ → ℕ
@@ -58,7 +58,7 @@ quickSlot v ns s = every (recordSound (v .tree) s ∷ quickLinks (v .tree) ns s 
 unfoldable pub quickTables : View → Bool
 quickTables v =
     let ns = named (v .tree) 0 SLOTS in
-    every (isDirectory (v .tree) (slot 0) ∷ all (quickSlot v ns) 0 SLOTS ∷ all (openSound v) 0 OPENS ∷ all (procSound v) 0 PROCESSES ∷ [])
+    every (isDirectory (v .tree .file) (slot 0) ∷ all (quickSlot v ns) 0 SLOTS ∷ all (openSound v) 0 OPENS ∷ all (procSound v) 0 PROCESSES ∷ [])
 
 unfoldable pub quickSound : Store → Bool
 quickSound s = cond (sizesSound s) (quickTables (quickView s)) false
@@ -112,7 +112,7 @@ count-entries D s rest = tally-entries D s rest 0 DIRENTS
 links-same : (t : Tree) (s d k : ℕ) → turns (λ j n. linksFrom t s j + n) d k 0 ≡ tally s (named t d k)
 unfolding turns linksFrom tally named
 links-same t s d zero = refl
-links-same t s d (suc k) = by (isDirectory t (slot d)) (turns (λ j n. linksFrom t s j + n) (suc d) k 0) (named t (suc d) k) (links-same t s (suc d) k)
+links-same t s d (suc k) = by (isDirectory (t .file) (slot d)) (turns (λ j n. linksFrom t s j + n) (suc d) k 0) (named t (suc d) k) (links-same t s (suc d) k)
   where
     by :
         (b : Bool) (n : ℕ) (rest : List ℕ) → n ≡ tally s rest →

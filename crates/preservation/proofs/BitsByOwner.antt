@@ -67,11 +67,11 @@ module _ (s : Store) (h : SoundStore s) (c : Call) (f : ℕ) where
   unlink-steady d i y (keeps a) g = inr (refl, refl)
   unlink-steady d i y (frees a b) g = unfold remade in split g (y .0) (λ q t. rw t (inl refl)) (λ q t. rw t (inr (refl, refl)))
 
-  remove-steady : (d : Slot) (i : ℕ) (y : Slot) → Steady (tablesOf s) (unlinkedTables s h d i (unnamed.Freed y (checks.freed (view s .tree) y)))
+  remove-steady : (d : Slot) (i : ℕ) (y : Slot) → Steady (tablesOf s) (unlinkedTables s h d i (unnamed.Freed y (checks.freed (view s .tree .file) y)))
   unfolding unlinkedTables
   remove-steady d i y g = unfold remade in split g (y .0) (λ q t. rw t (inl refl)) (λ q t. rw t (inr (refl, refl)))
 
-  owner-or-0 : (y : ℕ) → owns (subjectOf (view s) (c .process)) (view s .tree .file y OWNER) ≡ true → (callerUser s c ≡ 0) ⊎ (callerUser s c ≡ tablesOf s .file y OWNER)
+  owner-or-0 : (y : ℕ) → owns (subjectOf (view s .proc) (c .process)) (view s .tree .file y OWNER) ≡ true → (callerUser s c ≡ 0) ⊎ (callerUser s c ≡ tablesOf s .file y OWNER)
   unfolding owns tablesOf
   owner-or-0 y t = by (ℕ-discrete (callerUser s c) 0)
     where
@@ -84,7 +84,7 @@ module _ (s : Store) (h : SoundStore s) (c : Call) (f : ℕ) where
   bits-owner (nothing n o) = λ a b x. absurd (x refl)
   bits-owner (opens n o) = leaves-bits (open-leaves s h (c .process) n o) (unfold handed in refl)
   bits-owner (truncates n o) = leaves-bits (truncate-leaves s h (c .process) n o) (truncate-bits (n .slot .0) _ _ (unfold handed in refl) refl)
-  bits-owner (creates d i y kind bits o) = let w = create-leaves s h _ (subjectOf (view s) (c .process)) d i (slot y) kind bits o in
+  bits-owner (creates d i y kind bits o) = let w = create-leaves s h _ (subjectOf (view s .proc) (c .process)) d i (slot y) kind bits o in
       split f y (λ q _ a. absurd (a (rw q (o .free)))) (λ q t. leaves-bits w (rw t))
   bits-owner (unlinks (unlinking d i y n k)) = leaves-steady (unlink-leaves s h d i y n k (unnaming-is s h y)) (unlink-steady d i y (unnaming-is s h y))
   bits-owner (removes d i y n k l) = leaves-steady (remove-leaves s h d i y n k l) (remove-steady d i y)
@@ -98,7 +98,7 @@ module _ (s : Store) (h : SoundStore s) (c : Call) (f : ℕ) where
       offset e n l = unfold tablesOf in rw (plus-is (view s .opened e OFFSET) n (omega (arith, l))) l
   bits-owner (seeks e n o l) = leaves-bits (move-leaves s h e n o l) refl
   bits-owner (duplicates i j e o hj g) = unfold tablesOf in leaves-bits (duplicate-leaves s h (c .process) i j e o hj g) (unfold shared handed in refl)
-  bits-owner (forks q u hq g) = let w = fork-leaves (c .process) q (subjectOf (view s) (c .process) .user) (subjectOf (view s) (c .process) .label) (u .small) hq s h g (caller-user s h c u) (caller-label s h c u) in
+  bits-owner (forks q u hq g) = let w = fork-leaves (c .process) q (subjectOf (view s .proc) (c .process) .user) (subjectOf (view s .proc) (c .process) .label) (u .small) hq s h g (caller-user s h c u) (caller-label s h c u) in
       leaves-bits (w .leaves) (ap (λ (t : ℕ → ℕ → ℕ). t f BITS) (w .files-same))
   bits-owner (exits u) = steadily _ (exit-leaves s h (c .process) (u .small) (u .used) .steady)
   bits-owner (executes l u hl) = leaves-bits (execute-leaves s h (c .process) l u hl) refl

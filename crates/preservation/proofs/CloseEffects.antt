@@ -14,7 +14,7 @@ use Rattle.rules.specs.Choice.{every}
 use Rattle.rules.specs.Scan.{repeat}
 use Rattle.rules.specs.Store.{Store, view, slot, up, applyAll, change, procZero}
 use Rattle.rules.specs.Sound.{openBut, isOn}
-use Rattle.rules.specs.Checks.{descHeld, ofdHeld, closing, dropping, releasing}
+use Rattle.rules.specs.Checks.{held, ofdHeld, closing, dropping, releasing}
 use Rattle.rules.specs.Checks as checks
 use Rattle.rules.specs.Effects.{words, fdOf, releaseChanges, closeChanges, released, releasedAll}
 use Rattle.rules.specs.declared.ids.Pid.{Pid}
@@ -50,10 +50,10 @@ module _ (s : Store) (h : SoundStore s) (p : Pid) (i : Fd) where
         tablesOf s .opened j SLOT ≡ tablesOf s .opened e SLOT → Releasing (release.Gone e)
     frees : (e : ℕ) → tablesOf s .desc (p .0) (i .0) ≡ e + 1 → tablesOf s .opened e REFERENCES ≡ 1 → tablesOf s .file (tablesOf s .opened e SLOT) LINKS ≡ 0 →
         ((j : ℕ) → j < OPENS → (j ≡ e → ⊥) → (tablesOf s .opened j REFERENCES ≡ 0 → ⊥) → tablesOf s .opened j SLOT ≡ tablesOf s .opened e SLOT → ⊥) →
-        Releasing (release.Freed e (slot (view s .opened e SLOT)) (checks.freed (view s .tree) (slot (view s .opened e SLOT))))
+        Releasing (release.Freed e (slot (view s .opened e SLOT)) (checks.freed (view s .tree .file) (slot (view s .opened e SLOT))))
 
   module _ (hp : p .0 < PROCESSES) (hi : i .0 < DESCRIPTORS) where
-    closing-is : (e : ℕ) → tablesOf s .desc (p .0) (i .0) ≡ e + 1 → tablesOf s .opened e REFERENCES ≡ 1 → Releasing (closing (view s) e (slot (view s .opened e SLOT)))
+    closing-is : (e : ℕ) → tablesOf s .desc (p .0) (i .0) ≡ e + 1 → tablesOf s .opened e REFERENCES ≡ 1 → Releasing (closing (view s .tree .file) (view s .opened) e (slot (view s .opened e SLOT)))
     unfolding closing tablesOf
     closing-is e d r = by (every (eqb (view s .tree .file (view s .opened e SLOT) LINKS) 0 ∷ not (openBut (view s .opened) e (view s .opened e SLOT)) ∷ [])) refl
       where
@@ -73,7 +73,7 @@ module _ (s : Store) (h : SoundStore s) (p : Pid) (i : Fd) where
         gone false t (yes q) z = absurd (false≢true (sym z ∙ unfold every in rw (eq-eqb (view s .tree .file (view s .opened e SLOT) LINKS) 0 q, t)))
 
         by : (b : Bool) → every (eqb (view s .tree .file (view s .opened e SLOT) LINKS) 0 ∷ not (openBut (view s .opened) e (view s .opened e SLOT)) ∷ []) ≡ b →
-            Releasing (cond b (release.Freed e (slot (view s .opened e SLOT)) (checks.freed (view s .tree) (slot (view s .opened e SLOT)))) (release.Gone e))
+            Releasing (cond b (release.Freed e (slot (view s .opened e SLOT)) (checks.freed (view s .tree .file) (slot (view s .opened e SLOT)))) (release.Gone e))
         by true t =
             let w = means-every (means-and (means-eq (view s .tree .file (view s .opened e SLOT) LINKS) 0) (means-last (means-eq-test (openBut (view s .opened) e (view s .opened e SLOT))))) .holds t in
             frees e d r (w .0) (nowhere (w .1))
@@ -83,25 +83,25 @@ module _ (s : Store) (h : SoundStore s) (p : Pid) (i : Fd) where
             means-eq-test false = record { holds = λ _. refl; tests = λ _. refl }
         by false t = gone (openBut (view s .opened) e (view s .opened e SLOT)) refl (ℕ-discrete (view s .tree .file (view s .opened e SLOT) LINKS) 0) t
 
-    dropping-is : (e : ℕ) → tablesOf s .desc (p .0) (i .0) ≡ e + 1 → Releasing (dropping (view s) e)
+    dropping-is : (e : ℕ) → tablesOf s .desc (p .0) (i .0) ≡ e + 1 → Releasing (dropping (view s .tree .file) (view s .opened) e)
     unfolding dropping
     dropping-is e d = by (ltb 1 (view s .opened e REFERENCES)) refl
       where
         o : Held (tablesOf s) e
         o = word.held SLOTS (tablesOf s) (h .tables) (p .0) (i .0) e hp hi d
 
-        by : (b : Bool) → ltb 1 (view s .opened e REFERENCES) ≡ b → Releasing (cond b (release.Kept e (view s .opened e REFERENCES - 1)) (closing (view s) e (slot (view s .opened e SLOT))))
+        by : (b : Bool) → ltb 1 (view s .opened e REFERENCES) ≡ b → Releasing (cond b (release.Kept e (view s .opened e REFERENCES - 1)) (closing (view s .tree .file) (view s .opened) e (slot (view s .opened e SLOT))))
         by true t = keeps e d (unfold tablesOf in ltb-true 1 (view s .opened e REFERENCES) t)
         by false t = closing-is e d (one (ltb-false 1 (view s .opened e REFERENCES) t))
           where
             one : view s .opened e REFERENCES ≤ 1 → tablesOf s .opened e REFERENCES ≡ 1
             one l = let n : tablesOf s .opened e REFERENCES ≡ 0 → ⊥ = o .open-refs in let q : tablesOf s .opened e REFERENCES ≤ 1 = unfold tablesOf in l in omega arith
 
-    pub releasing-is : Releasing (releasing (view s) p i)
-    unfolding releasing descHeld
+    pub releasing-is : Releasing (releasing (view s .tree .file) (view s .opened) (view s .desc) p i)
+    unfolding releasing held
     releasing-is = by (ℕ-discrete (view s .desc (p .0) (i .0)) 0)
       where
-        by : Dec (view s .desc (p .0) (i .0) ≡ 0) → Releasing (cond (not (eqb (view s .desc (p .0) (i .0)) 0)) (dropping (view s) (ofdHeld (view s) p i)) release.Nothing)
+        by : Dec (view s .desc (p .0) (i .0) ≡ 0) → Releasing (cond (not (eqb (view s .desc (p .0) (i .0)) 0)) (dropping (view s .tree .file) (view s .opened) (ofdHeld (view s .desc) p i)) release.Nothing)
         by (yes q) = rw (eq-eqb (view s .desc (p .0) (i .0)) 0 q) (nothing (unfold tablesOf in q))
         by (no n) = rw (ne-eqb (view s .desc (p .0) (i .0)) 0 n) (dropping-is (view s .desc (p .0) (i .0) - 1) (unfold tablesOf in (omega (arith, n))))
 
@@ -153,7 +153,7 @@ close-leaves s h p i hp hi u (stays e d r j hj n a b) = from-leaves {m = handed 
 }) refl refl (λ f. inr (refl, refl))
 close-leaves s h p i hp hi u (frees e d r l none) = from-leaves {m = freed (tablesOf s .opened e SLOT) (up (tablesOf s .file (tablesOf s .opened e SLOT) VERSION)) (handed (p .0) (i .0) 0 e (λ _. 0) (tablesOf s))} (record {
   has = unfold tablesOf freed in has-clearTo (has-openZero (has-descTo (its-tables s h) (p .0) (i .0) 0 hp hi) e (word.held SLOTS (tablesOf s) (h .tables) (p .0) (i .0) e hp hi d .small))
-      (view s .opened e SLOT) (words (checks.freed (view s .tree) (slot (view s .opened e SLOT)))) (slot-small (tablesOf s) (h .tables) (p .0) (i .0) e hp hi (λ z. omega (arith, u, z)) d) refl;
+      (view s .opened e SLOT) (words (checks.freed (view s .tree .file) (slot (view s .opened e SLOT)))) (slot-small (tablesOf s) (h .tables) (p .0) (i .0) e hp hi (λ z. omega (arith, u, z)) d) refl;
   sound = close-frees (tablesOf s) (h .tables) (p .0) (i .0) e hp hi (λ z. omega (arith, u, z)) d r l none (up (tablesOf s .file (tablesOf s .opened e SLOT) VERSION)) (up-most (tablesOf s .file (tablesOf s .opened e SLOT) VERSION));
 }) (unfold freed remade in refl) (unfold freed remade in refl)
     (unfold freed in steady-freed (handed (p .0) (i .0) 0 e (λ _. 0) (tablesOf s)) (tablesOf s .opened e SLOT) (fileRow FREE 0 0 0 0 0 (up (tablesOf s .file (tablesOf s .opened e SLOT) VERSION))) (λ _. 0) refl)

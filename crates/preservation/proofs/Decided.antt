@@ -68,36 +68,36 @@ mode-good n = by (every (leb 1 n ∷ leb n MODE-MAX ∷ [])) refl (every (leb (T
     by false e false f = other
 
 module _ (Q : List ℕ) (s : Store) (h : SoundStore s) (c : Call) (safe : policySound Q ≡ true) (u : Caller (tablesOf s) (c .process)) where
-  allowed-fit : (y : Slot) (want : Rights) (d : Decision) → Fit (Granting s h c) d → Fit (Granting s h c) (allowed (view s .tree) Q (subjectOf (view s) (c .process)) y want d)
+  allowed-fit : (y : Slot) (want : Rights) (d : Decision) → Fit (Granting s h c) d → Fit (Granting s h c) (allowed (view s .tree .file) Q (subjectOf (view s .proc) (c .process)) y want d)
   allowed-fit y want d f = need-fit _ _ _ (λ _. need-fit _ _ d (λ _. f))
 
-  is-plain : (y : Slot) → isPlain (view s .tree) y ≡ true → tablesOf s .file (y .0) KIND ≡ PLAIN
+  is-plain : (y : Slot) → isPlain (view s .tree .file) y ≡ true → tablesOf s .file (y .0) KIND ≡ PLAIN
   unfolding tablesOf
   is-plain y t = eqb-true (view s .tree .file (y .0) KIND) PLAIN t
 
-  is-directory : (y : Slot) → isDirectory (view s .tree) y ≡ true → tablesOf s .file (y .0) KIND ≡ DIRECTORY
+  is-directory : (y : Slot) → isDirectory (view s .tree .file) y ≡ true → tablesOf s .file (y .0) KIND ≡ DIRECTORY
   unfolding tablesOf
   is-directory y t = eqb-true (view s .tree .file (y .0) KIND) DIRECTORY t
 
   -- ---- 1. Open
 
-  opening-fit : (y : Slot) (m : OpenMode) (b : Bool) (i e : ℕ) → Opens (tablesOf s) (c .process) (newOpen y m i e) → Granting s h c i output.Nothing (opening (view s .tree) y m b i e)
+  opening-fit : (y : Slot) (m : OpenMode) (b : Bool) (i e : ℕ) → Opens (tablesOf s) (c .process) (newOpen y m i e) → Granting s h c i output.Nothing (opening (view s .tree .file) y m b i e)
   unfolding opening
   opening-fit y m b i e o = by (every (b ∷ ltb 0 (view s .tree .file (y .0) LENGTH) ∷ []))
     where
-      by : (t : Bool) → Granting s h c i output.Nothing (cond t (effect.Truncated (newOpen y m i e) (truncated (view s .tree) y)) (effect.Opened (newOpen y m i e)))
+      by : (t : Bool) → Granting s h c i output.Nothing (cond t (effect.Truncated (newOpen y m i e) (truncated (view s .tree .file) y)) (effect.Opened (newOpen y m i e)))
       by true = truncates (newOpen y m i e) o
       by false = opens (newOpen y m i e) o
 
-  file-fit : (m : OpenMode) (b : Bool) (y : Slot) → 0 < m .0 → m .0 ≤ MODE-MAX → Fit (Granting s h c) (openFile Q (view s) (c .process) m b y)
+  file-fit : (m : OpenMode) (b : Bool) (y : Slot) → 0 < m .0 → m .0 ≤ MODE-MAX → Fit (Granting s h c) (openFile Q (view s .tree .file) (view s .opened) (view s .desc) (c .process) (subjectOf (view s .proc) (c .process)) m b y)
   unfolding openFile openRoom
-  file-fit m b y m1 m4 = need-fit (isPlain (view s .tree) y) _ _ (λ k. allowed-fit y (modeRights m) _
-      (need-fit (ltb (freeFd (view s) (c .process)) DESCRIPTORS) _ _ (λ i. need-fit (ltb (freeOfd (view s)) OPENS) _ _ (λ e.
-      granting _ _ _ (opening-fit y m b (freeFd (view s) (c .process)) (freeOfd (view s)) (record {
+  file-fit m b y m1 m4 = need-fit (isPlain (view s .tree .file) y) _ _ (λ k. allowed-fit y (modeRights m) _
+      (need-fit (ltb (freeFd (view s .desc) (c .process)) DESCRIPTORS) _ _ (λ i. need-fit (ltb (freeOfd (view s .opened)) OPENS) _ _ (λ e.
+      granting _ _ _ (opening-fit y m b (freeFd (view s .desc) (c .process)) (freeOfd (view s .opened)) (record {
         caller = u;
-        fd-small = ltb-true (freeFd (view s) (c .process)) DESCRIPTORS i;
+        fd-small = ltb-true (freeFd (view s .desc) (c .process)) DESCRIPTORS i;
         fd-free = fd-free s h (c .process) i;
-        ofd-small = ltb-true (freeOfd (view s)) OPENS e;
+        ofd-small = ltb-true (freeOfd (view s .opened)) OPENS e;
         ofd-free = ofd-free s h e;
         slot-small = plain-small s h (y .0) (is-plain y k);
         plain = is-plain y k;
@@ -105,35 +105,35 @@ module _ (Q : List ℕ) (s : Store) (h : SoundStore s) (c : Call) (safe : policy
         mode-most = m4;
       }))))))
 
-  mode-fit : {n : ModeNumber} (y : Slot) → GoodMode n → Fit (Granting s h c) (openMode Q (view s) (c .process) n y)
+  mode-fit : {n : ModeNumber} (y : Slot) → GoodMode n → Fit (Granting s h c) (openMode Q (view s .tree .file) (view s .opened) (view s .desc) (c .process) (subjectOf (view s .proc) (c .process)) n y)
   unfolding openMode
   mode-fit y (keep m m1 m4) = file-fit m false y m1 m4
   mode-fit y (cut m m1 m4) = file-fit m true y m1 m4
   mode-fit y other = refusing _ _
 
-  open-fit : (n : ℕ) (p : List ℕ) → GoodPath p → Fit (Granting s h c) (decideOpen Q (view s) (c .process) n p)
+  open-fit : (n : ℕ) (p : List ℕ) → GoodPath p → Fit (Granting s h c) (decideOpen Q (view s .tree) (view s .opened) (view s .desc) (c .process) (subjectOf (view s .proc) (c .process)) n p)
   unfolding decideOpen
-  open-fit n p g = after-fit _ (path-fit s h Q (subjectOf (view s) (c .process)) p g) (λ at _. mode-fit (at .slot) (mode-good n))
+  open-fit n p g = after-fit _ (path-fit s h Q (subjectOf (view s .proc) (c .process)) p g) (λ at _. mode-fit (at .slot) (mode-good n))
 
   -- ---- 2. Create, 3. Make directory
 
   user-most : tablesOf s .proc (c .process .0) USER ≤ USER-MAX
   user-most = h .tables .procs (c .process .0) (u .small) .user-most
 
-  create-fit : (kind bits : ℕ) → 0 < kind → kind ≤ KIND-MAX → bits ≤ BITS-MAX → GoodPath (c .path) → 0 < length (names (c .path)) → Fit (Granting s h c) (decideCreate Q (view s) (c .process) kind bits (c .path))
+  create-fit : (kind bits : ℕ) → 0 < kind → kind ≤ KIND-MAX → bits ≤ BITS-MAX → GoodPath (c .path) → 0 < length (names (c .path)) → Fit (Granting s h c) (decideCreate Q (view s .tree) (subjectOf (view s .proc) (c .process)) kind bits (c .path))
   unfolding decideCreate createIn createRoom
-  create-fit kind bits k1 k2 hb g some-names = after-fit _ (parent-fit s h Q (subjectOf (view s) (c .process)) (c .path) g) (λ at f.
+  create-fit kind bits k1 k2 hb g some-names = after-fit _ (parent-fit s h Q (subjectOf (view s .proc) (c .process)) (c .path) g) (λ at f.
       need-fit (nameAbsent (view s .tree) (at .slot) (lastName (names (c .path)))) _ _ (λ a. allowed-fit (at .slot) WRITE _
-      (need-fit (ltb (freeSlot (view s .tree)) SLOTS) _ _ (λ t. need-fit (ltb (freeDirent (view s .tree .shown (at .slot .0))) DIRENTS) _ _ (λ i.
-      granting _ _ _ (creates (at .slot) (freeDirent (view s .tree .shown (at .slot .0))) (freeSlot (view s .tree)) kind bits (made at f a t i)))))))
+      (need-fit (ltb (freeSlot (view s .tree .file)) SLOTS) _ _ (λ t. need-fit (ltb (freeDirent (view s .tree .shown (at .slot .0))) DIRENTS) _ _ (λ i.
+      granting _ _ _ (creates (at .slot) (freeDirent (view s .tree .shown (at .slot .0))) (freeSlot (view s .tree .file)) kind bits (made at f a t i)))))))
     where
-      made : (at : Location) → Parent s h Q (subjectOf (view s) (c .process)) (c .path) at → nameAbsent (view s .tree) (at .slot) (lastName (names (c .path))) ≡ true → ltb (freeSlot (view s .tree)) SLOTS ≡ true →
+      made : (at : Location) → Parent s h Q (subjectOf (view s .proc) (c .process)) (c .path) at → nameAbsent (view s .tree) (at .slot) (lastName (names (c .path))) ≡ true → ltb (freeSlot (view s .tree .file)) SLOTS ≡ true →
           ltb (freeDirent (view s .tree .shown (at .slot .0))) DIRENTS ≡ true →
-          Creates s h (lastName (names (c .path))) (at .slot) (freeDirent (view s .tree .shown (at .slot .0))) (slot (freeSlot (view s .tree))) kind (subjectOf (view s) (c .process) .user) bits (tablesOf s .file (at .slot .0) LABEL)
+          Creates s h (lastName (names (c .path))) (at .slot) (freeDirent (view s .tree .shown (at .slot .0))) (slot (freeSlot (view s .tree .file))) kind (subjectOf (view s .proc) (c .process) .user) bits (tablesOf s .file (at .slot .0) LABEL)
       made at f a t i = record {
-        naming = new-name s h (at .slot) hd (f .kind) (lastName (names (c .path))) (freeDirent (view s .tree .shown (at .slot .0))) (slot (freeSlot (view s .tree))) (last-good (c .path) g some-names)
-            (ltb-true (freeDirent (view s .tree .shown (at .slot .0))) DIRENTS i) (dirent-free s h (at .slot .0) i) a (ltb-true (freeSlot (view s .tree)) SLOTS t);
-        small = ltb-true (freeSlot (view s .tree)) SLOTS t;
+        naming = new-name s h (at .slot) hd (f .kind) (lastName (names (c .path))) (freeDirent (view s .tree .shown (at .slot .0))) (slot (freeSlot (view s .tree .file))) (last-good (c .path) g some-names)
+            (ltb-true (freeDirent (view s .tree .shown (at .slot .0))) DIRENTS i) (dirent-free s h (at .slot .0) i) a (ltb-true (freeSlot (view s .tree .file)) SLOTS t);
+        small = ltb-true (freeSlot (view s .tree .file)) SLOTS t;
         free = slot-free s h t;
         kind-least = k1;
         kind-most = k2;
@@ -144,38 +144,38 @@ module _ (Q : List ℕ) (s : Store) (h : SoundStore s) (c : Call) (safe : policy
       }
         where
           hd : at .slot .0 < SLOTS
-          hd = found-small s h Q (subjectOf (view s) (c .process)) (f .found)
+          hd = found-small s h Q (subjectOf (view s .proc) (c .process)) (f .found)
 
   -- ---- 4. Unlink, 5. Remove directory
 
-  pub unlink-fit : (p : List ℕ) → GoodPath p → 0 < length (names p) → Fit (Unlinking s h c) (decideUnlink Q (view s) (c .process) p)
+  pub unlink-fit : (p : List ℕ) → GoodPath p → 0 < length (names p) → Fit (Unlinking s h c) (decideUnlink Q (view s .tree) (view s .opened) (subjectOf (view s .proc) (c .process)) p)
   unfolding decideUnlink unlinkAt
-  unlink-fit p g some-names = after-fit _ (path-fit s h Q (subjectOf (view s) (c .process)) p g) (λ at f. need-fit (isPlain (view s .tree) (at .slot)) _ _ (λ k.
+  unlink-fit p g some-names = after-fit _ (path-fit s h Q (subjectOf (view s .proc) (c .process)) p g) (λ at f. need-fit (isPlain (view s .tree .file) (at .slot)) _ _ (λ k.
       need-fit _ _ _ (λ _. need-fit _ _ _ (λ _. granting _ _ _ (unlinking (at .dir) (at .dirent) (at .slot) (f .named (λ z. omega arith)) (is-plain (at .slot) k))))))
 
-  remove-fit : (p : List ℕ) → GoodPath p → 0 < length (names p) → Fit (Granting s h c) (decideRemove Q (view s) (c .process) p)
+  remove-fit : (p : List ℕ) → GoodPath p → 0 < length (names p) → Fit (Granting s h c) (decideRemove Q (view s .tree) (subjectOf (view s .proc) (c .process)) p)
   unfolding decideRemove removeAt
-  remove-fit p g some-names = after-fit _ (path-fit s h Q (subjectOf (view s) (c .process)) p g) (λ at f. need-fit (isDirectory (view s .tree) (at .slot)) _ _ (λ k.
+  remove-fit p g some-names = after-fit _ (path-fit s h Q (subjectOf (view s .proc) (c .process)) p g) (λ at f. need-fit (isDirectory (view s .tree .file) (at .slot)) _ _ (λ k.
       allowed-fit (at .dir) WRITE _ (need-fit (eqb (view s .tree .file (at .slot .0) LENGTH) 0) _ _ (λ l.
       granting _ _ _ (removes (at .dir) (at .dirent) (at .slot) (f .named (λ z. omega arith)) (is-directory (at .slot) k) (unfold tablesOf in eqb-true (view s .tree .file (at .slot .0) LENGTH) 0 l))))))
 
   -- ---- 6. Link
 
-  link-fit : (p : List ℕ) → GoodPath p → GoodPath (c .bytes) → 0 < length (names (c .bytes)) → Fit (Granting s h c) (decideLink Q (view s) (c .process) p (c .bytes))
+  link-fit : (p : List ℕ) → GoodPath p → GoodPath (c .bytes) → 0 < length (names (c .bytes)) → Fit (Granting s h c) (decideLink Q (view s .tree) (subjectOf (view s .proc) (c .process)) p (c .bytes))
   unfolding decideLink linkTo linkIn linkRoom
-  link-fit p g b some-names = after-fit _ (path-fit s h Q (subjectOf (view s) (c .process)) p g) (λ old o. need-fit (isPlain (view s .tree) (old .slot)) _ _ (λ k.
-      after-fit _ (parent-fit s h Q (subjectOf (view s) (c .process)) (c .bytes) b) (λ at f. need-fit (nameAbsent (view s .tree) (at .slot) (lastName (names (c .bytes)))) _ _ (λ a. allowed-fit (at .slot) WRITE _
+  link-fit p g b some-names = after-fit _ (path-fit s h Q (subjectOf (view s .proc) (c .process)) p g) (λ old o. need-fit (isPlain (view s .tree .file) (old .slot)) _ _ (λ k.
+      after-fit _ (parent-fit s h Q (subjectOf (view s .proc) (c .process)) (c .bytes) b) (λ at f. need-fit (nameAbsent (view s .tree) (at .slot) (lastName (names (c .bytes)))) _ _ (λ a. allowed-fit (at .slot) WRITE _
       (need-fit (ltb (freeDirent (view s .tree .shown (at .slot .0))) DIRENTS) _ _ (λ i.
       granting _ _ _ (links (at .slot) (freeDirent (view s .tree .shown (at .slot .0))) (old .slot)
-      (new-name s h (at .slot) (found-small s h Q (subjectOf (view s) (c .process)) (f .found)) (f .kind) (lastName (names (c .bytes))) (freeDirent (view s .tree .shown (at .slot .0))) (old .slot) (last-good (c .bytes) b some-names)
+      (new-name s h (at .slot) (found-small s h Q (subjectOf (view s .proc) (c .process)) (f .found)) (f .kind) (lastName (names (c .bytes))) (freeDirent (view s .tree .shown (at .slot .0))) (old .slot) (last-good (c .bytes) b some-names)
       (ltb-true (freeDirent (view s .tree .shown (at .slot .0))) DIRENTS i) (dirent-free s h (at .slot .0) i) a (plain-small s h (old .slot .0) (is-plain (old .slot) k)))
       (plain-small s h (old .slot .0) (is-plain (old .slot) k)) (is-plain (old .slot) k))))))))
 
   -- ---- 7. List, 8. Change bits, 9. Stat
 
-  list-fit : (k : ℕ) (p : List ℕ) → GoodPath p → Fit (Granting s h c) (decideList Q (view s) (c .process) k p)
+  list-fit : (k : ℕ) (p : List ℕ) → GoodPath p → Fit (Granting s h c) (decideList Q (view s .tree) (subjectOf (view s .proc) (c .process)) k p)
   unfolding decideList listAt listEntry
-  list-fit k p g = after-fit _ (path-fit s h Q (subjectOf (view s) (c .process)) p g) (λ at _. need-fit (isDirectory (view s .tree) (at .slot)) _ _ (λ _. allowed-fit (at .slot) READ _
+  list-fit k p g = after-fit _ (path-fit s h Q (subjectOf (view s .proc) (c .process)) p g) (λ at _. need-fit (isDirectory (view s .tree .file) (at .slot)) _ _ (λ _. allowed-fit (at .slot) READ _
       (by (at .slot) (direntRanked (view s .tree .shown (at .slot .0)) k) (ltb (direntRanked (view s .tree .shown (at .slot .0)) k) DIRENTS))))
     where
       by : (d : Slot) (i : ℕ) (b : Bool) → Fit (Granting s h c) (cond b (Granted 1 (output.Name d i) effect.Nothing)
@@ -183,66 +183,66 @@ module _ (Q : List ℕ) (s : Store) (h : SoundStore s) (c : Call) (safe : policy
       by d i true = granting _ _ _ (nothing 1 _)
       by d i false = granting _ _ _ (nothing 0 _)
 
-  bits-fit : (b : ℕ) (p : List ℕ) → b ≤ BITS-MAX → GoodPath p → Fit (Granting s h c) (decideChangeBits Q (view s) (c .process) b p)
+  bits-fit : (b : ℕ) (p : List ℕ) → b ≤ BITS-MAX → GoodPath p → Fit (Granting s h c) (decideChangeBits Q (view s .tree) (subjectOf (view s .proc) (c .process)) b p)
   unfolding decideChangeBits changeBitsAt
-  bits-fit b p hb g = after-fit _ (path-fit s h Q (subjectOf (view s) (c .process)) p g) (λ at f. need-fit (owns (subjectOf (view s) (c .process)) (view s .tree .file (at .slot .0) OWNER)) _ _ (λ o.
-      need-fit (labelAllows (view s .tree) Q (subjectOf (view s) (c .process)) (at .slot) WRITE) _ _ (λ _.
-      granting _ _ _ (changesBits (at .slot) (record { 0 = b }) (found-small s h Q (subjectOf (view s) (c .process)) f) (reach-used (tablesOf s) (h .tables) (f .reach)) hb o))))
+  bits-fit b p hb g = after-fit _ (path-fit s h Q (subjectOf (view s .proc) (c .process)) p g) (λ at f. need-fit (owns (subjectOf (view s .proc) (c .process)) (view s .tree .file (at .slot .0) OWNER)) _ _ (λ o.
+      need-fit (labelAllows (view s .tree .file) Q (subjectOf (view s .proc) (c .process)) (at .slot) WRITE) _ _ (λ _.
+      granting _ _ _ (changesBits (at .slot) (record { 0 = b }) (found-small s h Q (subjectOf (view s .proc) (c .process)) f) (reach-used (tablesOf s) (h .tables) (f .reach)) hb o))))
 
-  stat-fit : (p : List ℕ) → GoodPath p → Fit (Granting s h c) (decideStat Q (view s) (c .process) p)
+  stat-fit : (p : List ℕ) → GoodPath p → Fit (Granting s h c) (decideStat Q (view s .tree) (subjectOf (view s .proc) (c .process)) p)
   unfolding decideStat
-  stat-fit p g = after-fit _ (path-fit s h Q (subjectOf (view s) (c .process)) p g) (λ at _. granting _ _ _ (nothing 0 _))
+  stat-fit p g = after-fit _ (path-fit s h Q (subjectOf (view s .proc) (c .process)) p g) (λ at _. granting _ _ _ (nothing 0 _))
 
   -- ---- 10. Close to 16. Exit
 
-  close-fit : (i : Fd) → Fit (Granting s h c) (decideClose (view s) (c .process) i)
+  close-fit : (i : Fd) → Fit (Granting s h c) (decideClose (view s .tree .file) (view s .opened) (view s .desc) (c .process) i)
   unfolding decideClose
-  close-fit i = need-fit (held (view s) (c .process) i) _ _ (λ t. granting _ _ _ (closes i u (holds s h (c .process) i u t .fd-small)))
+  close-fit i = need-fit (held (view s .desc) (c .process) i) _ _ (λ t. granting _ _ _ (closes i u (holds s h (c .process) i u t .fd-small)))
 
-  open-at : (i : Fd) → held (view s) (c .process) i ≡ true → Held (tablesOf s) (ofdHeld (view s) (c .process) i)
-  open-at i t = held-open s h (c .process) i (ofdHeld (view s) (c .process) i) (holds s h (c .process) i u t)
+  open-at : (i : Fd) → held (view s .desc) (c .process) i ≡ true → Held (tablesOf s) (ofdHeld (view s .desc) (c .process) i)
+  open-at i t = held-open s h (c .process) i (ofdHeld (view s .desc) (c .process) i) (holds s h (c .process) i u t)
 
-  read-fit : (i : Fd) (size : ℕ) → Fit (Granting s h c) (decideRead (view s) (c .process) i size)
+  read-fit : (i : Fd) (size : ℕ) → Fit (Granting s h c) (decideRead (view s .tree .file) (view s .opened) (view s .desc) (c .process) i size)
   unfolding decideRead readOpen
-  read-fit i size = need-fit (held (view s) (c .process) i) _ _ (λ t. need-fit (reads (view s .opened (ofdHeld (view s) (c .process) i) MODE)) _ _ (λ _.
-      granting _ _ _ (granted.reads (ofdHeld (view s) (c .process) i) (min size (remaining (view s) (ofdHeld (view s) (c .process) i))) (open-at i t) (within (ofdHeld (view s) (c .process) i) (open-at i t)))))
+  read-fit i size = need-fit (held (view s .desc) (c .process) i) _ _ (λ t. need-fit (reads (view s .opened (ofdHeld (view s .desc) (c .process) i) MODE)) _ _ (λ _.
+      granting _ _ _ (granted.reads (ofdHeld (view s .desc) (c .process) i) (min size (remaining (view s .tree .file) (view s .opened) (ofdHeld (view s .desc) (c .process) i))) (open-at i t) (within (ofdHeld (view s .desc) (c .process) i) (open-at i t)))))
     where
-      within : (e : ℕ) → Held (tablesOf s) e → tablesOf s .opened e OFFSET + min size (remaining (view s) e) ≤ BLOCK
+      within : (e : ℕ) → Held (tablesOf s) e → tablesOf s .opened e OFFSET + min size (remaining (view s .tree .file) (view s .opened) e) ≤ BLOCK
       within e o =
           let a : tablesOf s .opened e OFFSET ≤ BLOCK = offsets-most SLOTS (tablesOf s) (h .tables) e (o .small) in
           let b : tablesOf s .file (tablesOf s .opened e SLOT) LENGTH ≤ BLOCK = length-most SLOTS (tablesOf s) (h .tables) (tablesOf s .opened e SLOT) (h .tables .open-files e (o .small) .slot-small (o .open-refs)) in
           unfold tablesOf in (omega (arith, a, b))
 
-  write-fit : (i : Fd) → Fit (Granting s h c) (decideWrite (view s) (c .process) i (length (c .bytes)))
+  write-fit : (i : Fd) → Fit (Granting s h c) (decideWrite (view s .tree .file) (view s .opened) (view s .desc) (c .process) i (length (c .bytes)))
   unfolding decideWrite writeOpen writeSome writeFile
-  write-fit i = need-fit (held (view s) (c .process) i) _ _ (λ t. need-fit (writes (view s .opened (ofdHeld (view s) (c .process) i) MODE)) _ _ (λ _. by (ofdHeld (view s) (c .process) i) (open-at i t) (eqb (length (c .bytes)) 0)))
+  write-fit i = need-fit (held (view s .desc) (c .process) i) _ _ (λ t. need-fit (writes (view s .opened (ofdHeld (view s .desc) (c .process) i) MODE)) _ _ (λ _. by (ofdHeld (view s .desc) (c .process) i) (open-at i t) (eqb (length (c .bytes)) 0)))
     where
-      by : (e : ℕ) → Held (tablesOf s) e → (b : Bool) → Fit (Granting s h c) (cond b (checks.granted 0 effect.Nothing) (writeFile (view s) e (writeAt (view s) e) (length (c .bytes))))
+      by : (e : ℕ) → Held (tablesOf s) e → (b : Bool) → Fit (Granting s h c) (cond b (checks.granted 0 effect.Nothing) (writeFile (view s .tree .file) (view s .opened) e (writeAt (view s .tree .file) (view s .opened) e) (length (c .bytes))))
       by e o true = granting _ _ _ (nothing 0 _)
-      by e o false = unfold writeFile in need-fit (leb (writeAt (view s) e + length (c .bytes)) BLOCK) _ _ (λ l.
-          granting _ _ _ (stores e (writeAt (view s) e) o (leb-true (writeAt (view s) e + length (c .bytes)) BLOCK l)))
+      by e o false = unfold writeFile in need-fit (leb (writeAt (view s .tree .file) (view s .opened) e + length (c .bytes)) BLOCK) _ _ (λ l.
+          granting _ _ _ (stores e (writeAt (view s .tree .file) (view s .opened) e) o (leb-true (writeAt (view s .tree .file) (view s .opened) e + length (c .bytes)) BLOCK l)))
 
-  seek-fit : (i : Fd) (n : ℕ) → n ≤ BLOCK → Fit (Granting s h c) (decideSeek (view s) (c .process) i n)
+  seek-fit : (i : Fd) (n : ℕ) → n ≤ BLOCK → Fit (Granting s h c) (decideSeek (view s .desc) (c .process) i n)
   unfolding decideSeek
-  seek-fit i n l = need-fit (held (view s) (c .process) i) _ _ (λ t. granting _ _ _ (seeks (ofdHeld (view s) (c .process) i) n (open-at i t) l))
+  seek-fit i n l = need-fit (held (view s .desc) (c .process) i) _ _ (λ t. granting _ _ _ (seeks (ofdHeld (view s .desc) (c .process) i) n (open-at i t) l))
 
-  duplicate-fit : (i : Fd) → Fit (Granting s h c) (decideDuplicate (view s) (c .process) i)
+  duplicate-fit : (i : Fd) → Fit (Granting s h c) (decideDuplicate (view s .opened) (view s .desc) (c .process) i)
   unfolding decideDuplicate duplicateTo
-  duplicate-fit i = need-fit (held (view s) (c .process) i) _ _ (λ t. need-fit (ltb (freeFd (view s) (c .process)) DESCRIPTORS) _ _ (λ j.
-      granting _ _ _ (duplicates i (record { 0 = freeFd (view s) (c .process) }) (ofdHeld (view s) (c .process) i) (holds s h (c .process) i u t) (ltb-true (freeFd (view s) (c .process)) DESCRIPTORS j) (fd-free s h (c .process) j))))
+  duplicate-fit i = need-fit (held (view s .desc) (c .process) i) _ _ (λ t. need-fit (ltb (freeFd (view s .desc) (c .process)) DESCRIPTORS) _ _ (λ j.
+      granting _ _ _ (duplicates i (record { 0 = freeFd (view s .desc) (c .process) }) (ofdHeld (view s .desc) (c .process) i) (holds s h (c .process) i u t) (ltb-true (freeFd (view s .desc) (c .process)) DESCRIPTORS j) (fd-free s h (c .process) j))))
 
-  fork-fit : Fit (Granting s h c) (decideFork (view s) (c .process))
+  fork-fit : Fit (Granting s h c) (decideFork (view s .proc) (c .process))
   unfolding forkTo
-  fork-fit = need-fit (ltb (freePid (view s)) PROCESSES) _ _ (λ q. granting _ _ _ (forks (record { 0 = freePid (view s) }) u (ltb-true (freePid (view s)) PROCESSES q) (pid-free s h q)))
+  fork-fit = need-fit (ltb (freePid (view s .proc)) PROCESSES) _ _ (λ q. granting _ _ _ (forks (record { 0 = freePid (view s .proc) }) u (ltb-true (freePid (view s .proc)) PROCESSES q) (pid-free s h q)))
 
   -- ---- 17. Execute
 
-  execute-fit : (p : List ℕ) → GoodPath p → Fit (Granting s h c) (decideExecute Q (view s) (c .process) p)
+  execute-fit : (p : List ℕ) → GoodPath p → Fit (Granting s h c) (decideExecute Q (view s .tree) (subjectOf (view s .proc) (c .process)) p)
   unfolding decideExecute executeAt
-  execute-fit p g = after-fit _ (path-fit s h Q (subjectOf (view s) (c .process)) p g) (λ at f. need-fit (isPlain (view s .tree) (at .slot)) _ _ (λ k. allowed-fit (at .slot) EXECUTE _
-      (granting _ _ _ (executes (moved Q (subjectOf (view s) (c .process) .label) (view s .tree .file (at .slot .0) LABEL)) u (label at (found-small s h Q (subjectOf (view s) (c .process)) f))))))
+  execute-fit p g = after-fit _ (path-fit s h Q (subjectOf (view s .proc) (c .process)) p g) (λ at f. need-fit (isPlain (view s .tree .file) (at .slot)) _ _ (λ k. allowed-fit (at .slot) EXECUTE _
+      (granting _ _ _ (executes (moved Q (subjectOf (view s .proc) (c .process) .label) (view s .tree .file (at .slot .0) LABEL)) u (label at (found-small s h Q (subjectOf (view s .proc) (c .process)) f))))))
     where
-      label : (at : Location) → at .slot .0 < SLOTS → moved Q (subjectOf (view s) (c .process) .label) (view s .tree .file (at .slot .0) LABEL) ≤ LABEL-MAX
+      label : (at : Location) → at .slot .0 < SLOTS → moved Q (subjectOf (view s .proc) (c .process) .label) (view s .tree .file (at .slot .0) LABEL) ≤ LABEL-MAX
       label at l = moved-small Q (view s .proc (c .process .0) DOMAIN) (view s .tree .file (at .slot .0) LABEL) safe (unfold tablesOf in own) (unfold tablesOf in program)
         where
           own : tablesOf s .proc (c .process .0) DOMAIN ≤ LABEL-MAX
@@ -284,4 +284,4 @@ module _ (Q : List ℕ) (s : Store) (h : SoundStore s) (c : Call) (safe : policy
 -- on a sound store, every granted decision has its facts
 pub decide-fit : (Q : List ℕ) (s : Store) (h : SoundStore s) (c : Call) → policySound Q ≡ true → Fit (Granting s h c) (decide Q (view s) c)
 unfolding decide
-decide-fit Q s h c safe = need-fit (inUse (view s) (c .process)) _ _ (λ t. need-fit (wellFormed c) _ _ (λ f. own-fit Q s h c safe (in-use s h (c .process) t) (operation c) f))
+decide-fit Q s h c safe = need-fit (inUse (view s .proc) (c .process)) _ _ (λ t. need-fit (wellFormed c) _ _ (λ f. own-fit Q s h c safe (in-use s h (c .process) t) (operation c) f))

@@ -11,7 +11,7 @@ use Rattle.rules.specs.Layout.{SLOTS, PROCESSES, DESCRIPTORS, REFERENCES, USED,
 use Rattle.rules.specs.Scan.{repeat}
 use Rattle.rules.specs.Store.{Store, view, up, applyAll, change, descTo}
 use Rattle.rules.specs.Store as rules
-use Rattle.rules.specs.Checks.{descHeld, sharing, shareOf}
+use Rattle.rules.specs.Checks.{held, sharing, shareOf}
 use Rattle.rules.specs.Effects.{fdOf, shareChanges, sharedAll, forkChanges}
 use Rattle.rules.specs.Effects as effects
 use Rattle.rules.specs.declared.ids.Pid.{Pid}
@@ -78,10 +78,10 @@ module _ (p q : Pid) (u l : ℕ) (hp : p .0 < PROCESSES) (hq : q .0 < PROCESSES)
               (has-openRow (has-descTo its (q .0) i (e + 1) hq hi) e REFERENCES (tablesOf t .opened e REFERENCES + 1) (shared-held .small) (omega arith))
 
     pub sharing-one : Sharing s (i + 1) (effects.shared p q i t)
-    unfolding effects.shared shareOf descHeld
+    unfolding effects.shared shareOf held
     sharing-one = by (ℕ-discrete (view t .desc (p .0) i) 0)
       where
-        by : Dec (view t .desc (p .0) i ≡ 0) → Sharing s (i + 1) (applyAll (shareChanges q (fdOf i) (cond (not (eqb (view t .desc (p .0) i) 0)) (sharing (view t) (view t .desc (p .0) i - 1)) share.Nothing)) t)
+        by : Dec (view t .desc (p .0) i ≡ 0) → Sharing s (i + 1) (applyAll (shareChanges q (fdOf i) (cond (not (eqb (view t .desc (p .0) i) 0)) (sharing (view t .opened) (view t .desc (p .0) i - 1)) share.Nothing)) t)
         by (yes e) = rw (eq-eqb (view t .desc (p .0) i) 0 e) (share-none (unfold tablesOf in e))
         by (no n) = rw (ne-eqb (view t .desc (p .0) i) 0 n) (unfold tablesOf in (share-one (view t .desc (p .0) i - 1) (omega (arith, n))))
 

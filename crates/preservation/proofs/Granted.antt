@@ -17,7 +17,7 @@ use Rattle.rules.specs.Rights.{owns, transition, moved}
 use Rattle.rules.specs.Directories.{isEmpty, freeDirent}
 use Rattle.rules.specs.Sound.{policySound, rightSound, transitionSound}
 use Rattle.rules.specs.Calls.{Call}
-use Rattle.rules.specs.Checks.{need, after, inUse, procInUse, held, descHeld, ofdHeld, freeSlot, freeOfd, freeFd, freePid, slotFree, ofdFree, fdFree, pidFree, gains, loses, unnaming, releasing}
+use Rattle.rules.specs.Checks.{need, after, inUse, held, ofdHeld, freeSlot, freeOfd, freeFd, freePid, slotFree, ofdFree, fdFree, pidFree, gains, loses, unnaming, releasing}
 use Rattle.rules.specs.Checks as checks
 use Rattle.rules.specs.DecidePaths.{truncated, newRecord}
 use Rattle.rules.specs.Decide.{placement}
@@ -70,30 +70,30 @@ after-fit f (stopped r k) g = refusing r k
 module _ (s : Store) (h : SoundStore s) (c : Call) where
   -- call 4
   pub data Unlinking : ℕ → Output → Effect → Type 0 where
-    unlinking : (d : Slot) (i : ℕ) (y : Slot) → Names s h d i y → tablesOf s .file (y .0) KIND ≡ PLAIN → Unlinking 0 output.Nothing (effect.Unlinked (loses (view s .tree) d i) (unnaming (view s) y))
+    unlinking : (d : Slot) (i : ℕ) (y : Slot) → Names s h d i y → tablesOf s .file (y .0) KIND ≡ PLAIN → Unlinking 0 output.Nothing (effect.Unlinked (loses (view s .tree .file) d i) (unnaming (view s .tree .file) (view s .opened) y))
 
   -- every call
   pub data Granting : ℕ → Output → Effect → Type 0 where
     nothing : (n : ℕ) (o : Output) → Granting n o effect.Nothing
     opens : (n : NewOpen) → Opens (tablesOf s) (c .process) n → Granting (n .fd .0) output.Nothing (effect.Opened n)
-    truncates : (n : NewOpen) → Opens (tablesOf s) (c .process) n → Granting (n .fd .0) output.Nothing (effect.Truncated n (truncated (view s .tree) (n .slot)))
-    creates : (d : Slot) (i y kind bits : ℕ) → Creates s h (lastName (names (c .path))) d i (slot y) kind (subjectOf (view s) (c .process) .user) bits (tablesOf s .file (d .0) LABEL) →
-        Granting y output.Nothing (effect.Created (gains (view s .tree) d i) (slot y) (newRecord (view s .tree) (subjectOf (view s) (c .process)) kind bits d (slot y)))
+    truncates : (n : NewOpen) → Opens (tablesOf s) (c .process) n → Granting (n .fd .0) output.Nothing (effect.Truncated n (truncated (view s .tree .file) (n .slot)))
+    creates : (d : Slot) (i y kind bits : ℕ) → Creates s h (lastName (names (c .path))) d i (slot y) kind (subjectOf (view s .proc) (c .process) .user) bits (tablesOf s .file (d .0) LABEL) →
+        Granting y output.Nothing (effect.Created (gains (view s .tree .file) d i) (slot y) (newRecord (view s .tree .file) (subjectOf (view s .proc) (c .process)) kind bits d (slot y)))
     unlinks : {n : ℕ} {o : Output} {e : Effect} → Unlinking n o e → Granting n o e
     removes : (d : Slot) (i : ℕ) (y : Slot) → Names s h d i y → tablesOf s .file (y .0) KIND ≡ DIRECTORY → tablesOf s .file (y .0) LENGTH ≡ 0 →
-        Granting 0 output.Nothing (effect.Removed (loses (view s .tree) d i) y (checks.freed (view s .tree) y))
+        Granting 0 output.Nothing (effect.Removed (loses (view s .tree .file) d i) y (checks.freed (view s .tree .file) y))
     links : (d : Slot) (i : ℕ) (y : Slot) → Naming (tablesOf s) (lastName (names (c .bytes))) d i y → y .0 < SLOTS → tablesOf s .file (y .0) KIND ≡ PLAIN →
-        Granting 0 output.Nothing (effect.Linked (gains (view s .tree) d i) y (up (view s .tree .file (y .0) LINKS)))
-    changesBits : (y : Slot) (b : Bits) → y .0 < SLOTS → (tablesOf s .file (y .0) KIND ≡ FREE → ⊥) → b .0 ≤ BITS-MAX → owns (subjectOf (view s) (c .process)) (view s .tree .file (y .0) OWNER) ≡ true → Granting 0 output.Nothing (effect.BitsChanged y b)
-    closes : (i : Fd) → Caller (tablesOf s) (c .process) → i .0 < DESCRIPTORS → Granting 0 output.Nothing (effect.Closed i (releasing (view s) (c .process) i))
+        Granting 0 output.Nothing (effect.Linked (gains (view s .tree .file) d i) y (up (view s .tree .file (y .0) LINKS)))
+    changesBits : (y : Slot) (b : Bits) → y .0 < SLOTS → (tablesOf s .file (y .0) KIND ≡ FREE → ⊥) → b .0 ≤ BITS-MAX → owns (subjectOf (view s .proc) (c .process)) (view s .tree .file (y .0) OWNER) ≡ true → Granting 0 output.Nothing (effect.BitsChanged y b)
+    closes : (i : Fd) → Caller (tablesOf s) (c .process) → i .0 < DESCRIPTORS → Granting 0 output.Nothing (effect.Closed i (releasing (view s .tree .file) (view s .opened) (view s .desc) (c .process) i))
     stores : (e at : ℕ) → Held (tablesOf s) e → at + length (c .bytes) ≤ BLOCK →
-        Granting (length (c .bytes)) output.Nothing (effect.Stored (placement (view s) e (slot (view s .opened e SLOT)) at (length (c .bytes))))
+        Granting (length (c .bytes)) output.Nothing (effect.Stored (placement (view s .tree .file) e (slot (view s .opened e SLOT)) at (length (c .bytes))))
     reads : (e n : ℕ) → Held (tablesOf s) e → tablesOf s .opened e OFFSET + n ≤ BLOCK → Granting n (output.Bytes (slot (view s .opened e SLOT)) (view s .opened e OFFSET) n) (effect.Moved e (plus (view s .opened e OFFSET) n))
     seeks : (e n : ℕ) → Held (tablesOf s) e → n ≤ BLOCK → Granting n output.Nothing (effect.Moved e n)
     duplicates : (i j : Fd) (e : ℕ) → Holds (tablesOf s) (c .process) i e → j .0 < DESCRIPTORS → tablesOf s .desc (c .process .0) (j .0) ≡ 0 →
         Granting (j .0) output.Nothing (effect.Duplicated j e (up (view s .opened e REFERENCES)))
     forks : (q : Pid) → Caller (tablesOf s) (c .process) → q .0 < PROCESSES → tablesOf s .proc (q .0) USED ≡ 0 →
-        Granting (q .0) output.Nothing (effect.Forked q (subjectOf (view s) (c .process) .user) (subjectOf (view s) (c .process) .label))
+        Granting (q .0) output.Nothing (effect.Forked q (subjectOf (view s .proc) (c .process) .user) (subjectOf (view s .proc) (c .process) .label))
     exits : Caller (tablesOf s) (c .process) → Granting 0 output.Nothing effect.Exited
     executes : (l : ℕ) → Caller (tablesOf s) (c .process) → l ≤ LABEL-MAX → Granting 0 output.Nothing (effect.Relabelled l)
 
@@ -112,12 +112,12 @@ module _ (s : Store) (h : SoundStore s) where
   pub plain-small : (i : ℕ) → tablesOf s .file i KIND ≡ PLAIN → i < SLOTS
   plain-small i e = used-small i (λ z. omega (arith, e, z))
 
-  pub in-use : (p : Pid) → inUse (view s) p ≡ true → Caller (tablesOf s) p
-  unfolding procInUse tablesOf
+  pub in-use : (p : Pid) → inUse (view s .proc) p ≡ true → Caller (tablesOf s) p
+  unfolding inUse tablesOf
   in-use p e = let w = means-every (means-and (means-lt (p .0) PROCESSES) (means-last (means-eq (view s .proc (p .0) USED) 1))) .holds e in record { small = w .0; used = w .1 }
 
-  pub holds : (p : Pid) (i : Fd) → Caller (tablesOf s) p → held (view s) p i ≡ true → Holds (tablesOf s) p i (ofdHeld (view s) p i)
-  unfolding descHeld tablesOf
+  pub holds : (p : Pid) (i : Fd) → Caller (tablesOf s) p → held (view s .desc) p i ≡ true → Holds (tablesOf s) p i (ofdHeld (view s .desc) p i)
+  unfolding held tablesOf
   holds p i u e = record { caller = u; fd-small = small (decLt (i .0) DESCRIPTORS); there = omega (arith, some-file) }
     where
       not-not : (b : Bool) → not b ≡ true → b ≡ false
@@ -133,21 +133,21 @@ module _ (s : Store) (h : SoundStore s) where
 
   -- ---- the lowest free ones
 
-  pub slot-free : ltb (freeSlot (view s .tree)) SLOTS ≡ true → tablesOf s .file (freeSlot (view s .tree)) KIND ≡ FREE
+  pub slot-free : ltb (freeSlot (view s .tree .file)) SLOTS ≡ true → tablesOf s .file (freeSlot (view s .tree .file)) KIND ≡ FREE
   unfolding tablesOf
-  slot-free t = eqb-true (view s .tree .file (freeSlot (view s .tree)) KIND) FREE (unfold slotFree in first-passes (slotFree (view s .tree .file)) SLOTS (ltb-true (freeSlot (view s .tree)) SLOTS t))
+  slot-free t = eqb-true (view s .tree .file (freeSlot (view s .tree .file)) KIND) FREE (unfold slotFree in first-passes (slotFree (view s .tree .file)) SLOTS (ltb-true (freeSlot (view s .tree .file)) SLOTS t))
 
-  pub ofd-free : ltb (freeOfd (view s)) OPENS ≡ true → tablesOf s .opened (freeOfd (view s)) REFERENCES ≡ 0
+  pub ofd-free : ltb (freeOfd (view s .opened)) OPENS ≡ true → tablesOf s .opened (freeOfd (view s .opened)) REFERENCES ≡ 0
   unfolding tablesOf
-  ofd-free t = eqb-true (view s .opened (freeOfd (view s)) REFERENCES) 0 (unfold ofdFree in first-passes (ofdFree (view s .opened)) OPENS (ltb-true (freeOfd (view s)) OPENS t))
+  ofd-free t = eqb-true (view s .opened (freeOfd (view s .opened)) REFERENCES) 0 (unfold ofdFree in first-passes (ofdFree (view s .opened)) OPENS (ltb-true (freeOfd (view s .opened)) OPENS t))
 
-  pub fd-free : (p : Pid) → ltb (freeFd (view s) p) DESCRIPTORS ≡ true → tablesOf s .desc (p .0) (freeFd (view s) p) ≡ 0
+  pub fd-free : (p : Pid) → ltb (freeFd (view s .desc) p) DESCRIPTORS ≡ true → tablesOf s .desc (p .0) (freeFd (view s .desc) p) ≡ 0
   unfolding tablesOf
-  fd-free p t = eqb-true (view s .desc (p .0) (freeFd (view s) p)) 0 (unfold fdFree in first-passes (fdFree (view s .desc) p) DESCRIPTORS (ltb-true (freeFd (view s) p) DESCRIPTORS t))
+  fd-free p t = eqb-true (view s .desc (p .0) (freeFd (view s .desc) p)) 0 (unfold fdFree in first-passes (fdFree (view s .desc) p) DESCRIPTORS (ltb-true (freeFd (view s .desc) p) DESCRIPTORS t))
 
-  pub pid-free : ltb (freePid (view s)) PROCESSES ≡ true → tablesOf s .proc (freePid (view s)) USED ≡ 0
+  pub pid-free : ltb (freePid (view s .proc)) PROCESSES ≡ true → tablesOf s .proc (freePid (view s .proc)) USED ≡ 0
   unfolding tablesOf
-  pid-free t = eqb-true (view s .proc (freePid (view s)) USED) 0 (unfold pidFree in first-passes (pidFree (view s .proc)) PROCESSES (ltb-true (freePid (view s)) PROCESSES t))
+  pid-free t = eqb-true (view s .proc (freePid (view s .proc)) USED) 0 (unfold pidFree in first-passes (pidFree (view s .proc)) PROCESSES (ltb-true (freePid (view s .proc)) PROCESSES t))
 
   pub dirent-free : (d : ℕ) → ltb (freeDirent (view s .tree .shown d)) DIRENTS ≡ true → isEmpty (view s .tree .shown d) (freeDirent (view s .tree .shown d)) ≡ true
   dirent-free d t = first-passes (isEmpty (view s .tree .shown d)) DIRENTS (ltb-true (freeDirent (view s .tree .shown d)) DIRENTS t)

@@ -12,7 +12,7 @@ use Rattle.rules.specs.Scan.{repeat}
 use Rattle.rules.specs.Store.{Store, view, subjectOf, up, plus}
 use Rattle.rules.specs.Sound.{sound}
 use Rattle.rules.specs.Calls.{Call}
-use Rattle.rules.specs.Checks.{descHeld, sharing, shareOf}
+use Rattle.rules.specs.Checks.{held, sharing, shareOf}
 use Rattle.rules.specs.Decide.{decide}
 use Rattle.rules.specs.Effects.{fdOf}
 use Rattle.rules.specs.Effects as effects
@@ -46,11 +46,11 @@ module _ (s : Store) (h : SoundStore s) where
   offset-goes-on e n l b = let a : tablesOf s .opened e OFFSET ≤ BLOCK = offsets-most SLOTS (tablesOf s) (h .tables) e l in plus-is (view s .opened e OFFSET) n (unfold tablesOf in (omega (arith, a)))
 
   -- each turn of a fork
-  share-sums : (p q : Pid) (u l : ℕ) (hp : p .0 < PROCESSES) (hq : q .0 < PROCESSES) (i : ℕ) → i < DESCRIPTORS → (t : Store) → Sharing p q u l hp hq s i t → PlainShare (view t) (shareOf (view t) p (fdOf i))
-  unfolding shareOf descHeld
+  share-sums : (p q : Pid) (u l : ℕ) (hp : p .0 < PROCESSES) (hq : q .0 < PROCESSES) (i : ℕ) → i < DESCRIPTORS → (t : Store) → Sharing p q u l hp hq s i t → PlainShare (view t) (shareOf (view t .opened) (view t .desc) p (fdOf i))
+  unfolding shareOf held
   share-sums p q u l hp hq i hi t c = by (ℕ-discrete (view t .desc (p .0) i) 0)
     where
-      by : Dec (view t .desc (p .0) i ≡ 0) → PlainShare (view t) (cond (not (eqb (view t .desc (p .0) i) 0)) (sharing (view t) (view t .desc (p .0) i - 1)) share.Nothing)
+      by : Dec (view t .desc (p .0) i ≡ 0) → PlainShare (view t) (cond (not (eqb (view t .desc (p .0) i) 0)) (sharing (view t .opened) (view t .desc (p .0) i - 1)) share.Nothing)
       by (yes e) = rw (eq-eqb (view t .desc (p .0) i) 0 e) (unfold PlainShare in tt)
       by (no n) = rw (ne-eqb (view t .desc (p .0) i) 0 n) (unfold PlainShare tablesOf in
           (up-is (view t .desc (p .0) i - 1) (omega (arith, shared-held p q u l hp hq s i t hi c (view t .desc (p .0) i - 1) (omega (arith, n)) .small)), shared-up p q u l hp hq s i t hi c (view t .desc (p .0) i - 1) (omega (arith, n))))
@@ -70,9 +70,9 @@ module _ (s : Store) (h : SoundStore s) where
   sums c (reads e n o l) = plus-is (view s .opened e OFFSET) n (unfold tablesOf in (omega (arith, l)))
   sums c (seeks e n o l) = tt
   sums c (duplicates i j e o hj g) = let w = held-open s h (c .process) i e o in (up-is e (omega (arith, w .small)), references-go-up e (w .small))
-  sums c (forks q u hq g) = λ i hi. share-sums (c .process) q (subjectOf (view s) (c .process) .user) (subjectOf (view s) (c .process) .label) (u .small) hq i hi (repeat (effects.shared (c .process) q) 0 i s)
-      (sharing-some (c .process) q (subjectOf (view s) (c .process) .user) (subjectOf (view s) (c .process) .label) (u .small) hq s i 0 i s (omega arith) (omega arith)
-      (sharing-start (c .process) q (subjectOf (view s) (c .process) .user) (subjectOf (view s) (c .process) .label) (u .small) hq s h g (caller-user s h c u) (caller-label s h c u)))
+  sums c (forks q u hq g) = λ i hi. share-sums (c .process) q (subjectOf (view s .proc) (c .process) .user) (subjectOf (view s .proc) (c .process) .label) (u .small) hq i hi (repeat (effects.shared (c .process) q) 0 i s)
+      (sharing-some (c .process) q (subjectOf (view s .proc) (c .process) .user) (subjectOf (view s .proc) (c .process) .label) (u .small) hq s i 0 i s (omega arith) (omega arith)
+      (sharing-start (c .process) q (subjectOf (view s .proc) (c .process) .user) (subjectOf (view s .proc) (c .process) .label) (u .small) hq s h g (caller-user s h c u) (caller-label s h c u)))
   sums c (exits u) = tt
   sums c (executes l u hl) = tt
 

@@ -80,10 +80,10 @@ abbrev pub cutTo : Slot → Tables → Tables → Tables
 cutTo s m n = remade (s .0) (fileRow PLAIN (m .file (s .0) OWNER) (m .file (s .0) BITS) (m .file (s .0) LABEL) 0 (m .file (s .0) LINKS) (up (m .file (s .0) VERSION))) (λ _. 0) n
 
 pub truncate-leaves : (s : Store) → SoundStore s → (p : Pid) (n : NewOpen) → Opens (tablesOf s) p n →
-    Leaves (applyAll (truncateChanges p n (truncated (view s .tree) (n .slot))) s) (cutTo (n .slot) (tablesOf s) (withOpen p n (tablesOf s)))
+    Leaves (applyAll (truncateChanges p n (truncated (view s .tree .file) (n .slot))) s) (cutTo (n .slot) (tablesOf s) (withOpen p n (tablesOf s)))
 unfolding truncateChanges openChanges applyAll handed tablesOf
 truncate-leaves s h p n o = record {
-  has = has-clearTo (w .has) (n .slot .0) (words (truncated (view s .tree) (n .slot))) (o .slot-small) refl;
+  has = has-clearTo (w .has) (n .slot .0) (words (truncated (view s .tree .file) (n .slot))) (o .slot-small) refl;
   sound = cut-sound SLOTS (withOpen p n (tablesOf s)) (w .sound) (n .slot .0) (up (tablesOf s .file (n .slot .0) VERSION)) (o .plain) (up-most (tablesOf s .file (n .slot .0) VERSION));
 }
   where

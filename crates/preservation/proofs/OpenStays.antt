@@ -10,7 +10,7 @@ use lib.ListN.{length}
 use lib.Seq.{ext-getD}
 use borrow.Author.Tests.{ne-eqb}
 use Rattle.rules.specs.Layout.{SLOTS, BLOCK, OPENS, KIND, LENGTH, SLOT, REFERENCES, FREE, PLAIN, DIRECTORY}
-use Rattle.rules.specs.Store.{Store, view, slot, applyAll, block}
+use Rattle.rules.specs.Store.{Store, view, slot, subjectOf, applyAll, block}
 use Rattle.rules.specs.Refusals.{GRANTED, refusalNumber}
 use Rattle.rules.specs.Sound.{policySound, sound, openBut, isOn}
 use Rattle.rules.specs.Calls.{Call, operationOf, operation, wellFormed, formOk}
@@ -78,10 +78,10 @@ walk-any : (w : Walk) → WalkFit (λ _. Unit {0}) w
 walk-any (Reached at) = reached at tt
 walk-any (Stopped r k) = stopped r k
 
-fresh-fit : (Q : List ℕ) (s : Store) → SoundStore s → (p : Pid) (kind bits : ℕ) (path : List ℕ) → Fit (Fresh s) (decideCreate Q (view s) p kind bits path)
+fresh-fit : (Q : List ℕ) (s : Store) → SoundStore s → (p : Pid) (kind bits : ℕ) (path : List ℕ) → Fit (Fresh s) (decideCreate Q (view s .tree) (subjectOf (view s .proc) p) kind bits path)
 unfolding decideCreate createIn createRoom
-fresh-fit Q s h p kind bits path = after-fit _ (walk-any _) (λ at _. need-fit _ _ _ (λ _. need-fit _ _ _ (λ _. need-fit _ _ _ (λ _. need-fit (ltb (freeSlot (view s .tree)) SLOTS) _ _ (λ t. need-fit _ _ _ (λ _.
-    granting _ _ _ (fresh _ (freeSlot (view s .tree)) _ (slot-free s h t))))))))
+fresh-fit Q s h p kind bits path = after-fit _ (walk-any _) (λ at _. need-fit _ _ _ (λ _. need-fit _ _ _ (λ _. need-fit _ _ _ (λ _. need-fit (ltb (freeSlot (view s .tree .file)) SLOTS) _ _ (λ t. need-fit _ _ _ (λ _.
+    granting _ _ _ (fresh _ (freeSlot (view s .tree .file)) _ (slot-free s h t))))))))
 
 own-fresh : (Q : List ℕ) (s : Store) → SoundStore s → (c : Call) (o : Operation) → (o ≡ op.Create) ⊎ (o ≡ op.MakeDirectory) → Fit (Fresh s) (decideOwn Q (view s) c o)
 unfolding decideOwn
@@ -95,7 +95,7 @@ creating c (inr e) = inr (rw e)
 
 decide-fresh : (Q : List ℕ) (s : Store) → SoundStore s → (c : Call) → (c .call ≡ 2) ⊎ (c .call ≡ 3) → Fit (Fresh s) (decide Q (view s) c)
 unfolding decide
-decide-fresh Q s h c e = need-fit (inUse (view s) (c .process)) _ _ (λ _. need-fit (wellFormed c) _ _ (λ _. own-fresh Q s h c (operation c) (creating c e)))
+decide-fresh Q s h c e = need-fit (inUse (view s .proc) (c .process)) _ _ (λ _. need-fit (wellFormed c) _ _ (λ _. own-fresh Q s h c (operation c) (creating c e)))
 
 refusal-some : (r : Refusal) → refusalNumber r ≡ GRANTED → ⊥
 unfolding refusalNumber
@@ -153,7 +153,7 @@ unlinking-call c e = rw e
 
 decide-unlink : (Q : List ℕ) (s : Store) (h : SoundStore s) (c : Call) → policySound Q ≡ true → c .call ≡ 4 → Fit (Unlinking s h c) (decide Q (view s) c)
 unfolding decide
-decide-unlink Q s h c safe e = need-fit (inUse (view s) (c .process)) _ _ (λ t. need-fit (wellFormed c) _ _ (λ f. own-unlink Q s h c safe (in-use s h (c .process) t) (operation c) (unlinking-call c e) f))
+decide-unlink Q s h c safe e = need-fit (inUse (view s .proc) (c .process)) _ _ (λ t. need-fit (wellFormed c) _ _ (λ f. own-unlink Q s h c safe (in-use s h (c .process) t) (operation c) (unlinking-call c e) f))
 
 -- slot f is in t what it is in s
 pub record Same (s t : Store) (f : ℕ) : Type 0 where

@@ -27,7 +27,7 @@ use Rattle.preservation.proofs.Granted.{Fit, granting, refusing, unlink
 use Rattle.preservation.proofs.Decided.{decide-fit}
 
 module _ (s : Store) (h : SoundStore s) (c : Call) where
-  pub placed-well : (e at : ℕ) → Held (tablesOf s) e → at + length (c .bytes) ≤ BLOCK → Writes (tablesOf s) (c .bytes) (placement (view s) e (slot (view s .opened e SLOT)) at (length (c .bytes)))
+  pub placed-well : (e at : ℕ) → Held (tablesOf s) e → at + length (c .bytes) ≤ BLOCK → Writes (tablesOf s) (c .bytes) (placement (view s .tree .file) e (slot (view s .opened e SLOT)) at (length (c .bytes)))
   unfolding tablesOf
   placed-well e at o l = record {
     ofd = o;
@@ -53,7 +53,7 @@ module _ (s : Store) (h : SoundStore s) (c : Call) where
   effect-keeps (nothing n o) = h
   effect-keeps (opens n o) = leaves-sound (open-leaves s h (c .process) n o)
   effect-keeps (truncates n o) = leaves-sound (truncate-leaves s h (c .process) n o)
-  effect-keeps (creates d i y kind bits o) = leaves-sound (create-leaves s h _ (subjectOf (view s) (c .process)) d i (slot y) kind bits o)
+  effect-keeps (creates d i y kind bits o) = leaves-sound (create-leaves s h _ (subjectOf (view s .proc) (c .process)) d i (slot y) kind bits o)
   effect-keeps (unlinks (unlinking d i y n k)) = leaves-sound (unlink-leaves s h d i y n k (unnaming-is s h y))
   effect-keeps (removes d i y n k l) = leaves-sound (remove-leaves s h d i y n k l)
   effect-keeps (links d i y n hy k) = leaves-sound (link-leaves s h _ d i y n hy k)
@@ -63,7 +63,7 @@ module _ (s : Store) (h : SoundStore s) (c : Call) where
   effect-keeps (reads e n o l) = unfold tablesOf in leaves-sound (move-leaves s h e (plus (view s .opened e OFFSET) n) o (rw (plus-is (view s .opened e OFFSET) n (omega (arith, l))) l))
   effect-keeps (seeks e n o l) = leaves-sound (move-leaves s h e n o l)
   effect-keeps (duplicates i j e o hj f) = unfold tablesOf in leaves-sound (duplicate-leaves s h (c .process) i j e o hj f)
-  effect-keeps (forks q u hq f) = leaves-sound (fork-leaves (c .process) q (subjectOf (view s) (c .process) .user) (subjectOf (view s) (c .process) .label) (u .small) hq s h f (caller-user u) (caller-label u) .leaves)
+  effect-keeps (forks q u hq f) = leaves-sound (fork-leaves (c .process) q (subjectOf (view s .proc) (c .process) .user) (subjectOf (view s .proc) (c .process) .label) (u .small) hq s h f (caller-user u) (caller-label u) .leaves)
   effect-keeps (exits u) = exit-leaves s h (c .process) (u .small) (u .used) .sound
   effect-keeps (executes l u hl) = leaves-sound (execute-leaves s h (c .process) l u hl)
 

@@ -66,10 +66,10 @@ module _ (s : Store) (h : SoundStore s) (Q : List ℕ) (who : Subject) where
       let first-same : direntRow (tablesOf s .byte) (d .0) i 0 ≡ getD n 0 0 = same-at (direntRow (tablesOf s .byte) (d .0) i) (λ k. getD n k 0) same 0 (omega arith) in
       g .bytes .no-zero 0 (g .bytes .some-byte) (sym first-same ∙ h .tables .dirs (d .0) hd kd .dirents i hi .empty-zero z 0 (omega arith))
 
-  searched-fit : {P : Location → Type 0} (d : Slot) (k : ℕ) (w : Walk) → (tablesOf s .file (d .0) KIND ≡ DIRECTORY → WalkFit P w) → WalkFit P (searched (view s .tree) Q who d k w)
+  searched-fit : {P : Location → Type 0} (d : Slot) (k : ℕ) (w : Walk) → (tablesOf s .file (d .0) KIND ≡ DIRECTORY → WalkFit P w) → WalkFit P (searched (view s .tree .file) Q who d k w)
   unfolding tablesOf
   searched-fit d k w f =
-      needAt-fit (isDirectory (view s .tree) d) _ k _ (λ t. needAt-fit (bitsAllow (view s .tree) who d SEARCH) _ k _ (λ _. needAt-fit (labelAllows (view s .tree) Q who d SEARCH) _ k w (λ _.
+      needAt-fit (isDirectory (view s .tree .file) d) _ k _ (λ t. needAt-fit (bitsAllow (view s .tree .file) who d SEARCH) _ k _ (λ _. needAt-fit (labelAllows (view s .tree .file) Q who d SEARCH) _ k w (λ _.
       f (eqb-true (view s .tree .file (d .0) KIND) DIRECTORY t))))
 
   lookup-fit : (j : ℕ) (at : Location) (n : Name) (k : ℕ) → Found j at → GoodName n → WalkFit (Found (suc j)) (lookup (view s .tree) Q who (at .slot) n k)

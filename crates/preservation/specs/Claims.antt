@@ -86,7 +86,7 @@ PlainSums s c o (effect.Stored w) = (w .offset ≡ w .at + length (c .bytes)) ×
 PlainSums s c o (effect.Moved e offset) = PlainRead o offset
 PlainSums s c o (effect.Duplicated i e references) = (up e ≡ e + 1) × (references ≡ view s .opened e REFERENCES + 1)
 PlainSums s c o (effect.Forked q user label) =
-    (i : ℕ) → i < DESCRIPTORS → let t = repeat (shared (c .process) q) 0 i s in PlainShare (view t) (shareOf (view t) (c .process) (fdOf i))
+    (i : ℕ) → i < DESCRIPTORS → let t = repeat (shared (c .process) q) 0 i s in PlainShare (view t) (shareOf (view t .opened) (view t .desc) (c .process) (fdOf i))
 PlainSums s c o effect.Exited = Unit {0}
 PlainSums s c o (effect.Relabelled label) = Unit {0}
 

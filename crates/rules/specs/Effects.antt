@@ -101,13 +101,13 @@ abbrev pub fdOf : ℕ → Fd
 fdOf i = record { 0 = i }
 
 unfoldable pub shared : (parent child : Pid) → ℕ → Store → Store
-shared p q i t = applyAll (shareChanges q (fdOf i) (shareOf (view t) p (fdOf i))) t
+shared p q i t = applyAll (shareChanges q (fdOf i) (shareOf (view t .opened) (view t .desc) p (fdOf i))) t
 
 unfoldable pub sharedAll : (parent child : Pid) → Store → Store
 sharedAll p q t = repeat (shared p q) 0 DESCRIPTORS t
 
 unfoldable pub released : Pid → ℕ → Store → Store
-released p i t = applyAll (closeChanges p (fdOf i) (releasing (view t) p (fdOf i))) t
+released p i t = applyAll (closeChanges p (fdOf i) (releasing (view t .tree .file) (view t .opened) (view t .desc) p (fdOf i))) t
 
 unfoldable pub releasedAll : Pid → Store → Store
 releasedAll p t = repeat (released p) 0 DESCRIPTORS t

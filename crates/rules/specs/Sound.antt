@@ -9,7 +9,7 @@ use Rattle.rules.specs.Scan.{all, any, count, total, first}
 use Rattle.rules.specs.Layout.{SLOTS, BLOCK, DIRENT, DIRENTS, NAME, NAMES, OPENS, PROCESSES, DESCRIPTORS, FILE, OPEN, PROCESS, RIGHTS, NONE, SLASH}
 use Rattle.rules.specs.Layout.{KIND, OWNER, BITS, LABEL, LENGTH, LINKS, VERSION, FREE, PLAIN, DIRECTORY, SLOT, MODE, OFFSET, REFERENCES, USED, USER, DOMAIN}
 use Rattle.rules.specs.Layout.{KIND-MAX, USER-MAX, BITS-MAX, LABEL-MAX, MODE-MAX, WORD-MAX}
-use Rattle.rules.specs.Store.{Store, Tree, View, view, slot}
+use Rattle.rules.specs.Store.{Store, Table, Tree, View, view, slot}
 use Rattle.rules.specs.Paths.{Name, isDots, sameName}
 use Rattle.rules.specs.Directories.{direntAt, direntSlot, isEmpty, isPadding}
 use Rattle.rules.specs.Walk.{isDirectory, isPlain}
@@ -92,7 +92,7 @@ linksAt D s i = eqb (direntSlot D i) s
 
 -- how many entries of directory d name slot s; none where d is no directory
 unfoldable pub linksFrom : Tree → ℕ → ℕ → ℕ
-linksFrom t s d = cond (isDirectory t (slot d)) (count (linksAt (t .shown d) s) 0 DIRENTS) 0
+linksFrom t s d = cond (isDirectory (t .file) (slot d)) (count (linksAt (t .shown d) s) 0 DIRENTS) 0
 
 unfoldable pub linksTo : Tree → ℕ → ℕ
 linksTo t s = total (linksFrom t s) 0 SLOTS
@@ -102,7 +102,7 @@ unfoldable pub linksSound : Tree → ℕ → Bool
 linksSound t s = cond (eqb s 0) (eqb (t .file s LINKS) 0) (eqb (t .file s LINKS) (linksTo t s))
 
 unfoldable pub isParent : Tree → ℕ → ℕ → Bool
-isParent t d u = every (isDirectory t (slot u) ∷ any (linksAt (t .shown u) d) 0 DIRENTS ∷ [])
+isParent t d u = every (isDirectory (t .file) (slot u) ∷ any (linksAt (t .shown u) d) 0 DIRENTS ∷ [])
 
 -- the lowest directory that names d, 64 where none does
 abbrev pub parentOf : Tree → ℕ → ℕ
@@ -121,15 +121,15 @@ directorySound t d =
 -- ---- open files
 
 -- open file e, another than x, is on slot s
-unfoldable pub isOn : (ℕ → ℕ → ℕ) → ℕ → ℕ → ℕ → Bool
+unfoldable pub isOn : Table → ℕ → ℕ → ℕ → Bool
 isOn opened x s e = every (not (eqb e x) ∷ not (eqb (opened e REFERENCES) 0) ∷ eqb (opened e SLOT) s ∷ [])
 
 -- slot s is open, but for open file x
-unfoldable pub openBut : (ℕ → ℕ → ℕ) → ℕ → ℕ → Bool
+unfoldable pub openBut : Table → ℕ → ℕ → Bool
 openBut opened x s = any (isOn opened x s) 0 OPENS
 
 -- slot s is open: there is no open file 32
-abbrev pub isOpen : (ℕ → ℕ → ℕ) → ℕ → Bool
+abbrev pub isOpen : Table → ℕ → Bool
 isOpen opened s = openBut opened OPENS s
 
 -- "a plain file's length at most 512"; "each plain file named or open"; "A plain file's bytes past its length are 0"
@@ -140,30 +140,30 @@ plainSound v s =
 -- what is owed by kind; a free slot's bytes are 0
 unfoldable pub kindSound : View → ℕ → Bool
 kindSound v s =
-    cond (isDirectory (v .tree) (slot s)) (directorySound (v .tree) s)
-    (cond (isPlain (v .tree) (slot s)) (plainSound v s) (allZero (v .tree .shown s)))
+    cond (isDirectory (v .tree .file) (slot s)) (directorySound (v .tree) s)
+    (cond (isPlain (v .tree .file) (slot s)) (plainSound v s) (allZero (v .tree .shown s)))
 
 unfoldable pub slotSound : View → ℕ → Bool
 slotSound v s = every (recordSound (v .tree) s ∷ linksSound (v .tree) s ∷ kindSound v s ∷ [])
 
 -- descriptor i of process p holds open file e
-unfoldable pub holdsAt : (ℕ → ℕ → ℕ) → ℕ → ℕ → ℕ → Bool
+unfoldable pub holdsAt : Table → ℕ → ℕ → ℕ → Bool
 holdsAt desc e p i = eqb (desc p i) (e + 1)
 
-unfoldable pub holdersIn : (ℕ → ℕ → ℕ) → ℕ → ℕ → ℕ
+unfoldable pub holdersIn : Table → ℕ → ℕ → ℕ
 holdersIn desc e p = count (holdsAt desc e p) 0 DESCRIPTORS
 
-unfoldable pub holders : (ℕ → ℕ → ℕ) → ℕ → ℕ
+unfoldable pub holders : Table → ℕ → ℕ
 holders desc e = total (holdersIn desc e) 0 PROCESSES
 
 -- a free open file is all zero
-unfoldable pub openFree : (ℕ → ℕ → ℕ) → ℕ → Bool
+unfoldable pub openFree : Table → ℕ → Bool
 openFree opened e = every (eqb (opened e SLOT) 0 ∷ eqb (opened e MODE) 0 ∷ eqb (opened e OFFSET) 0 ∷ [])
 
 -- "open entries only on plain files", the mode and the position in range
 unfoldable pub openUsed : View → ℕ → Bool
 openUsed v e =
-    every (ltb (v .opened e SLOT) SLOTS ∷ isPlain (v .tree) (slot (v .opened e SLOT)) ∷ leb 1 (v .opened e MODE) ∷ leb (v .opened e MODE) MODE-MAX
+    every (ltb (v .opened e SLOT) SLOTS ∷ isPlain (v .tree .file) (slot (v .opened e SLOT)) ∷ leb 1 (v .opened e MODE) ∷ leb (v .opened e MODE) MODE-MAX
     ∷ leb (v .opened e OFFSET) BLOCK ∷ [])
 
 -- "references equal to the descriptors counted, at least 1"
@@ -174,10 +174,10 @@ openSound v e =
 -- ---- processes
 
 -- a descriptor names an open entry or nothing
-unfoldable pub descSound : (ℕ → ℕ → ℕ) → ℕ → ℕ → Bool
+unfoldable pub descSound : Table → ℕ → ℕ → Bool
 descSound desc p i = leb (desc p i) OPENS
 
-unfoldable pub descFree : (ℕ → ℕ → ℕ) → ℕ → ℕ → Bool
+unfoldable pub descFree : Table → ℕ → ℕ → Bool
 descFree desc p i = eqb (desc p i) 0
 
 unfoldable pub procFree : View → ℕ → Bool
@@ -194,7 +194,7 @@ procSound v p = cond (eqb (v .proc p USED) 0) (procFree v p) (procUsed v p)
 
 unfoldable pub tablesSound : View → Bool
 tablesSound v =
-    every (isDirectory (v .tree) (slot 0) ∷ all (slotSound v) 0 SLOTS ∷ all (openSound v) 0 OPENS ∷ all (procSound v) 0 PROCESSES ∷ [])
+    every (isDirectory (v .tree .file) (slot 0) ∷ all (slotSound v) 0 SLOTS ∷ all (openSound v) 0 OPENS ∷ all (procSound v) 0 PROCESSES ∷ [])
 
 unfoldable pub storeSound : Store → Bool
 storeSound s = cond (sizesSound s) (tablesSound (view s)) false

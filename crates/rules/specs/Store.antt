@@ -26,28 +26,32 @@ slot n = record { 0 = n }
 
 -- ---- the view: the tables as functions of a row and a named column, and of each slot the bytes that are not a plain file's own
 
+-- word k of record i
+abbrev pub Table : Type 0
+Table = ℕ → ℕ → ℕ
+
 -- the files and directories: what the path rules look at
 pub record Tree : Type 0 where
-  pub file : ℕ → ℕ → ℕ
+  pub file : Table
   pub shown : ℕ → List ℕ
 
 -- Only the answer of a read looks at a plain file's bytes: every rule takes the view.
 pub record View : Type 0 where
   pub tree : Tree
-  pub opened : ℕ → ℕ → ℕ
-  pub proc : ℕ → ℕ → ℕ
-  pub desc : ℕ → ℕ → ℕ
+  pub opened : Table
+  pub proc : Table
+  pub desc : Table
 
 -- a table of records of w words: word k of record i; 0 past the record's or the table's end
-abbrev pub tab : ℕ → List ℕ → ℕ → ℕ → ℕ
+abbrev pub tab : ℕ → List ℕ → Table
 tab w xs i k = cond (ltb k w) (getD xs (w * i + k) 0) 0
 
 -- a process's own words
-abbrev pub procOf : List ℕ → ℕ → ℕ → ℕ
+abbrev pub procOf : List ℕ → Table
 procOf P p k = cond (ltb k OWN) (getD P (PROCESS * p + k) 0) 0
 
 -- what descriptor i of process p holds; nothing for i over 7
-unfoldable pub descOf : List ℕ → ℕ → ℕ → ℕ
+unfoldable pub descOf : List ℕ → Table
 descOf P p i = cond (ltb i DESCRIPTORS) (getD P (PROCESS * p + (OWN + i)) 0) 0
 
 -- the bytes of slot s
@@ -69,18 +73,18 @@ abbrev pub view : Store → View
 view s = record { tree = tree (s .files) (s .contents); opened = tab OPEN (s .opens); proc = procOf (s .processes); desc = descOf (s .processes) }
 
 -- who asks: process p
-abbrev pub subjectOf : View → Pid → Subject
-subjectOf v p = record { user = v .proc (p .0) USER; label = v .proc (p .0) DOMAIN }
+abbrev pub subjectOf : Table → Pid → Subject
+subjectOf proc p = record { user = proc (p .0) USER; label = proc (p .0) DOMAIN }
 
-abbrev pub recordOf : Tree → Slot → Record
-recordOf t s = record {
-  kind = t .file (s .0) KIND;
-  owner = t .file (s .0) OWNER;
-  bits = t .file (s .0) BITS;
-  label = t .file (s .0) LABEL;
-  length = t .file (s .0) LENGTH;
-  links = t .file (s .0) LINKS;
-  version = t .file (s .0) VERSION;
+abbrev pub recordOf : Table → Slot → Record
+recordOf file s = record {
+  kind = file (s .0) KIND;
+  owner = file (s .0) OWNER;
+  bits = file (s .0) BITS;
+  label = file (s .0) LABEL;
+  length = file (s .0) LENGTH;
+  links = file (s .0) LINKS;
+  version = file (s .0) VERSION;
 }
 
 -- ---- counters are words of 32 bits

@@ -5,7 +5,7 @@ use mathlib.Core.List.{List, [], _∷_}
 use lib.Dec.{eqb, ltb}
 use lib.ListN.{length}
 use Rattle.rules.specs.Layout.{KIND, OWNER, BITS, LABEL, DIRECTORY, PLAIN, DIRENTS}
-use Rattle.rules.specs.Store.{Tree, slot}
+use Rattle.rules.specs.Store.{Table, Tree, slot}
 use Rattle.rules.specs.Rights.{SEARCH, bitsGrant, labelGrants}
 use Rattle.rules.specs.Paths.{Name, names, parentNames}
 use Rattle.rules.specs.Directories.{direntOf, direntSlot}
@@ -18,18 +18,18 @@ use Rattle.rules.specs.declared.decision.Location.{Location}
 use Rattle.rules.specs.declared.decision.Walk.{Walk}
 use Rattle.rules.specs.declared.decision.Walk.the-variants.{Reached, Stopped}
 
-abbrev pub isDirectory : Tree → Slot → Bool
-isDirectory t s = eqb (t .file (s .0) KIND) DIRECTORY
+abbrev pub isDirectory : Table → Slot → Bool
+isDirectory file s = eqb (file (s .0) KIND) DIRECTORY
 
-abbrev pub isPlain : Tree → Slot → Bool
-isPlain t s = eqb (t .file (s .0) KIND) PLAIN
+abbrev pub isPlain : Table → Slot → Bool
+isPlain file s = eqb (file (s .0) KIND) PLAIN
 
 -- the subject has the rights over slot s, by its bits and by its label
-abbrev pub bitsAllow : Tree → Subject → Slot → Rights → Bool
-bitsAllow t who s want = bitsGrant who (t .file (s .0) OWNER) (t .file (s .0) BITS) want
+abbrev pub bitsAllow : Table → Subject → Slot → Rights → Bool
+bitsAllow file who s want = bitsGrant who (file (s .0) OWNER) (file (s .0) BITS) want
 
-abbrev pub labelAllows : Tree → List ℕ → Subject → Slot → Rights → Bool
-labelAllows t Q who s want = labelGrants Q who (t .file (s .0) LABEL) want
+abbrev pub labelAllows : Table → List ℕ → Subject → Slot → Rights → Bool
+labelAllows file Q who s want = labelGrants Q who (file (s .0) LABEL) want
 
 -- a check at the k-th name: what follows, or the refusal with the name's number
 unfoldable pub needAt : Bool → Refusal → ℕ → Walk → Walk
@@ -41,11 +41,11 @@ onReached (Reached at) f = f at
 onReached (Stopped r k) f = Stopped r k
 
 -- "the directory at hand must be a directory (7), searchable by bits (9), by label (10)", and then what follows
-abbrev pub searched : Tree → List ℕ → Subject → Slot → ℕ → Walk → Walk
-searched t Q who d k rest =
-    needAt (isDirectory t d) NotDirectory k
-    (needAt (bitsAllow t who d SEARCH) BitsForbid k
-    (needAt (labelAllows t Q who d SEARCH) LabelForbids k rest))
+abbrev pub searched : Table → List ℕ → Subject → Slot → ℕ → Walk → Walk
+searched file Q who d k rest =
+    needAt (isDirectory file d) NotDirectory k
+    (needAt (bitsAllow file who d SEARCH) BitsForbid k
+    (needAt (labelAllows file Q who d SEARCH) LabelForbids k rest))
 
 -- entry i of directory d, whose bytes are D
 abbrev pub reached : List ℕ → Slot → ℕ → Walk
@@ -60,7 +60,7 @@ found t d name k = entered (t .shown (d .0)) d k (direntOf (t .shown (d .0)) nam
 
 -- the k-th name is looked for in directory d
 unfoldable pub lookup : Tree → List ℕ → Subject → Slot → Name → ℕ → Walk
-lookup t Q who d name k = searched t Q who d k (found t d name k)
+lookup t Q who d name k = searched (t .file) Q who d k (found t d name k)
 
 -- from a location along the names, of which the first is the k-th of the path
 unfoldable pub walk : Tree → List ℕ → Subject → Location → ℕ → List Name → Walk
@@ -74,8 +74,8 @@ abbrev pub walkPath : Tree → List ℕ → Subject → List ℕ → Walk
 walkPath t Q who path = walk t Q who ROOT 1 (names path)
 
 -- "The three checks of a directory count at the name looked for in it, also where a call walks only to the parent"
-unfoldable pub enterParent : Tree → List ℕ → Subject → ℕ → Location → Walk
-enterParent t Q who k at = searched t Q who (at .slot) k (Reached at)
+unfoldable pub enterParent : Table → List ℕ → Subject → ℕ → Location → Walk
+enterParent file Q who k at = searched file Q who (at .slot) k (Reached at)
 
 abbrev pub walkParent : Tree → List ℕ → Subject → List ℕ → Walk
-walkParent t Q who path = onReached (walk t Q who ROOT 1 (parentNames (names path))) (enterParent t Q who (length (names path)))
+walkParent t Q who path = onReached (walk t Q who ROOT 1 (parentNames (names path))) (enterParent (t .file) Q who (length (names path)))

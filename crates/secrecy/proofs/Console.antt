@@ -16,7 +16,7 @@ use Rattle.rules.specs.Rights.{transition}
 use Rattle.rules.specs.Store.{view, tab, procOf, zeros, slot}
 use Rattle.rules.specs.Directories.{dirent}
 use Rattle.rules.specs.Calls.{Call}
-use Rattle.rules.specs.Checks.{inUse, procInUse}
+use Rattle.rules.specs.Checks.{inUse}
 use Rattle.rules.specs.Sound.{sound}
 use Rattle.rules.specs.Console.{FARES, NOW, KEY, filled, consoleContents, consoleWith, consolePolicy}
 use Rattle.rules.specs.declared.ids.Pid.{Pid}
@@ -103,7 +103,7 @@ console-sound k e =
 -- ---- who may read: the labels in use are 0, 1 and 2, there are no transitions, and none of the three has right 4 over label 3
 
 fewLabels : ℕ → Bool
-fewLabels p = implies (inUse (view (consoleWith [])) (record { 0 = p })) (ltb (procOf (consoleWith [] .processes) p DOMAIN) 3)
+fewLabels p = implies (inUse (view (consoleWith []) .proc) (record { 0 = p })) (ltb (procOf (consoleWith [] .processes) p DOMAIN) 3)
 
 few-labels : all fewLabels 0 8 ≡ true
 unfolding computing fewLabels
@@ -121,12 +121,12 @@ unfolding implies
 implied true b h e = h
 implied false b h e = absurd (false≢true e)
 
-used-small : (k : List ℕ) (p : Pid) → inUse (view (consoleWith k)) p ≡ true → p .0 < 8
-unfolding procInUse
+used-small : (k : List ℕ) (p : Pid) → inUse (view (consoleWith k) .proc) p ≡ true → p .0 < 8
+unfolding inUse
 used-small k p h = ltb-true _ _ (test 0 _ h)
 
-used-few : (k : List ℕ) (p : Pid) → inUse (view (consoleWith k)) p ≡ true → procOf (consoleWith k .processes) (p .0) DOMAIN < 3
-unfolding consoleWith procInUse fewLabels
+used-few : (k : List ℕ) (p : Pid) → inUse (view (consoleWith k) .proc) p ≡ true → procOf (consoleWith k .processes) (p .0) DOMAIN < 3
+unfolding consoleWith inUse fewLabels
 used-few k p h = ltb-true _ _ (implied _ _ (all-at fewLabels 0 8 few-labels (p .0) (omega arith) (used-small k p h)) h)
 
 reached-few : (k : List ℕ) (l : ℕ) → Reached consolePolicy (consoleWith k) l → l < 3

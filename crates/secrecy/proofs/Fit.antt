@@ -14,7 +14,7 @@ use Rattle.rules.specs.Store.{Tree, View, slot, subjectOf}
 use Rattle.rules.specs.Rights.{reads, labelGrants, moved, modeOf, modeRights}
 use Rattle.rules.specs.Paths.{Name, names, parentNames}
 use Rattle.rules.specs.Walk.{isDirectory, needAt, onReached, lookup, walk, walkPath, walkParent, enterParent, ROOT}
-use Rattle.rules.specs.Checks.{need, after, inUse, procInUse, held, descHeld, slotFree}
+use Rattle.rules.specs.Checks.{need, after, inUse, held, slotFree}
 use Rattle.rules.specs.DecidePaths.{opening, openRoom, openFile, openMode, decideOpen, createRoom, createIn, decideCreate, unlinkAt, decideUnlink, removeAt, decideRemove, linkRoom, linkIn, linkTo, decideLink, listEntry, listAt, decideList, changeBitsAt, decideChangeBits, decideStat, executeAt, decideExecute, newOpen, truncated}
 use Rattle.rules.specs.Calls.{Call, operation}
 use Rattle.rules.specs.Decide.{decideClose, readOpen, decideRead, writeAt, writeFile, writeSome, writeOpen, decideWrite, decideSeek, duplicateTo, decideDuplicate, forkTo, decideOwn, decide}
@@ -50,7 +50,7 @@ use Rattle.secrecy.proofs.Tests.{test, first-passes}
 
 -- what the decisions rest on: the root is a directory, and a descriptor over 7 holds nothing
 pub record Based (v : View) : Type 0 where
-  pub root : isDirectory (v .tree) (slot 0) ≡ true
+  pub root : isDirectory (v .tree .file) (slot 0) ≡ true
   pub eight : (p i : ℕ) → v .desc p i ≢ 0 → i < 8
 
 -- a process that may call
@@ -73,24 +73,24 @@ pub data OutputFit (v : View) : Output → Type 0 where
 -- a file is opened with a descriptor of the eight, in a mode whose rights the labels grant
 pub record OpenFit (Q : List ℕ) (v : View) (p : Pid) (n : NewOpen) : Type 0 where
   pub eight : n .fd .0 < 8
-  pub rights : labelGrants Q (subjectOf v p) (v .tree .file (n .slot .0) LABEL) (modeRights (n .mode)) ≡ true
+  pub rights : labelGrants Q (subjectOf (v .proc) p) (v .tree .file (n .slot .0) LABEL) (modeRights (n .mode)) ≡ true
 
 pub data EffectFit (Q : List ℕ) (v : View) (p : Pid) : Effect → Type 0 where
   nothing : EffectFit Q v p effect.Nothing
   opened : (n : NewOpen) → OpenFit Q v p n → EffectFit Q v p (effect.Opened n)
   cut : (n : NewOpen) (r : Record) → OpenFit Q v p n → EffectFit Q v p (effect.Truncated n r)
-  created : (d : DirChange) (s : Slot) (r : Record) → isDirectory (v .tree) (d .dir) ≡ true → slotFree (v .tree .file) (s .0) ≡ true → EffectFit Q v p (effect.Created d s r)
-  unlinked : (d : DirChange) (u : Unnamed) → isDirectory (v .tree) (d .dir) ≡ true → EffectFit Q v p (effect.Unlinked d u)
-  removed : (d : DirChange) (s : Slot) (r : Record) → isDirectory (v .tree) (d .dir) ≡ true → EffectFit Q v p (effect.Removed d s r)
-  linked : (d : DirChange) (s : Slot) (links : ℕ) → isDirectory (v .tree) (d .dir) ≡ true → EffectFit Q v p (effect.Linked d s links)
+  created : (d : DirChange) (s : Slot) (r : Record) → isDirectory (v .tree .file) (d .dir) ≡ true → slotFree (v .tree .file) (s .0) ≡ true → EffectFit Q v p (effect.Created d s r)
+  unlinked : (d : DirChange) (u : Unnamed) → isDirectory (v .tree .file) (d .dir) ≡ true → EffectFit Q v p (effect.Unlinked d u)
+  removed : (d : DirChange) (s : Slot) (r : Record) → isDirectory (v .tree .file) (d .dir) ≡ true → EffectFit Q v p (effect.Removed d s r)
+  linked : (d : DirChange) (s : Slot) (links : ℕ) → isDirectory (v .tree .file) (d .dir) ≡ true → EffectFit Q v p (effect.Linked d s links)
   rebitted : (s : Slot) (x : Bits) → EffectFit Q v p (effect.BitsChanged s x)
   closed : (i : Fd) (r : Release) → i .0 < 8 → EffectFit Q v p (effect.Closed i r)
   stored : (w : Placement) → v .tree .file (w .slot .0) LENGTH ≤ w .length → EffectFit Q v p (effect.Stored w)
   shifted : (e offset : ℕ) → EffectFit Q v p (effect.Moved e offset)
   duplicated : (i : Fd) (e refs : ℕ) → i .0 < 8 → EffectFit Q v p (effect.Duplicated i e refs)
-  forked : (q : Pid) (user label : ℕ) → subjectOf v p .label ≡ label → EffectFit Q v p (effect.Forked q user label)
+  forked : (q : Pid) (user label : ℕ) → subjectOf (v .proc) p .label ≡ label → EffectFit Q v p (effect.Forked q user label)
   exited : EffectFit Q v p effect.Exited
-  relabelled : (t label : ℕ) → moved Q (subjectOf v p .label) (v .tree .file t LABEL) ≡ label → EffectFit Q v p (effect.Relabelled label)
+  relabelled : (t label : ℕ) → moved Q (subjectOf (v .proc) p .label) (v .tree .file t LABEL) ≡ label → EffectFit Q v p (effect.Relabelled label)
 
 pub data Fit (Q : List ℕ) (v : View) (p : Pid) : Decision → Type 0 where
   refused : (r : Refusal) (k : ℕ) → Fit Q v p (Refused r k)
@@ -119,10 +119,10 @@ module _ (P : Location → Type 0) where
   onReached-fit R (Stopped r k) g f h = stopped r k
 
 abbrev InDirectory : Tree → Location → Type 0
-InDirectory t at = isDirectory t (at .dir) ≡ true
+InDirectory t at = isDirectory (t .file) (at .dir) ≡ true
 
 abbrev AtDirectory : Tree → Location → Type 0
-AtDirectory t at = isDirectory t (at .slot) ≡ true
+AtDirectory t at = isDirectory (t .file) (at .slot) ≡ true
 
 module _ (Q : List ℕ) (t : Tree) (who : Subject) where
   lookup-fit : (d : Slot) (name : Name) (k : ℕ) → WalkFit (InDirectory t) (lookup t Q who d name k)
@@ -134,7 +134,7 @@ module _ (Q : List ℕ) (t : Tree) (who : Subject) where
   walk-fit at k [] h = reached at h
   walk-fit at k (n ∷ ns) h = onReached-fit (InDirectory t) (InDirectory t) _ _ (lookup-fit (at .slot) n k) (λ next g. walk-fit next (k + 1) ns g)
 
-  enter-fit : (k : ℕ) (at : Location) → WalkFit (AtDirectory t) (enterParent t Q who k at)
+  enter-fit : (k : ℕ) (at : Location) → WalkFit (AtDirectory t) (enterParent (t .file) Q who k at)
   unfolding enterParent
   enter-fit k at = needAt-fit _ _ _ _ _ (λ h. needAt-fit _ _ _ _ _ (λ _. needAt-fit _ _ _ _ _ (λ _. reached at h)))
 
@@ -163,60 +163,60 @@ module _ (Q : List ℕ) (v : View) (b : Based v) (p : Pid) (u : Caller v p) wher
   granted-fit : (n : ℕ) (e : Effect) → EffectFit Q v p e → Fit Q v p (Granted n output.Nothing e)
   granted-fit n e h = granted n output.Nothing e u silent h
 
-  opening-fit : (s : Slot) (m : OpenMode) (c : Bool) (i e : ℕ) → OpenFit Q v p (newOpen s m i e) → EffectFit Q v p (opening (v .tree) s m c i e)
+  opening-fit : (s : Slot) (m : OpenMode) (c : Bool) (i e : ℕ) → OpenFit Q v p (newOpen s m i e) → EffectFit Q v p (opening (v .tree .file) s m c i e)
   unfolding opening
   opening-fit s m c i e h = go (every (c ∷ ltb 0 (v .tree .file (s .0) LENGTH) ∷ []))
     where
-      go : (t : Bool) → EffectFit Q v p (cond t (effect.Truncated (newOpen s m i e) (truncated (v .tree) s)) (effect.Opened (newOpen s m i e)))
+      go : (t : Bool) → EffectFit Q v p (cond t (effect.Truncated (newOpen s m i e) (truncated (v .tree .file) s)) (effect.Opened (newOpen s m i e)))
       go true = cut _ _ h
       go false = opened _ h
 
-  openFile-fit : (m : OpenMode) (c : Bool) (s : Slot) → Fit Q v p (openFile Q v p m c s)
+  openFile-fit : (m : OpenMode) (c : Bool) (s : Slot) → Fit Q v p (openFile Q (v .tree .file) (v .opened) (v .desc) p (subjectOf (v .proc) p) m c s)
   unfolding openFile openRoom
   openFile-fit m c s =
       need-fit _ _ _ (λ _. need-fit _ _ _ (λ _. need-fit _ _ _ (λ l. need-fit _ _ _ (λ d. need-fit _ _ _ (λ _.
       granted-fit _ _ (opening-fit s m c _ _ (record { eight = ltb-true _ _ d; rights = l })))))))
 
-  openMode-fit : (m : ModeNumber) (s : Slot) → Fit Q v p (openMode Q v p m s)
+  openMode-fit : (m : ModeNumber) (s : Slot) → Fit Q v p (openMode Q (v .tree .file) (v .opened) (v .desc) p (subjectOf (v .proc) p) m s)
   unfolding openMode
   openMode-fit (Keep m) s = openFile-fit m false s
   openMode-fit (Truncate m) s = openFile-fit m true s
   openMode-fit OutOfRange s = refused _ _
 
-  open-fit : (n : ℕ) (path : List ℕ) → Fit Q v p (decideOpen Q v p n path)
+  open-fit : (n : ℕ) (path : List ℕ) → Fit Q v p (decideOpen Q (v .tree) (v .opened) (v .desc) p (subjectOf (v .proc) p) n path)
   unfolding decideOpen
   open-fit n path = after-any _ _ (λ at. openMode-fit (modeOf n) (at .slot))
 
-  createIn-fit : (kind bits : ℕ) (name : Name) (d : Slot) → isDirectory (v .tree) d ≡ true → Fit Q v p (createIn Q (v .tree) (subjectOf v p) kind bits name d)
+  createIn-fit : (kind bits : ℕ) (name : Name) (d : Slot) → isDirectory (v .tree .file) d ≡ true → Fit Q v p (createIn Q (v .tree) (subjectOf (v .proc) p) kind bits name d)
   unfolding createIn createRoom
   createIn-fit kind bits name d h =
       need-fit _ _ _ (λ _. need-fit _ _ _ (λ _. need-fit _ _ _ (λ _. need-fit _ _ _ (λ l. need-fit _ _ _ (λ _.
       granted-fit _ _ (created _ _ _ h (first-passes (slotFree (v .tree .file)) SLOTS l)))))))
 
-  create-fit : (kind bits : ℕ) (path : List ℕ) → Fit Q v p (decideCreate Q v p kind bits path)
+  create-fit : (kind bits : ℕ) (path : List ℕ) → Fit Q v p (decideCreate Q (v .tree) (subjectOf (v .proc) p) kind bits path)
   unfolding decideCreate
-  create-fit kind bits path = after-fit (AtDirectory (v .tree)) _ _ (parent-fit Q (v .tree) (subjectOf v p) path) (λ at h. createIn-fit kind bits _ (at .slot) h)
+  create-fit kind bits path = after-fit (AtDirectory (v .tree)) _ _ (parent-fit Q (v .tree) (subjectOf (v .proc) p) path) (λ at h. createIn-fit kind bits _ (at .slot) h)
 
-  path-fit : (path : List ℕ) → WalkFit (InDirectory (v .tree)) (walkPath (v .tree) Q (subjectOf v p) path)
-  path-fit path = walk-fit Q (v .tree) (subjectOf v p) ROOT 1 (names path) (b .root)
+  path-fit : (path : List ℕ) → WalkFit (InDirectory (v .tree)) (walkPath (v .tree) Q (subjectOf (v .proc) p) path)
+  path-fit path = walk-fit Q (v .tree) (subjectOf (v .proc) p) ROOT 1 (names path) (b .root)
 
-  unlink-fit : (path : List ℕ) → Fit Q v p (decideUnlink Q v p path)
+  unlink-fit : (path : List ℕ) → Fit Q v p (decideUnlink Q (v .tree) (v .opened) (subjectOf (v .proc) p) path)
   unfolding decideUnlink unlinkAt
   unlink-fit path = after-fit (InDirectory (v .tree)) _ _ (path-fit path) (λ at h. need-fit _ _ _ (λ _. need-fit _ _ _ (λ _. need-fit _ _ _ (λ _. granted-fit _ _ (unlinked _ _ h)))))
 
-  remove-fit : (path : List ℕ) → Fit Q v p (decideRemove Q v p path)
+  remove-fit : (path : List ℕ) → Fit Q v p (decideRemove Q (v .tree) (subjectOf (v .proc) p) path)
   unfolding decideRemove removeAt
   remove-fit path = after-fit (InDirectory (v .tree)) _ _ (path-fit path)
       (λ at h. need-fit _ _ _ (λ _. need-fit _ _ _ (λ _. need-fit _ _ _ (λ _. need-fit _ _ _ (λ _. granted-fit _ _ (removed _ _ _ h))))))
 
-  linkIn-fit : (old : Slot) (name : Name) (d : Slot) → isDirectory (v .tree) d ≡ true → Fit Q v p (linkIn Q (v .tree) (subjectOf v p) old name d)
+  linkIn-fit : (old : Slot) (name : Name) (d : Slot) → isDirectory (v .tree .file) d ≡ true → Fit Q v p (linkIn Q (v .tree) (subjectOf (v .proc) p) old name d)
   unfolding linkIn linkRoom
   linkIn-fit old name d h = need-fit _ _ _ (λ _. need-fit _ _ _ (λ _. need-fit _ _ _ (λ _. need-fit _ _ _ (λ _. granted-fit _ _ (linked _ _ _ h)))))
 
-  link-fit : (old new : List ℕ) → Fit Q v p (decideLink Q v p old new)
+  link-fit : (old new : List ℕ) → Fit Q v p (decideLink Q (v .tree) (subjectOf (v .proc) p) old new)
   unfolding decideLink linkTo
   link-fit old new = after-any _ _ (λ from. need-fit _ _ _ (λ _.
-      after-fit (AtDirectory (v .tree)) _ _ (parent-fit Q (v .tree) (subjectOf v p) new) (λ at h. linkIn-fit (from .slot) _ (at .slot) h)))
+      after-fit (AtDirectory (v .tree)) _ _ (parent-fit Q (v .tree) (subjectOf (v .proc) p) new) (λ at h. linkIn-fit (from .slot) _ (at .slot) h)))
 
   listEntry-fit : (d : Slot) (i : ℕ) → Fit Q v p (listEntry d i)
   unfolding listEntry
@@ -226,59 +226,59 @@ module _ (Q : List ℕ) (v : View) (b : Based v) (p : Pid) (u : Caller v p) wher
       go true = granted _ _ _ u (listed d i) nothing
       go false = granted-fit _ _ nothing
 
-  list-fit : (k : ℕ) (path : List ℕ) → Fit Q v p (decideList Q v p k path)
+  list-fit : (k : ℕ) (path : List ℕ) → Fit Q v p (decideList Q (v .tree) (subjectOf (v .proc) p) k path)
   unfolding decideList listAt
   list-fit k path = after-any _ _ (λ at. need-fit _ _ _ (λ _. need-fit _ _ _ (λ _. need-fit _ _ _ (λ _. listEntry-fit (at .slot) _))))
 
-  changeBits-fit : (n : ℕ) (path : List ℕ) → Fit Q v p (decideChangeBits Q v p n path)
+  changeBits-fit : (n : ℕ) (path : List ℕ) → Fit Q v p (decideChangeBits Q (v .tree) (subjectOf (v .proc) p) n path)
   unfolding decideChangeBits changeBitsAt
   changeBits-fit n path = after-any _ _ (λ at. need-fit _ _ _ (λ _. need-fit _ _ _ (λ _. granted-fit _ _ (rebitted _ _))))
 
-  stat-fit : (path : List ℕ) → Fit Q v p (decideStat Q v p path)
+  stat-fit : (path : List ℕ) → Fit Q v p (decideStat Q (v .tree) (subjectOf (v .proc) p) path)
   unfolding decideStat
   stat-fit path = after-any _ _ (λ at. granted _ _ _ u (described _) nothing)
 
-  execute-fit : (path : List ℕ) → Fit Q v p (decideExecute Q v p path)
+  execute-fit : (path : List ℕ) → Fit Q v p (decideExecute Q (v .tree) (subjectOf (v .proc) p) path)
   unfolding decideExecute executeAt
   execute-fit path = after-any _ _ (λ at. need-fit _ _ _ (λ _. need-fit _ _ _ (λ _. need-fit _ _ _ (λ _. granted-fit _ _ (relabelled (at .slot .0) _ refl)))))
 
-  held-small : (i : Fd) → held v p i ≡ true → i .0 < 8
-  unfolding descHeld
+  held-small : (i : Fd) → held (v .desc) p i ≡ true → i .0 < 8
+  unfolding held
   held-small i h = b .eight (p .0) (i .0) (eqb-false _ _ (not-true _ h))
 
-  close-fit : (i : Fd) → Fit Q v p (decideClose v p i)
+  close-fit : (i : Fd) → Fit Q v p (decideClose (v .tree .file) (v .opened) (v .desc) p i)
   unfolding decideClose
   close-fit i = need-fit _ _ _ (λ h. granted-fit _ _ (closed _ _ (held-small i h)))
 
-  read-fit : (i : Fd) (size : ℕ) → Fit Q v p (decideRead v p i size)
+  read-fit : (i : Fd) (size : ℕ) → Fit Q v p (decideRead (v .tree .file) (v .opened) (v .desc) p i size)
   unfolding decideRead readOpen
   read-fit i size = need-fit _ _ _ (λ _. need-fit _ _ _ (λ m. granted _ _ _ u (fetched _ _ _ (record { entry = _; mode = m; names = refl })) (shifted _ _)))
 
-  writeFile-fit : (e at n : ℕ) → Fit Q v p (writeFile v e at n)
+  writeFile-fit : (e at n : ℕ) → Fit Q v p (writeFile (v .tree .file) (v .opened) e at n)
   unfolding writeFile
   writeFile-fit e at n = need-fit _ _ _ (λ _. granted-fit _ _ (stored _ (omega arith)))
 
-  writeSome-fit : (e n : ℕ) → Fit Q v p (writeSome v e n)
+  writeSome-fit : (e n : ℕ) → Fit Q v p (writeSome (v .tree .file) (v .opened) e n)
   unfolding writeSome
   writeSome-fit e n = go (eqb n 0)
     where
-      go : (t : Bool) → Fit Q v p (cond t (Granted 0 output.Nothing effect.Nothing) (writeFile v e (writeAt v e) n))
+      go : (t : Bool) → Fit Q v p (cond t (Granted 0 output.Nothing effect.Nothing) (writeFile (v .tree .file) (v .opened) e (writeAt (v .tree .file) (v .opened) e) n))
       go true = granted-fit _ _ nothing
-      go false = writeFile-fit e (writeAt v e) n
+      go false = writeFile-fit e (writeAt (v .tree .file) (v .opened) e) n
 
-  write-fit : (i : Fd) (n : ℕ) → Fit Q v p (decideWrite v p i n)
+  write-fit : (i : Fd) (n : ℕ) → Fit Q v p (decideWrite (v .tree .file) (v .opened) (v .desc) p i n)
   unfolding decideWrite writeOpen
   write-fit i n = need-fit _ _ _ (λ _. need-fit _ _ _ (λ _. writeSome-fit _ n))
 
-  seek-fit : (i : Fd) (n : ℕ) → Fit Q v p (decideSeek v p i n)
+  seek-fit : (i : Fd) (n : ℕ) → Fit Q v p (decideSeek (v .desc) p i n)
   unfolding decideSeek
   seek-fit i n = need-fit _ _ _ (λ _. granted-fit _ _ (shifted _ _))
 
-  duplicate-fit : (i : Fd) → Fit Q v p (decideDuplicate v p i)
+  duplicate-fit : (i : Fd) → Fit Q v p (decideDuplicate (v .opened) (v .desc) p i)
   unfolding decideDuplicate duplicateTo
   duplicate-fit i = need-fit _ _ _ (λ _. need-fit _ _ _ (λ d. granted-fit _ _ (duplicated _ _ _ (ltb-true _ _ d))))
 
-  fork-fit : (q : ℕ) → Fit Q v p (forkTo v p q)
+  fork-fit : (q : ℕ) → Fit Q v p (forkTo (subjectOf (v .proc) p) q)
   unfolding forkTo
   fork-fit q = need-fit _ _ _ (λ _. granted-fit _ _ (forked _ _ _ refl))
 
@@ -306,7 +306,7 @@ own-fit Q v b c u op.Execute = execute-fit Q v b (c .process) u (c .path)
 own-fit Q v b c u op.Unknown = refused _ _
 
 pub decide-fit : (Q : List ℕ) (v : View) → Based v → (c : Call) → Fit Q v (c .process) (decide Q v c)
-unfolding decide procInUse
+unfolding decide inUse
 decide-fit Q v b c =
     checked Q v (c .process) _ _ _ (λ h. checked Q v (c .process) _ _ _ (λ _.
     own-fit Q v b c (record { small = ltb-true _ _ (test 0 _ h); used = eqb-true _ _ (test 1 _ h) }) (operation c)))

@@ -89,11 +89,11 @@ module _ (reach : ℕ → Type 0) (f n : ℕ) where
 
   released-keep : (L : ℕ) (p : Pid) (i : ℕ) → i < 8 → (s s′ : Store) → Related reach f n L s s′ → Related reach f n L (released p i s) (released p i s′)
   unfolding released
-  released-keep L p i h s s′ r = alike-keep reach f n L (λ v. closeChanges p (fdOf i) (releasing v p (fdOf i))) (λ v. close-keep L p (fdOf i) _ h) s s′ r
+  released-keep L p i h s s′ r = alike-keep reach f n L (λ v. closeChanges p (fdOf i) (releasing (v .tree .file) (v .opened) (v .desc) p (fdOf i))) (λ v. close-keep L p (fdOf i) _ h) s s′ r
 
   shared-keep : (L : ℕ) (p q : Pid) (i : ℕ) → i < 8 → (s s′ : Store) → Related reach f n L s s′ → Related reach f n L (shared p q i s) (shared p q i s′)
   unfolding shared
-  shared-keep L p q i h s s′ r = alike-keep reach f n L (λ v. shareChanges q (fdOf i) (shareOf v p (fdOf i))) (λ v. share-keep L q (fdOf i) _ h) s s′ r
+  shared-keep L p q i h s s′ r = alike-keep reach f n L (λ v. shareChanges q (fdOf i) (shareOf (v .opened) (v .desc) p (fdOf i))) (λ v. share-keep L q (fdOf i) _ h) s s′ r
 
   clear-keep : (L : ℕ) (t : Slot) (x : Record) → KeepsAll reach f n L (clearTo (t .0) (words x) ∷ [])
   unfolding KeepsAll Keeps
@@ -113,7 +113,7 @@ module _ (Q : List ℕ) (reach : ℕ → Type 0) (f n L : ℕ) (no-right : (l : 
     (closed-under : (l m : ℕ) → m < 16 → reach l → reach (moved Q l m)) where
   module _ (s s′ : Store) (a : Apart f n s s′) (z : Secret reach f n L s) (small : (t : ℕ) → tab FILE (s .files) t LABEL < 16) where
     -- a directory or a free slot is not f
-    not-directory : (t : Slot) → isDirectory (view s .tree) t ≡ true → t .0 ≢ f
+    not-directory : (t : Slot) → isDirectory (view s .tree .file) t ≡ true → t .0 ≢ f
     not-directory t d e =
         let k : tab FILE (s .files) (t .0) KIND ≡ 2 = eqb-true _ _ d in
         let q : tab FILE (s .files) (t .0) KIND ≡ 1 = ap (λ (x : ℕ). tab FILE (s .files) x KIND) e ∙ z .own .plain in
@@ -126,15 +126,15 @@ module _ (Q : List ℕ) (reach : ℕ → Type 0) (f n L : ℕ) (no-right : (l : 
         let q : tab FILE (s .files) t KIND ≡ 1 = ap (λ (x : ℕ). tab FILE (s .files) x KIND) e ∙ z .own .plain in
         omega arith
 
-    dir-keep : (d : DirChange) → isDirectory (view s .tree) (d .dir) ≡ true → KeepsAll reach f n L (dirWords d)
+    dir-keep : (d : DirChange) → isDirectory (view s .tree .file) (d .dir) ≡ true → KeepsAll reach f n L (dirWords d)
     unfolding KeepsAll Keeps
     dir-keep d h = ((omega arith, λ e. absurd (not-directory (d .dir) h e)), ((omega arith, λ e. absurd (not-directory (d .dir) h e)), tt))
 
-    name-keep : (nm : Name) (t : Slot) (d : DirChange) → isDirectory (view s .tree) (d .dir) ≡ true → KeepsAll reach f n L (nameChanges nm t d)
+    name-keep : (nm : Name) (t : Slot) (d : DirChange) → isDirectory (view s .tree .file) (d .dir) ≡ true → KeepsAll reach f n L (nameChanges nm t d)
     unfolding nameChanges KeepsAll Keeps
     name-keep nm t d h = (tt, dir-keep d h)
 
-    unname-keep : (d : DirChange) → isDirectory (view s .tree) (d .dir) ≡ true → KeepsAll reach f n L (unnameChanges d)
+    unname-keep : (d : DirChange) → isDirectory (view s .tree .file) (d .dir) ≡ true → KeepsAll reach f n L (unnameChanges d)
     unfolding unnameChanges KeepsAll Keeps
     unname-keep d h = (tt, dir-keep d h)
 
@@ -153,19 +153,19 @@ module _ (Q : List ℕ) (reach : ℕ → Type 0) (f n L : ℕ) (no-right : (l : 
     unfolding truncateChanges
     truncate-keep p w x r o = append-keep reach f n L (openChanges p w) _ (open-keep p w r o) (clear-keep reach f n L (w .slot) x)
 
-    create-keep : (nm : Name) (d : DirChange) (t : Slot) (x : Record) → isDirectory (view s .tree) (d .dir) ≡ true → slotFree (view s .tree .file) (t .0) ≡ true → KeepsAll reach f n L (createChanges nm d t x)
+    create-keep : (nm : Name) (d : DirChange) (t : Slot) (x : Record) → isDirectory (view s .tree .file) (d .dir) ≡ true → slotFree (view s .tree .file) (t .0) ≡ true → KeepsAll reach f n L (createChanges nm d t x)
     unfolding createChanges KeepsAll Keeps
     create-keep nm d t x h g = ((refl, not-free (t .0) g), name-keep nm t d h)
 
-    link-keep : (nm : Name) (d : DirChange) (t : Slot) (links : ℕ) → isDirectory (view s .tree) (d .dir) ≡ true → KeepsAll reach f n L (linkChanges nm d t links)
+    link-keep : (nm : Name) (d : DirChange) (t : Slot) (links : ℕ) → isDirectory (view s .tree .file) (d .dir) ≡ true → KeepsAll reach f n L (linkChanges nm d t links)
     unfolding linkChanges KeepsAll Keeps
     link-keep nm d t links h = ((omega arith, λ _. word reach f n 5 links (λ e. omega arith) (λ e. omega arith) (λ e. omega arith)), name-keep nm t d h)
 
-    unlink-keep : (d : DirChange) (u : Unnamed) → isDirectory (view s .tree) (d .dir) ≡ true → KeepsAll reach f n L (unlinkChanges d u)
+    unlink-keep : (d : DirChange) (u : Unnamed) → isDirectory (view s .tree .file) (d .dir) ≡ true → KeepsAll reach f n L (unlinkChanges d u)
     unfolding unlinkChanges
     unlink-keep d u h = append-keep reach f n L (unnameChanges d) (unnamedChanges u) (unname-keep d h) (unnamed-keep reach f n L u)
 
-    remove-keep : (d : DirChange) (t : Slot) (x : Record) → isDirectory (view s .tree) (d .dir) ≡ true → KeepsAll reach f n L (removeChanges d t x)
+    remove-keep : (d : DirChange) (t : Slot) (x : Record) → isDirectory (view s .tree .file) (d .dir) ≡ true → KeepsAll reach f n L (removeChanges d t x)
     unfolding removeChanges
     remove-keep d t x h = append-keep reach f n L (unnameChanges d) _ (unname-keep d h) (clear-keep reach f n L t x)
 

@@ -51,7 +51,7 @@ closedView F C = record { tree = record { file = tab FILE F; shown = quickShown 
 
 unfoldable pub filesSound : (F C : List ℕ) → Bool
 filesSound F C =
-    every (eqb (length F) (SLOTS * FILE) ∷ eqb (length C) (SLOTS * BLOCK) ∷ isDirectory (closedView F C .tree) (slot 0) ∷ all (slotSound (closedView F C)) 0 SLOTS ∷ [])
+    every (eqb (length F) (SLOTS * FILE) ∷ eqb (length C) (SLOTS * BLOCK) ∷ isDirectory (closedView F C .tree .file) (slot 0) ∷ all (slotSound (closedView F C)) 0 SLOTS ∷ [])
 
 unfoldable pub restSound : Store → Bool
 restSound s =
@@ -138,7 +138,7 @@ module _ (t : Tree) (E P D : ℕ → ℕ → ℕ) where
 
   kind-opened : (s : ℕ) → kindSound closed s ≡ true → kindSound opened s ≡ true
   unfolding kindSound closed opened
-  kind-opened s h = go (isDirectory t (slot s)) (isPlain t (slot s)) h
+  kind-opened s h = go (isDirectory (t .file) (slot s)) (isPlain (t .file) (slot s)) h
     where
       go : (d p : Bool) → cond d (directorySound t s) (cond p (plainSound closed s) (allZero (t .shown s))) ≡ true
           → cond d (directorySound t s) (cond p (plainSound opened s) (allZero (t .shown s))) ≡ true

@@ -14,7 +14,7 @@ use Rattle.rules.specs.Layout.{FILE, OPEN, KIND, LABEL, LENGTH, PLAIN, NONE, MO
 use Rattle.rules.specs.Rights.{reads, transition, moved}
 use Rattle.rules.specs.Store.{Store, view, tab}
 use Rattle.rules.specs.Calls.{Call}
-use Rattle.rules.specs.Checks.{inUse, procInUse, slotFree}
+use Rattle.rules.specs.Checks.{inUse, slotFree}
 use Rattle.rules.specs.Sound.{sound}
 use Rattle.rules.specs.Step.{Reply, step, answers, final}
 use Rattle.secrecy.specs.Claim.{DifferInBytes, Reached, held, given, mayRead, OpenForReading, Supposed, freed, Claimed, Secrecy}
@@ -46,7 +46,7 @@ unread-of Q s f h none e r q = go (decLt e 32)
         no-mode (rw z at r)
 
 labels-of : (Q : List ℕ) (s : Store) → sound Q s ≡ true → Labels (Reached Q s) (s .processes)
-unfolding procInUse every
+unfolding inUse every
 labels-of Q s h = record { room = processes-size Q s h; used = λ p lt u. held _ (record { process = record { 0 = p }; used = simp (lt-ltb p 8 lt, eq-eqb _ _ u); has = refl }) }
 
 start : (Q : List ℕ) (f : ℕ) (s s′ : Store) → Supposed Q f s s′ → Related (Reached Q s) f (tab FILE (s .files) f LENGTH) (tab FILE (s .files) f LABEL) s s′

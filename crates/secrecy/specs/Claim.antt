@@ -38,8 +38,8 @@ pub record DifferInBytes (f : ℕ) (s s′ : Store) : Type 0 where
 -- a process in use has label l
 pub record Held (s : Store) (l : ℕ) : Type 0 where
   pub process : Pid
-  pub used : inUse (view s) process ≡ true
-  pub has : subjectOf (view s) process .label ≡ l
+  pub used : inUse (view s .proc) process ≡ true
+  pub has : subjectOf (view s .proc) process .label ≡ l
 
 -- "A label is held or can be reached if a process in use has it, or if the transition from such a label by any program label gives it":
 -- from a label that is held or can be reached, so any number of transitions on

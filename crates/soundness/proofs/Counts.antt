@@ -34,7 +34,7 @@ module _ (t : Tree) (s : ℕ) (some : s ≡ 0 → ⊥) where
 
   slot-keeps : (d : ℕ) (L : List ℕ) → length (slotCounted t d L) ≡ length L
   unfolding slotCounted
-  slot-keeps d L = by (isDirectory t (slot d))
+  slot-keeps d L = by (isDirectory (t .file) (slot d))
     where
       by : (b : Bool) → length (cond b (fold (entryCounted (t .shown d)) 0 DIRENTS L) L) ≡ length L
       by true = counts-keep (entryCounted (t .shown d)) (direntSlot (t .shown d)) (entry-does (t .shown d)) (linksAt (t .shown d) s) s some (entry-tells (t .shown d)) 0 DIRENTS L
@@ -42,7 +42,7 @@ module _ (t : Tree) (s : ℕ) (some : s ≡ 0 → ⊥) where
 
   slot-adds : (d : ℕ) (L : List ℕ) → s < length L → getD L s 0 + 16 < 2 ^ 32 → getD (slotCounted t d L) s 0 ≡ linksFrom t s d + getD L s 0
   unfolding slotCounted linksFrom
-  slot-adds d L h b = by (isDirectory t (slot d))
+  slot-adds d L h b = by (isDirectory (t .file) (slot d))
     where
       by : (q : Bool) → getD (cond q (fold (entryCounted (t .shown d)) 0 DIRENTS L) L) s 0 ≡ cond q (count (linksAt (t .shown d) s) 0 DIRENTS) 0 + getD L s 0
       by true = counts (entryCounted (t .shown d)) (direntSlot (t .shown d)) (entry-does (t .shown d)) (linksAt (t .shown d) s) s some (entry-tells (t .shown d)) DIRENTS L h b
@@ -50,7 +50,7 @@ module _ (t : Tree) (s : ℕ) (some : s ≡ 0 → ⊥) where
 
   slot-small : (d : ℕ) → linksFrom t s d ≤ 16
   unfolding linksFrom
-  slot-small d = by (isDirectory t (slot d))
+  slot-small d = by (isDirectory (t .file) (slot d))
     where
       by : (q : Bool) → cond q (count (linksAt (t .shown d) s) 0 DIRENTS) 0 ≤ 16
       by true = count-le (linksAt (t .shown d) s) 0 DIRENTS
@@ -118,7 +118,7 @@ module _ (s : ℕ) (some : s ≡ 0 → ⊥) where
 module _ (t : Tree) (s : ℕ) (some : s ≡ 0 → ⊥) where
   slot-claim-keeps : (d : ℕ) (P : List ℕ) → length (slotClaimed t d P) ≡ length P
   unfolding slotClaimed
-  slot-claim-keeps d P = by (isDirectory t (slot d))
+  slot-claim-keeps d P = by (isDirectory (t .file) (slot d))
     where
       by : (b : Bool) → length (cond b (fold (entryClaimed (t .shown d) d) 0 DIRENTS P) P) ≡ length P
       by true = length-fold (entryClaimed (t .shown d) d) (claim-keeps (t .shown d) d) 0 DIRENTS P
@@ -127,7 +127,7 @@ module _ (t : Tree) (s : ℕ) (some : s ≡ 0 → ⊥) where
   -- directory d claims s where it names s
   slot-claims : (d : ℕ) (P : List ℕ) → s < length P → getD (slotClaimed t d P) s 0 ≡ cond (isParent t s d) d (getD P s 0)
   unfolding slotClaimed isParent every
-  slot-claims d P h = by (isDirectory t (slot d)) (any (linksAt (t .shown d) s) 0 DIRENTS) (claims-from s some (t .shown d) d (DIRENTS - 0) 0 DIRENTS refl P h)
+  slot-claims d P h = by (isDirectory (t .file) (slot d)) (any (linksAt (t .shown d) s) 0 DIRENTS) (claims-from s some (t .shown d) d (DIRENTS - 0) 0 DIRENTS refl P h)
     where
       by : (b a : Bool) → getD (fold (entryClaimed (t .shown d) d) 0 DIRENTS P) s 0 ≡ cond a d (getD P s 0)
           → getD (cond b (fold (entryClaimed (t .shown d) d) 0 DIRENTS P) P) s 0 ≡ cond (cond b (cond a true false) false) d (getD P s 0)

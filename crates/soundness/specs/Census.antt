@@ -23,14 +23,14 @@ unfoldable pub entryCounted : List ℕ → ℕ → List ℕ → List ℕ
 entryCounted D i L = counted (direntSlot D i) L
 
 unfoldable pub slotCounted : Tree → ℕ → List ℕ → List ℕ
-slotCounted t d L = cond (isDirectory t (slot d)) (fold (entryCounted (t .shown d)) 0 DIRENTS L) L
+slotCounted t d L = cond (isDirectory (t .file) (slot d)) (fold (entryCounted (t .shown d)) 0 DIRENTS L) L
 
 -- directory d claims the slot that its entry i names
 unfoldable pub entryClaimed : List ℕ → ℕ → ℕ → List ℕ → List ℕ
 entryClaimed D d i P = claimed (direntSlot D i) d P
 
 unfoldable pub slotClaimed : Tree → ℕ → List ℕ → List ℕ
-slotClaimed t d P = cond (isDirectory t (slot d)) (fold (entryClaimed (t .shown d) d) 0 DIRENTS P) P
+slotClaimed t d P = cond (isDirectory (t .file) (slot d)) (fold (entryClaimed (t .shown d) d) 0 DIRENTS P) P
 
 -- Slots 0 to 64: the way up from a directory that nothing names leads to 64.
 abbrev pub noLinks : List ℕ

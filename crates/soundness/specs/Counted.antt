@@ -29,8 +29,8 @@ directorySoundBy t P d =
 
 unfoldable pub kindSoundBy : View → List ℕ → ℕ → Bool
 kindSoundBy v P s =
-    cond (isDirectory (v .tree) (slot s)) (directorySoundBy (v .tree) P s)
-    (cond (isPlain (v .tree) (slot s)) (plainSound v s) (allZero (v .tree .shown s)))
+    cond (isDirectory (v .tree .file) (slot s)) (directorySoundBy (v .tree) P s)
+    (cond (isPlain (v .tree .file) (slot s)) (plainSound v s) (allZero (v .tree .shown s)))
 
 unfoldable pub slotSoundBy : View → List ℕ → List ℕ → ℕ → Bool
 slotSoundBy v L P s = every (recordSound (v .tree) s ∷ linksSoundBy (v .tree) L s ∷ kindSoundBy v P s ∷ [])
