@@ -3,14 +3,16 @@ ghost use mathlib.Core.Path.{_≡_};
 ghost use mathlib.Core.List.{[]};
 ghost use Prim.Native.Nat.{_+_, _-_, _<_, min};
 ghost use lib.ListN.{length, drop};
-ghost use Rattle.rules.specs.Store.{tree};
-ghost use Rattle.rules.specs.Rights.{SEARCH};
+ghost use Rattle.rules.specs.Layout.{FILE};
+ghost use Rattle.rules.specs.Store.{tab, tree};
 ghost use Rattle.rules.specs.Paths.{firstNames, names, parentNames};
 ghost use Rattle.rules.specs.Directories.{direntOf};
-ghost use Rattle.rules.specs.Walk.{bitsAllow, labelAllows, reached, entered, found, lookup, walk, ROOT, walkPath, enterParent, onReached, walkParent};
+ghost use Rattle.rules.specs.Walk.{reached, entered, found, lookup, walk, ROOT, walkPath, enterParent, onReached, walkParent};
 use crate::paths::name_at;
 use crate::paths::name_count;
 use crate::paths::name_end;
+use crate::rights::bits_allow;
+use crate::rights::label_allows;
 use rules::decision::Location;
 use rules::decision::Walk;
 use rules::ids::Slot;
@@ -19,18 +21,6 @@ use rules::request::Subject;
 use rules::rights::Rights;
 use tables::layout::DIRENTS;
 use tables::layout::NAMES;
-
-fn searches(files: &[u32], who: Subject, d: Slot) -> bool
-    ensures { λ r. ⌜ r ≡ bitsAllow (tree (now (files .entry)) []) who d SEARCH ⌝ }
-{
-    crate::rights::bits_allow(files, who, d, Rights::SEARCH)
-}
-
-fn label_searches(files: &[u32], policy: &[u8], who: Subject, d: Slot) -> bool
-    ensures { λ r. ⌜ r ≡ labelAllows (tree (now (files .entry)) []) (now (policy .entry)) who d SEARCH ⌝ }
-{
-    crate::rights::label_allows(files, policy, who, d, Rights::SEARCH)
-}
 
 // Entry i of directory d, whose bytes are `dir`.
 fn enter_dirent(dir: &[u8], d: Slot, k: u32, i: u32) -> Walk
@@ -80,10 +70,10 @@ fn look_up(
     if !tables::files::is_directory(files, d) {
         return Walk::Stopped(Refusal::NotDirectory, k);
     }
-    if !searches(files, who, d) {
+    if !bits_allow(files, who, d, Rights::SEARCH) {
         return Walk::Stopped(Refusal::BitsForbid, k);
     }
-    if !label_searches(files, policy, who, d) {
+    if !label_allows(files, policy, who, d, Rights::SEARCH) {
         return Walk::Stopped(Refusal::LabelForbids, k);
     }
     find(files, contents, d, name, k)
@@ -147,32 +137,31 @@ pub fn walk_path(files: &[u32], contents: &[u8], policy: &[u8], who: Subject, pa
 
 fn enter_parent(
     files: &[u32],
-    contents: &[u8],
     policy: &[u8],
     who: Subject,
     k: u32,
     at: Location,
 ) -> Walk
-    ensures { λ r. ⌜ r ≡ enterParent (tree (now (files .entry)) (now (contents .entry))) (now (policy .entry)) who k at ⌝ }
+    ensures { λ r. ⌜ r ≡ enterParent (tab FILE (now (files .entry))) (now (policy .entry)) who k at ⌝ }
 {
     let d = at.slot;
     if !tables::files::is_directory(files, d) {
         return Walk::Stopped(Refusal::NotDirectory, k);
     }
-    if !searches(files, who, d) {
+    if !bits_allow(files, who, d, Rights::SEARCH) {
         return Walk::Stopped(Refusal::BitsForbid, k);
     }
-    if !label_searches(files, policy, who, d) {
+    if !label_allows(files, policy, who, d, Rights::SEARCH) {
         return Walk::Stopped(Refusal::LabelForbids, k);
     }
     Walk::Reached(at)
 }
 
-fn on_parent(files: &[u32], contents: &[u8], policy: &[u8], who: Subject, k: u32, w: Walk) -> Walk
-    ensures { λ r. ⌜ r ≡ onReached w (enterParent (tree (now (files .entry)) (now (contents .entry))) (now (policy .entry)) who k) ⌝ }
+fn on_parent(files: &[u32], policy: &[u8], who: Subject, k: u32, w: Walk) -> Walk
+    ensures { λ r. ⌜ r ≡ onReached w (enterParent (tab FILE (now (files .entry))) (now (policy .entry)) who k) ⌝ }
 {
     match w {
-        Walk::Reached(at) => enter_parent(files, contents, policy, who, k, at),
+        Walk::Reached(at) => enter_parent(files, policy, who, k, at),
         Walk::Stopped(r, n) => Walk::Stopped(r, n),
     }
 }
@@ -204,8 +193,8 @@ fn walk_before(
 fn one_before(n: u8) -> u8
     ensures { λ r. ⌜ r ≡ min n 9 - 1 ⌝ }
 {
-    if 9 < n {
-        return 8;
+    if NAMES + 1 < n {
+        return NAMES;
     }
     if 0 < n {
         return n - 1;
@@ -219,5 +208,5 @@ pub fn walk_parent(files: &[u32], contents: &[u8], policy: &[u8], who: Subject, 
 {
     let n = name_count(path);
     let w = walk_before(files, contents, policy, who, path, n);
-    on_parent(files, contents, policy, who, n as u32, w)
+    on_parent(files, policy, who, n as u32, w)
 }

@@ -9,13 +9,13 @@ use native.Mathlib.Numerals.{add-one}
 use native.Mathlib.Omega.{arith}
 use Rattle.rules.specs.Scan.{turns, fold, all, any, count, total, first, iterate, repeat}
 
-fold-step : {A : Type 0} (f : ℕ → A → A) (i n : ℕ) (z : A) → i < n → fold f i n z ≡ f i (fold f (i + 1) n z)
+pub fold-step : {A : Type 0} (f : ℕ → A → A) (i n : ℕ) (z : A) → i < n → fold f i n z ≡ f i (fold f (i + 1) n z)
 unfolding fold turns
 fold-step f i n z h =
     let e : n - i ≡ suc (n - (i + 1)) = omega arith in
     rw e (rw add-one refl)
 
-fold-done : {A : Type 0} (f : ℕ → A → A) (i n : ℕ) (z : A) → n ≤ i → fold f i n z ≡ z
+pub fold-done : {A : Type 0} (f : ℕ → A → A) (i n : ℕ) (z : A) → n ≤ i → fold f i n z ≡ z
 unfolding fold turns
 fold-done f i n z h =
     let e : n - i ≡ 0 = omega arith in

@@ -26,8 +26,11 @@ use Rattle.rules.specs.declared.decision.Decision.the-variants.{Refused,
 
 -- ---- 10. Close (4)
 
+abbrev pub closed : (file opened desc : Table) → Pid → Fd → Decision
+closed file opened desc p i = granted 0 (effect.Closed i (releasing file opened desc p i))
+
 unfoldable pub decideClose : (file opened desc : Table) → Pid → Fd → Decision
-decideClose file opened desc p i = need (held desc p i) NotHeld (granted 0 (effect.Closed i (releasing file opened desc p i)))
+decideClose file opened desc p i = need (held desc p i) NotHeld (closed file opened desc p i)
 
 -- ---- 11. Read (4, 5): "as many bytes as it holds and the file has from the position; the position moves by that count"
 
@@ -76,21 +79,30 @@ decideWrite file opened desc p i n = need (held desc p i) NotHeld (writeOpen fil
 
 -- ---- 13. Seek (4): "position 0 to 512; value is the position"
 
+abbrev pub sought : Table → Pid → Fd → ℕ → Decision
+sought desc p i n = granted n (effect.Moved (ofdHeld desc p i) n)
+
 unfoldable pub decideSeek : Table → Pid → Fd → ℕ → Decision
-decideSeek desc p i n = need (held desc p i) NotHeld (granted n (effect.Moved (ofdHeld desc p i) n))
+decideSeek desc p i n = need (held desc p i) NotHeld (sought desc p i n)
 
 -- ---- 14. Duplicate (4, 13): "a descriptor for the same entry"; the value is that descriptor
 
+abbrev pub duplicated : Table → (e fd : ℕ) → Decision
+duplicated opened e i = granted i (effect.Duplicated (record { 0 = i }) e (up (opened e REFERENCES)))
+
 unfoldable pub duplicateTo : Table → (e fd : ℕ) → Decision
-duplicateTo opened e i = need (ltb i DESCRIPTORS) NoRoom (granted i (effect.Duplicated (record { 0 = i }) e (up (opened e REFERENCES))))
+duplicateTo opened e i = need (ltb i DESCRIPTORS) NoRoom (duplicated opened e i)
 
 unfoldable pub decideDuplicate : (opened desc : Table) → Pid → Fd → Decision
 decideDuplicate opened desc p i = need (held desc p i) NotHeld (duplicateTo opened (ofdHeld desc p i) (freeFd desc p))
 
 -- ---- 15. Fork (13): "same user, label and entries, position shared; value is the child"
 
+abbrev pub forked : Subject → ℕ → Decision
+forked who q = granted q (effect.Forked (record { 0 = q }) (who .user) (who .label))
+
 unfoldable pub forkTo : Subject → ℕ → Decision
-forkTo who q = need (ltb q PROCESSES) NoRoom (granted q (effect.Forked (record { 0 = q }) (who .user) (who .label)))
+forkTo who q = need (ltb q PROCESSES) NoRoom (forked who q)
 
 abbrev pub decideFork : Table → Pid → Decision
 decideFork proc p = forkTo (subjectOf proc p) (freePid proc)

@@ -57,22 +57,25 @@ opening file s m cut i e =
     cond (every (cut ∷ ltb 0 (file (s .0) LENGTH) ∷ [])) (effect.Truncated (newOpen s m i e) (truncated file s))
     (effect.Opened (newOpen s m i e))
 
-unfoldable pub openRoom : Table → Slot → OpenMode → (cut : Bool) → (fd e : ℕ) → Decision
-openRoom file s m cut i e = need (ltb i DESCRIPTORS) NoRoom (need (ltb e OPENS) NoRoom (granted i (opening file s m cut i e)))
+abbrev pub opened : Table → Slot → OpenMode → (cut : Bool) → (fd e : ℕ) → Decision
+opened file s m cut i e = granted i (opening file s m cut i e)
 
-unfoldable pub openFile : List ℕ → (file opened desc : Table) → Pid → Subject → OpenMode → (cut : Bool) → Slot → Decision
-openFile Q file opened desc p who m cut s =
+unfoldable pub openRoom : Table → Slot → OpenMode → (cut : Bool) → (fd e : ℕ) → Decision
+openRoom file s m cut i e = need (ltb i DESCRIPTORS) NoRoom (need (ltb e OPENS) NoRoom (opened file s m cut i e))
+
+unfoldable pub openFile : List ℕ → (file opens desc : Table) → Pid → Subject → OpenMode → (cut : Bool) → Slot → Decision
+openFile Q file opens desc p who m cut s =
     need (isPlain file s) WrongKind
     (allowed file Q who s (modeRights m)
-    (openRoom file s m cut (freeFd desc p) (freeOfd opened)))
+    (openRoom file s m cut (freeFd desc p) (freeOfd opens)))
 
-unfoldable pub openMode : List ℕ → (file opened desc : Table) → Pid → Subject → ModeNumber → Slot → Decision
-openMode Q file opened desc p who (Keep m) s = openFile Q file opened desc p who m false s
-openMode Q file opened desc p who (Truncate m) s = openFile Q file opened desc p who m true s
-openMode Q file opened desc p who OutOfRange s = Refused Malformed 0
+unfoldable pub openMode : List ℕ → (file opens desc : Table) → Pid → Subject → ModeNumber → Slot → Decision
+openMode Q file opens desc p who (Keep m) s = openFile Q file opens desc p who m false s
+openMode Q file opens desc p who (Truncate m) s = openFile Q file opens desc p who m true s
+openMode Q file opens desc p who OutOfRange s = Refused Malformed 0
 
-unfoldable pub decideOpen : List ℕ → Tree → (opened desc : Table) → Pid → Subject → ℕ → List ℕ → Decision
-decideOpen Q t opened desc p who n path = after (walkPath t Q who path) (λ at. openMode Q (t .file) opened desc p who (modeOf n) (at .slot))
+unfoldable pub decideOpen : List ℕ → Tree → (opens desc : Table) → Pid → Subject → ℕ → List ℕ → Decision
+decideOpen Q t opens desc p who n path = after (walkPath t Q who path) (λ at. openMode Q (t .file) opens desc p who (modeOf n) (at .slot))
 
 -- ---- 2. Create, 3. Make directory: "Walk to the parent with its three checks; name there (11); write on the parent (9, 10); free slot and
 -- place (13). Owner is the caller's user, bits as given, label the parent's. Value: the slot"
@@ -80,9 +83,11 @@ decideOpen Q t opened desc p who n path = after (walkPath t Q who path) (λ at. 
 abbrev pub newRecord : Table → Subject → (kind bits : ℕ) → (d s : Slot) → Record
 newRecord file who kind bits d s = record { kind = kind; owner = who .user; bits = bits; label = file (d .0) LABEL; length = 0; links = 1; version = file (s .0) VERSION }
 
+abbrev pub created : Table → Subject → (kind bits : ℕ) → Slot → (s i : ℕ) → Decision
+created file who kind bits d s i = granted s (effect.Created (gains file d i) (slot s) (newRecord file who kind bits d (slot s)))
+
 unfoldable pub createRoom : Table → Subject → (kind bits : ℕ) → Slot → (s i : ℕ) → Decision
-createRoom file who kind bits d s i =
-    need (ltb s SLOTS) NoRoom (need (ltb i DIRENTS) NoRoom (granted s (effect.Created (gains file d i) (slot s) (newRecord file who kind bits d (slot s)))))
+createRoom file who kind bits d s i = need (ltb s SLOTS) NoRoom (need (ltb i DIRENTS) NoRoom (created file who kind bits d s i))
 
 unfoldable pub createIn : List ℕ → Tree → Subject → (kind bits : ℕ) → Name → Slot → Decision
 createIn Q t who kind bits name d =
@@ -95,31 +100,42 @@ decideCreate Q t who kind bits path = after (walkParent t Q who path) (λ at. cr
 
 -- ---- 4. Unlink: "walk; plain (8); write on the parent (9, 10)"
 
-unfoldable pub unlinkAt : List ℕ → (file opened : Table) → Subject → Location → Decision
-unlinkAt Q file opened who at =
+abbrev pub unlinked : (file opens : Table) → Location → Decision
+unlinked file opens at = granted 0 (effect.Unlinked (loses file (at .dir) (at .dirent)) (unnaming file opens (at .slot)))
+
+unfoldable pub unlinkAt : List ℕ → (file opens : Table) → Subject → Location → Decision
+unlinkAt Q file opens who at =
     need (isPlain file (at .slot)) WrongKind
     (allowed file Q who (at .dir) WRITE
-    (granted 0 (effect.Unlinked (loses file (at .dir) (at .dirent)) (unnaming file opened (at .slot)))))
+    (unlinked file opens at))
 
-unfoldable pub decideUnlink : List ℕ → Tree → (opened : Table) → Subject → List ℕ → Decision
-decideUnlink Q t opened who path = after (walkPath t Q who path) (unlinkAt Q (t .file) opened who)
+unfoldable pub decideUnlink : List ℕ → Tree → (opens : Table) → Subject → List ℕ → Decision
+decideUnlink Q t opens who path = after (walkPath t Q who path) (unlinkAt Q (t .file) opens who)
 
 -- ---- 5. Remove directory: "walk; directory (8); write on the parent (9, 10); empty (12)"
+
+abbrev pub removed : Table → Location → Decision
+removed file at = granted 0 (effect.Removed (loses file (at .dir) (at .dirent)) (at .slot) (freed file (at .slot)))
+
+abbrev pub removeEmpty : Table → Location → Decision
+removeEmpty file at = need (eqb (file (at .slot .0) LENGTH) 0) NotEmpty (removed file at)
 
 unfoldable pub removeAt : List ℕ → Table → Subject → Location → Decision
 removeAt Q file who at =
     need (isDirectory file (at .slot)) WrongKind
     (allowed file Q who (at .dir) WRITE
-    (need (eqb (file (at .slot .0) LENGTH) 0) NotEmpty
-    (granted 0 (effect.Removed (loses file (at .dir) (at .dirent)) (at .slot) (freed file (at .slot))))))
+    (removeEmpty file at))
 
 unfoldable pub decideRemove : List ℕ → Tree → Subject → List ℕ → Decision
 decideRemove Q t who path = after (walkPath t Q who path) (removeAt Q (t .file) who)
 
 -- ---- 6. Link: "walk the old; plain (8); the new as in create, but only a place is needed. Value 0"
 
+abbrev pub linked : Table → (old d : Slot) → ℕ → Decision
+linked file old d i = granted 0 (effect.Linked (gains file d i) old (up (file (old .0) LINKS)))
+
 unfoldable pub linkRoom : Table → (old d : Slot) → ℕ → Decision
-linkRoom file old d i = need (ltb i DIRENTS) NoRoom (granted 0 (effect.Linked (gains file d i) old (up (file (old .0) LINKS))))
+linkRoom file old d i = need (ltb i DIRENTS) NoRoom (linked file old d i)
 
 unfoldable pub linkIn : List ℕ → Tree → Subject → Slot → Name → Slot → Decision
 linkIn Q t who old name d =
@@ -127,10 +143,11 @@ linkIn Q t who old name d =
     (allowed (t .file) Q who d WRITE
     (linkRoom (t .file) old d (freeDirent (t .shown (d .0)))))
 
+abbrev pub linkNew : List ℕ → Tree → Subject → List ℕ → Slot → Decision
+linkNew Q t who new old = after (walkParent t Q who new) (λ at. linkIn Q t who old (lastName (names new)) (at .slot))
+
 unfoldable pub linkTo : List ℕ → Tree → Subject → List ℕ → Slot → Decision
-linkTo Q t who new old =
-    need (isPlain (t .file) old) WrongKind
-    (after (walkParent t Q who new) (λ at. linkIn Q t who old (lastName (names new)) (at .slot)))
+linkTo Q t who new old = need (isPlain (t .file) old) WrongKind (linkNew Q t who new old)
 
 unfoldable pub decideLink : List ℕ → Tree → Subject → (old new : List ℕ) → Decision
 decideLink Q t who old new = after (walkPath t Q who old) (λ at. linkTo Q t who new (at .slot))
@@ -162,19 +179,22 @@ decideChangeBits Q t who bits path = after (walkPath t Q who path) (λ at. chang
 
 -- ---- 9. Stat: "walk. Kind, owner, bits, label, length, names, stamp"
 
-abbrev pub describe : Table → Slot → Decision
-describe file s = Granted 0 (output.Fields (recordOf file s)) effect.Nothing
+abbrev pub described : Table → Slot → Decision
+described file s = Granted 0 (output.Fields (recordOf file s)) effect.Nothing
 
 unfoldable pub decideStat : List ℕ → Tree → Subject → List ℕ → Decision
-decideStat Q t who path = after (walkPath t Q who path) (λ at. describe (t .file) (at .slot))
+decideStat Q t who path = after (walkPath t Q who path) (λ at. described (t .file) (at .slot))
 
 -- ---- 17. Execute: "walk; plain (8); execute (9, 10). The label moves by the transition, if any"
+
+abbrev pub executed : List ℕ → Table → Subject → Slot → Decision
+executed Q file who s = granted 0 (effect.Relabelled (moved Q (who .label) (file (s .0) LABEL)))
 
 unfoldable pub executeAt : List ℕ → Table → Subject → Slot → Decision
 executeAt Q file who s =
     need (isPlain file s) WrongKind
     (allowed file Q who s EXECUTE
-    (granted 0 (effect.Relabelled (moved Q (who .label) (file (s .0) LABEL)))))
+    (executed Q file who s))
 
 unfoldable pub decideExecute : List ℕ → Tree → Subject → List ℕ → Decision
 decideExecute Q t who path = after (walkPath t Q who path) (λ at. executeAt Q (t .file) who (at .slot))

@@ -13,7 +13,7 @@ use Rattle.rules.specs.Scan.{fold, any, count, total, first}
 use Rattle.rules.specs.Store.{up}
 use Rattle.rules.proofs.Scans.{any-yes, any-no, any-done, count-yes, count-no, count-done, total-next, total-done, first-yes, first-no, first-done}
 use Rattle.soundness.specs.Census.{counted}
-use Rattle.soundness.proofs.Folds.{fold-in, fold-out}
+use Rattle.rules.proofs.Scans.{fold-step, fold-done}
 
 -- a counter below its largest value goes up by one
 up-one : (n : ℕ) → n + 1 < 2 ^ 32 → up n ≡ n + 1
@@ -73,10 +73,10 @@ first-le p n = first-le-from p (n - 0) 0 n refl (omega arith)
 -- a pass of steps that keep the length keeps it
 module _ (f : ℕ → List ℕ → List ℕ) (keeps : (i : ℕ) (L : List ℕ) → length (f i L) ≡ length L) where
   length-from : (k i n : ℕ) → n - i ≡ k → (L : List ℕ) → length (fold f i n L) ≡ length L
-  length-from zero i n e L = let h : n ≤ i = omega arith in rw (fold-out f n L i h)
+  length-from zero i n e L = let h : n ≤ i = omega arith in rw (fold-done f i n L h)
   length-from (suc k) i n e L =
       let h : i < n = omega arith in
-      rw (fold-in f n L i h, keeps) (length-from k (i + 1) n (omega arith) L)
+      rw (fold-step f i n L h, keeps) (length-from k (i + 1) n (omega arith) L)
 
   pub length-fold : (i n : ℕ) (L : List ℕ) → length (fold f i n L) ≡ length L
   length-fold i n L = length-from (n - i) i n refl L
@@ -112,8 +112,8 @@ module _ (f : ℕ → List ℕ → List ℕ) (key : ℕ → ℕ) (does : (i : �
       let a : n ≤ i = omega arith in
       let c : 0 ≡ 0 + count p i n = count-done p i n 0 refl a in
       let d : count p i n ≡ 0 = omega arith in
-      rw (fold-out f n L i a, d) (omega arith)
-  counts-from (suc k) i n e L h b = rw (fold-in f n L i inside, does) (by (eqb (key i) s) refl (counts-from k (i + 1) n (omega arith) L h (omega arith)) (count-le p (i + 1) n))
+      rw (fold-done f i n L a, d) (omega arith)
+  counts-from (suc k) i n e L h b = rw (fold-step f i n L inside, does) (by (eqb (key i) s) refl (counts-from k (i + 1) n (omega arith) L h (omega arith)) (count-le p (i + 1) n))
     where
       inside : i < n
       inside = omega arith
@@ -149,7 +149,7 @@ module _ (g : ℕ → List ℕ → List ℕ) (h : ℕ → ℕ) (s : ℕ) (keeps 
       let o : n ≤ i = omega arith in
       let c : 0 ≡ 0 + total h i n = total-done (λ j. true) i n h 0 refl o in
       let d : total h i n ≡ 0 = omega arith in
-      rw (fold-out g n L i o, d) (omega arith)
+      rw (fold-done g i n L o, d) (omega arith)
   totals-from (suc k) i n e L a b =
       let inside : i < n = omega arith in
       let ih : getD (fold g (i + 1) n L) s 0 ≡ total h (i + 1) n + getD L s 0 = totals-from k (i + 1) n (omega arith) L a (omega arith) in
@@ -157,7 +157,7 @@ module _ (g : ℕ → List ℕ → List ℕ) (h : ℕ → ℕ) (s : ℕ) (keeps 
       let long : s < length (fold g (i + 1) n L) = rw (length-fold g keeps (i + 1) n L) a in
       let c : 0 + h i + total h (i + 1) n ≡ 0 + total h i n = total-next (λ j. true) i n h 0 refl inside refl in
       let one : getD (g i (fold g (i + 1) n L)) s 0 ≡ h i + getD (fold g (i + 1) n L) s 0 = adds i (fold g (i + 1) n L) long (omega arith) in
-      rw (fold-in g n L i inside) (omega arith)
+      rw (fold-step g i n L inside) (omega arith)
 
   pub totals : (n : ℕ) (L : List ℕ) → s < length L → getD L s 0 + 16 * n < 2 ^ 32 → getD (fold g 0 n L) s 0 ≡ total h 0 n + getD L s 0
   totals n L a b = totals-from (n - 0) 0 n refl L a (omega arith)

@@ -18,7 +18,7 @@ use Rattle.rules.specs.Walk.{isDirectory}
 use Rattle.rules.specs.Sound.{linksAt, linksFrom, linksTo, isParent, parentOf, holdsAt, holdersIn, holders}
 use Rattle.rules.proofs.Scans.{any-yes, any-no, any-done, first-yes, first-no, first-done}
 use Rattle.soundness.specs.Census.{counted, claimed, entryCounted, slotCounted, entryClaimed, slotClaimed, descCounted, procCounted, noLinks, noParents, noHolders, links, parents, held}
-use Rattle.soundness.proofs.Folds.{fold-in, fold-out}
+use Rattle.rules.proofs.Scans.{fold-step, fold-done}
 use Rattle.soundness.proofs.Counting.{count-le, first-le, length-fold, counts, counts-keep, totals}
 
 -- ---- links
@@ -94,8 +94,8 @@ module _ (s : ℕ) (some : s ≡ 0 → ⊥) where
   claims-from D d zero i n e P h =
       let a : n ≤ i = omega arith in
       let c : false ≡ any (linksAt D s) i n = any-done (linksAt D s) i n refl a in
-      rw (fold-out (entryClaimed D d) n P i a, ← c)
-  claims-from D d (suc k) i n e P h = rw (fold-in (entryClaimed D d) n P i inside) (by (eqb (direntSlot D i) s) refl (claims-from D d k (i + 1) n (omega arith) P h))
+      rw (fold-done (entryClaimed D d) i n P a, ← c)
+  claims-from D d (suc k) i n e P h = rw (fold-step (entryClaimed D d) i n P inside) (by (eqb (direntSlot D i) s) refl (claims-from D d k (i + 1) n (omega arith) P h))
     where
       inside : i < n
       inside = omega arith
@@ -138,9 +138,9 @@ module _ (t : Tree) (s : ℕ) (some : s ≡ 0 → ⊥) where
   parents-from : (k i n : ℕ) → n - i ≡ k → (P : List ℕ) → s < length P → getD P s 0 ≡ n → getD (fold (slotClaimed t) i n P) s 0 ≡ first (isParent t s) i n
   parents-from zero i n e P h z =
       let a : n ≤ i = omega arith in
-      rw (fold-out (slotClaimed t) n P i a) (z ∙ first-done (isParent t s) i n refl a)
+      rw (fold-done (slotClaimed t) i n P a) (z ∙ first-done (isParent t s) i n refl a)
   parents-from (suc k) i n e P h z =
-      rw (fold-in (slotClaimed t) n P i inside) (slot-claims i M long ∙ by (isParent t s i) refl (parents-from k (i + 1) n (omega arith) P h z))
+      rw (fold-step (slotClaimed t) i n P inside) (slot-claims i M long ∙ by (isParent t s i) refl (parents-from k (i + 1) n (omega arith) P h z))
     where
       inside : i < n
       inside = omega arith

@@ -2,8 +2,7 @@
 ghost use mathlib.Core.Path.{_≡_};
 ghost use lib.Dec.{eqb};
 ghost use Rattle.rules.specs.Layout.{FILE, KIND, OWNER, BITS, LABEL, LENGTH, LINKS, VERSION, FREE, PLAIN, DIRECTORY};
-ghost use Rattle.rules.specs.Store.{tab, tree, block, hidden, shownOf, recordOf};
-ghost use mathlib.Core.List.{[]};
+ghost use Rattle.rules.specs.Store.{tab, block, hidden, shownOf, recordOf};
 use crate::layout::BITS;
 use crate::layout::BLOCK;
 use crate::layout::DIRECTORY;
@@ -65,7 +64,7 @@ pub fn version(files: &[u32], s: Slot) -> u32
 }
 
 pub fn record(files: &[u32], s: Slot) -> Record
-    ensures { λ r. ⌜ r ≡ recordOf (tree (now (files .entry)) []) s ⌝ }
+    ensures { λ r. ⌜ r ≡ recordOf (tab FILE (now (files .entry))) s ⌝ }
 {
     Record {
         kind: kind(files, s),

@@ -1,8 +1,7 @@
 // The processes, 8 records of 11 words: in use, user, label, 8 descriptors.
 ghost use mathlib.Core.Path.{_≡_};
-ghost use mathlib.Core.List.{[]};
 ghost use Rattle.rules.specs.Layout.{USED, USER, DOMAIN};
-ghost use Rattle.rules.specs.Store.{store, view, procOf, descOf, subjectOf};
+ghost use Rattle.rules.specs.Store.{procOf, descOf, subjectOf};
 use crate::layout::DESCRIPTORS;
 use crate::layout::DOMAIN;
 use crate::layout::OWN;
@@ -34,7 +33,7 @@ pub fn label(processes: &[u32], p: Pid) -> u32
 
 // Who asks.
 pub fn subject(processes: &[u32], p: Pid) -> Subject
-    ensures { λ r. ⌜ r ≡ subjectOf (view (store [] [] [] (now (processes .entry)))) p ⌝ }
+    ensures { λ r. ⌜ r ≡ subjectOf (procOf (now (processes .entry))) p ⌝ }
 {
     Subject {
         user: user(processes, p),

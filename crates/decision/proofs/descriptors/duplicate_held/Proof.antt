@@ -1,7 +1,0 @@
-use Rattle.rules.specs.Decide.{duplicateTo}
-use Rattle.decision.proofs.descriptors.duplicate_held.Statement.{statement}
-use Rattle.decision.proofs.descriptors.duplicate_held.Tie as tie
-
-pub duplicate-held-spec : {M : Type 1} → statement M
-unfolding duplicateTo
-duplicate-held-spec = tie.close (tie.spec (λ c κs. tt) (λ c κs. tt) (λ c κs. tt) (λ c. cc))

@@ -1,7 +1,0 @@
-use Rattle.rules.specs.DecidePaths.{listEntry}
-use Rattle.decision.proofs.files.list_ranked.Statement.{statement}
-use Rattle.decision.proofs.files.list_ranked.Tie as tie
-
-pub list-ranked-spec : {M : Type 1} → statement M
-unfolding listEntry
-list-ranked-spec = tie.close (tie.spec (λ c κs. tt) (λ c κs. tt) (λ c. cc))

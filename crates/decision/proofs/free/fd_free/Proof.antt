@@ -1,7 +1,0 @@
-use Rattle.rules.specs.Checks.{fdFree}
-use Rattle.decision.proofs.free.fd_free.Statement.{statement}
-use Rattle.decision.proofs.free.fd_free.Tie as tie
-
-pub fd-free-spec : {M : Type 1} → statement M
-unfolding fdFree
-fd-free-spec = tie.close (tie.spec (λ c κs. tt) (λ c. cc))

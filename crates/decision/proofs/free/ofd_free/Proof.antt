@@ -1,7 +1,0 @@
-use Rattle.rules.specs.Checks.{ofdFree}
-use Rattle.decision.proofs.free.ofd_free.Statement.{statement}
-use Rattle.decision.proofs.free.ofd_free.Tie as tie
-
-pub ofd-free-spec : {M : Type 1} → statement M
-unfolding ofdFree
-ofd-free-spec = tie.close (tie.spec (λ c κs. tt) (λ c. cc))

@@ -1,5 +1,0 @@
-use Rattle.decision.proofs.release.none_but.Statement.{statement}
-use Rattle.decision.proofs.release.none_but.Tie as tie
-
-pub none-but-spec : {M : Type 1} → statement M
-none-but-spec = tie.close (tie.spec (λ c κs. tt) (λ c. cc))

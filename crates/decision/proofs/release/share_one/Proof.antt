@@ -1,5 +1,0 @@
-use Rattle.decision.proofs.release.share_one.Statement.{statement}
-use Rattle.decision.proofs.release.share_one.Tie as tie
-
-pub share-one-spec : {M : Type 1} → statement M
-share-one-spec = tie.close (tie.spec (λ c κs. tt) (λ c κs. tt) (λ c. cc))

@@ -1,0 +1,149 @@
+// 2. Create, 3. Make directory.
+ghost use mathlib.Core.Path.{_≡_};
+ghost use Rattle.rules.specs.Layout.{FILE};
+ghost use Rattle.rules.specs.Store.{tab, tree, shownOf};
+ghost use Rattle.rules.specs.Paths.{names, lastName};
+ghost use Rattle.rules.specs.Directories.{freeDirent};
+ghost use Rattle.rules.specs.Checks.{freeSlot};
+ghost use Rattle.rules.specs.DecidePaths.{newRecord, created, createRoom, createIn, decideCreate};
+use allocation::free::free_slot;
+use crate::dirs::free_in;
+use crate::dirs::gaining;
+use crate::dirs::is_absent;
+use resolution::paths::last_name;
+use resolution::rights::bits_allow;
+use resolution::rights::label_allows;
+use resolution::walk::walk_parent;
+use rules::decision::Decision;
+use rules::decision::Effect;
+use rules::decision::Output;
+use rules::decision::Record;
+use rules::decision::Walk;
+use rules::ids::Slot;
+use rules::refusal::Refusal;
+use rules::request::Subject;
+use rules::rights::Rights;
+use tables::layout::DIRENTS;
+use tables::layout::SLOTS;
+
+// A new file in slot s, named in directory d.
+fn new_record(files: &[u32], who: Subject, kind: u32, bits: u32, d: Slot, s: Slot) -> Record
+    ensures { λ r. ⌜ r ≡ newRecord (tab FILE (now (files .entry))) who kind bits d s ⌝ }
+{
+    Record {
+        kind: kind,
+        owner: who.user,
+        bits: bits,
+        label: tables::files::label(files, d),
+        length: 0,
+        links: 1,
+        version: tables::files::version(files, s),
+    }
+}
+
+fn created_at(files: &[u32], who: Subject, kind: u32, bits: u32, d: Slot, s: u32, i: u32) -> Decision
+    ensures { λ r. ⌜ r ≡ created (tab FILE (now (files .entry))) who kind bits d s i ⌝ }
+{
+    Decision::Granted(
+        s,
+        Output::Nothing,
+        Effect::Created(
+            gaining(files, d, i),
+            Slot(s),
+            new_record(files, who, kind, bits, d, Slot(s)),
+        ),
+    )
+}
+
+fn create_room(
+    files: &[u32],
+    who: Subject,
+    kind: u32,
+    bits: u32,
+    d: Slot,
+    s: u32,
+    i: u32,
+) -> Decision
+    ensures { λ r. ⌜ r ≡ createRoom (tab FILE (now (files .entry))) who kind bits d s i ⌝ }
+{
+    let free = s < SLOTS;
+    if !free {
+        return Decision::Refused(Refusal::NoRoom, 0);
+    }
+    let place = i < DIRENTS;
+    if !place {
+        return Decision::Refused(Refusal::NoRoom, 0);
+    }
+    created_at(files, who, kind, bits, d, s, i)
+}
+
+fn create_free(
+    files: &[u32],
+    contents: &[u8],
+    who: Subject,
+    kind: u32,
+    bits: u32,
+    d: Slot,
+) -> Decision
+    ensures { λ r. ⌜ r ≡ createRoom (tab FILE (now (files .entry))) who kind bits d (freeSlot (tab FILE (now (files .entry)))) (freeDirent (shownOf (now (files .entry)) (now (contents .entry)) (d .0))) ⌝ }
+{
+    create_room(
+        files,
+        who,
+        kind,
+        bits,
+        d,
+        free_slot(files),
+        free_in(files, contents, d),
+    )
+}
+
+fn create_in(
+    files: &[u32],
+    contents: &[u8],
+    policy: &[u8],
+    who: Subject,
+    kind: u32,
+    bits: u32,
+    name: &[u8],
+    d: Slot,
+) -> Decision
+    ensures { λ r. ⌜ r ≡ createIn (now (policy .entry)) (tree (now (files .entry)) (now (contents .entry))) who kind bits (now (name .entry)) d ⌝ }
+{
+    if !is_absent(files, contents, d, name) {
+        return Decision::Refused(Refusal::NameThere, 0);
+    }
+    if !bits_allow(files, who, d, Rights::WRITE) {
+        return Decision::Refused(Refusal::BitsForbid, 0);
+    }
+    if !label_allows(files, policy, who, d, Rights::WRITE) {
+        return Decision::Refused(Refusal::LabelForbids, 0);
+    }
+    create_free(files, contents, who, kind, bits, d)
+}
+
+pub fn decide_create(
+    files: &[u32],
+    contents: &[u8],
+    policy: &[u8],
+    who: Subject,
+    kind: u32,
+    bits: u32,
+    path: &[u8],
+) -> Decision
+    ensures { λ r. ⌜ r ≡ decideCreate (now (policy .entry)) (tree (now (files .entry)) (now (contents .entry))) who kind bits (now (path .entry)) ⌝ }
+{
+    match walk_parent(files, contents, policy, who, path) {
+        Walk::Reached(at) => create_in(
+            files,
+            contents,
+            policy,
+            who,
+            kind,
+            bits,
+            last_name(path),
+            at.slot,
+        ),
+        Walk::Stopped(r, k) => Decision::Refused(r, k),
+    }
+}

@@ -1,0 +1,138 @@
+// 6. Link.
+ghost use mathlib.Core.Path.{_≡_};
+ghost use Rattle.rules.specs.Layout.{FILE};
+ghost use Rattle.rules.specs.Store.{tab, tree, shownOf};
+ghost use Rattle.rules.specs.Paths.{names, lastName};
+ghost use Rattle.rules.specs.Directories.{freeDirent};
+ghost use Rattle.rules.specs.Walk.{walkParent};
+ghost use Rattle.rules.specs.Checks.{after};
+ghost use Rattle.rules.specs.DecidePaths.{linked, linkRoom, linkIn, linkTo, linkNew, decideLink};
+use crate::dirs::free_in;
+use crate::dirs::gaining;
+use crate::dirs::is_absent;
+use resolution::paths::last_name;
+use resolution::rights::bits_allow;
+use resolution::rights::label_allows;
+use resolution::walk::walk_parent;
+use resolution::walk::walk_path;
+use rules::decision::Decision;
+use rules::decision::Effect;
+use rules::decision::Output;
+use rules::decision::Walk;
+use rules::ids::Slot;
+use rules::refusal::Refusal;
+use rules::request::Subject;
+use rules::rights::Rights;
+use tables::files::is_plain;
+use tables::layout::DIRENTS;
+use tables::numbers::up_one;
+
+fn linked_at(files: &[u32], old: Slot, d: Slot, i: u32) -> Decision
+    ensures { λ r. ⌜ r ≡ linked (tab FILE (now (files .entry))) old d i ⌝ }
+{
+    Decision::Granted(
+        0,
+        Output::Nothing,
+        Effect::Linked(
+            gaining(files, d, i),
+            old,
+            up_one(tables::files::links(files, old)),
+        ),
+    )
+}
+
+fn link_room(files: &[u32], old: Slot, d: Slot, i: u32) -> Decision
+    ensures { λ r. ⌜ r ≡ linkRoom (tab FILE (now (files .entry))) old d i ⌝ }
+{
+    let place = i < DIRENTS;
+    if !place {
+        return Decision::Refused(Refusal::NoRoom, 0);
+    }
+    linked_at(files, old, d, i)
+}
+
+fn link_free(files: &[u32], contents: &[u8], old: Slot, d: Slot) -> Decision
+    ensures { λ r. ⌜ r ≡ linkRoom (tab FILE (now (files .entry))) old d (freeDirent (shownOf (now (files .entry)) (now (contents .entry)) (d .0))) ⌝ }
+{
+    link_room(files, old, d, free_in(files, contents, d))
+}
+
+fn link_in(
+    files: &[u32],
+    contents: &[u8],
+    policy: &[u8],
+    who: Subject,
+    old: Slot,
+    name: &[u8],
+    d: Slot,
+) -> Decision
+    ensures { λ r. ⌜ r ≡ linkIn (now (policy .entry)) (tree (now (files .entry)) (now (contents .entry))) who old (now (name .entry)) d ⌝ }
+{
+    if !is_absent(files, contents, d, name) {
+        return Decision::Refused(Refusal::NameThere, 0);
+    }
+    if !bits_allow(files, who, d, Rights::WRITE) {
+        return Decision::Refused(Refusal::BitsForbid, 0);
+    }
+    if !label_allows(files, policy, who, d, Rights::WRITE) {
+        return Decision::Refused(Refusal::LabelForbids, 0);
+    }
+    link_free(files, contents, old, d)
+}
+
+// The new name, once the old file is found.
+fn link_new(
+    files: &[u32],
+    contents: &[u8],
+    policy: &[u8],
+    who: Subject,
+    new: &[u8],
+    old: Slot,
+) -> Decision
+    ensures { λ r. ⌜ r ≡ linkNew (now (policy .entry)) (tree (now (files .entry)) (now (contents .entry))) who (now (new .entry)) old ⌝ }
+{
+    match walk_parent(files, contents, policy, who, new) {
+        Walk::Reached(at) => link_in(
+            files,
+            contents,
+            policy,
+            who,
+            old,
+            last_name(new),
+            at.slot,
+        ),
+        Walk::Stopped(r, k) => Decision::Refused(r, k),
+    }
+}
+
+fn link_to(
+    files: &[u32],
+    contents: &[u8],
+    policy: &[u8],
+    who: Subject,
+    new: &[u8],
+    old: Slot,
+) -> Decision
+    ensures { λ r. ⌜ r ≡ linkTo (now (policy .entry)) (tree (now (files .entry)) (now (contents .entry))) who (now (new .entry)) old ⌝ }
+{
+    if !is_plain(files, old) {
+        return Decision::Refused(Refusal::WrongKind, 0);
+    }
+    link_new(files, contents, policy, who, new, old)
+}
+
+pub fn decide_link(
+    files: &[u32],
+    contents: &[u8],
+    policy: &[u8],
+    who: Subject,
+    old: &[u8],
+    new: &[u8],
+) -> Decision
+    ensures { λ r. ⌜ r ≡ decideLink (now (policy .entry)) (tree (now (files .entry)) (now (contents .entry))) who (now (old .entry)) (now (new .entry)) ⌝ }
+{
+    match walk_path(files, contents, policy, who, old) {
+        Walk::Reached(at) => link_to(files, contents, policy, who, new, at.slot),
+        Walk::Stopped(r, k) => Decision::Refused(r, k),
+    }
+}

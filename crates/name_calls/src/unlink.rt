@@ -1,0 +1,115 @@
+// 4. Unlink.
+ghost use mathlib.Core.Path.{_≡_};
+ghost use mathlib.Core.Bool.{not};
+ghost use mathlib.Core.List.{[], _∷_};
+ghost use Prim.Native.Nat.{_-_};
+ghost use lib.Dec.{eqb};
+ghost use Rattle.rules.specs.Choice.{every};
+ghost use Rattle.rules.specs.Layout.{FILE, OPEN, LINKS};
+ghost use Rattle.rules.specs.Store.{tab, tree};
+ghost use Rattle.rules.specs.Sound.{isOpen};
+ghost use Rattle.rules.specs.Checks.{freed, unnaming};
+ghost use Rattle.rules.specs.DecidePaths.{unlinked, unlinkAt, decideUnlink};
+ghost use Rattle.rules.specs.declared.decision.Unnamed.the-variants as unnamed;
+use allocation::last::freed_record;
+use allocation::last::none_but;
+use crate::dirs::losing;
+use resolution::rights::bits_allow;
+use resolution::rights::label_allows;
+use resolution::walk::walk_path;
+use rules::decision::Decision;
+use rules::decision::Effect;
+use rules::decision::Location;
+use rules::decision::Output;
+use rules::decision::Unnamed;
+use rules::decision::Walk;
+use rules::ids::Slot;
+use rules::refusal::Refusal;
+use rules::request::Subject;
+use rules::rights::Rights;
+use tables::files::is_plain;
+use tables::files::links;
+use tables::layout::OPENS;
+use tables::numbers::down_one;
+
+fn was_last_link(files: &[u32], s: Slot) -> bool
+    ensures { λ r. ⌜ r ≡ eqb (tab FILE (now (files .entry)) (s .0) LINKS - 1) 0 ⌝ }
+{
+    down_one(links(files, s)) == 0
+}
+
+// The file goes with its name: no other name, and no open file.
+fn unnamed_goes(files: &[u32], opens: &[u32], s: Slot) -> bool
+    ensures { λ r. ⌜ r ≡ every (eqb (tab FILE (now (files .entry)) (s .0) LINKS - 1) 0 ∷ not (isOpen (tab OPEN (now (opens .entry))) (s .0)) ∷ []) ⌝ }
+{
+    if !was_last_link(files, s) {
+        return false;
+    }
+    none_but(opens, OPENS, s.0)
+}
+
+fn unnamed_freed(files: &[u32], s: Slot) -> Unnamed
+    ensures { λ r. ⌜ r ≡ unnamed.Freed s (freed (tab FILE (now (files .entry))) s) ⌝ }
+{
+    Unnamed::Freed(s, freed_record(files, s))
+}
+
+fn unnamed_kept(files: &[u32], s: Slot) -> Unnamed
+    ensures { λ r. ⌜ r ≡ unnamed.Kept s (tab FILE (now (files .entry)) (s .0) LINKS - 1) ⌝ }
+{
+    Unnamed::Kept(s, down_one(links(files, s)))
+}
+
+// The plain file in slot s loses a name.
+fn unname(files: &[u32], opens: &[u32], s: Slot) -> Unnamed
+    ensures { λ r. ⌜ r ≡ unnaming (tab FILE (now (files .entry))) (tab OPEN (now (opens .entry))) s ⌝ }
+{
+    if unnamed_goes(files, opens, s) {
+        return unnamed_freed(files, s);
+    }
+    unnamed_kept(files, s)
+}
+
+fn unlinked_at(files: &[u32], opens: &[u32], at: Location) -> Decision
+    ensures { λ r. ⌜ r ≡ unlinked (tab FILE (now (files .entry))) (tab OPEN (now (opens .entry))) at ⌝ }
+{
+    Decision::Granted(
+        0,
+        Output::Nothing,
+        Effect::Unlinked(
+            losing(files, at.dir, at.dirent),
+            unname(files, opens, at.slot),
+        ),
+    )
+}
+
+fn unlink_at(files: &[u32], opens: &[u32], policy: &[u8], who: Subject, at: Location) -> Decision
+    ensures { λ r. ⌜ r ≡ unlinkAt (now (policy .entry)) (tab FILE (now (files .entry))) (tab OPEN (now (opens .entry))) who at ⌝ }
+{
+    if !is_plain(files, at.slot) {
+        return Decision::Refused(Refusal::WrongKind, 0);
+    }
+    if !bits_allow(files, who, at.dir, Rights::WRITE) {
+        return Decision::Refused(Refusal::BitsForbid, 0);
+    }
+    if !label_allows(files, policy, who, at.dir, Rights::WRITE) {
+        return Decision::Refused(Refusal::LabelForbids, 0);
+    }
+    unlinked_at(files, opens, at)
+}
+
+pub fn decide_unlink(
+    files: &[u32],
+    contents: &[u8],
+    opens: &[u32],
+    policy: &[u8],
+    who: Subject,
+    path: &[u8],
+) -> Decision
+    ensures { λ r. ⌜ r ≡ decideUnlink (now (policy .entry)) (tree (now (files .entry)) (now (contents .entry))) (tab OPEN (now (opens .entry))) who (now (path .entry)) ⌝ }
+{
+    match walk_path(files, contents, policy, who, path) {
+        Walk::Reached(at) => unlink_at(files, opens, policy, who, at),
+        Walk::Stopped(r, k) => Decision::Refused(r, k),
+    }
+}
