@@ -1,0 +1,69 @@
+// 15. Fork: the child, and what it gets of each of its parent's descriptors.
+ghost use mathlib.Core.Path.{_≡_};
+ghost use Rattle.rules.specs.Layout.{OPEN};
+ghost use Rattle.rules.specs.Store.{tab, procOf, descOf};
+ghost use Rattle.rules.specs.Checks.{ofdHeld, sharing, shareOf};
+ghost use Rattle.rules.specs.Decide.{forked, forkTo, decideFork};
+use allocation::free::free_pid;
+use allocation::held::is_held;
+use allocation::held::ofd_held;
+use rules::decision::Decision;
+use rules::decision::Effect;
+use rules::decision::Output;
+use rules::decision::Share;
+use rules::ids::Fd;
+use rules::ids::Pid;
+use rules::refusal::Refusal;
+use rules::request::Subject;
+use tables::layout::PROCESSES;
+use tables::numbers::up_one;
+use tables::opens::references;
+use tables::processes::subject;
+
+fn forked_to(who: Subject, q: u8) -> Decision
+    ensures { λ r. ⌜ r ≡ forked who q ⌝ }
+{
+    Decision::Granted(
+        q as u32,
+        Output::Nothing,
+        Effect::Forked(Pid(q), who.user, who.label),
+    )
+}
+
+fn fork_to(who: Subject, q: u8) -> Decision
+    ensures { λ r. ⌜ r ≡ forkTo who q ⌝ }
+{
+    let free = q < PROCESSES;
+    if !free {
+        return Decision::Refused(Refusal::NoRoom, 0);
+    }
+    forked_to(who, q)
+}
+
+pub fn decide_fork(processes: &[u32], p: Pid) -> Decision
+    ensures { λ r. ⌜ r ≡ decideFork (procOf (now (processes .entry))) p ⌝ }
+{
+    fork_to(subject(processes, p), free_pid(processes))
+}
+
+fn share_one(opens: &[u32], e: u32) -> Share
+    ensures { λ r. ⌜ r ≡ sharing (tab OPEN (now (opens .entry))) e ⌝ }
+{
+    Share::Held(e, up_one(references(opens, e)))
+}
+
+fn share_held(opens: &[u32], processes: &[u32], p: Pid, i: Fd) -> Share
+    ensures { λ r. ⌜ r ≡ sharing (tab OPEN (now (opens .entry))) (ofdHeld (descOf (now (processes .entry))) p i) ⌝ }
+{
+    share_one(opens, ofd_held(processes, p, i))
+}
+
+// What a child gets of descriptor i.
+pub fn share(opens: &[u32], processes: &[u32], p: Pid, i: Fd) -> Share
+    ensures { λ r. ⌜ r ≡ shareOf (tab OPEN (now (opens .entry))) (descOf (now (processes .entry))) p i ⌝ }
+{
+    if is_held(processes, p, i) {
+        return share_held(opens, processes, p, i);
+    }
+    Share::Nothing
+}

@@ -1,0 +1,123 @@
+// 10. Close, and what becomes of the open file of a descriptor that is emptied.
+ghost use mathlib.Core.Path.{_≡_};
+ghost use mathlib.Core.Bool.{not};
+ghost use mathlib.Core.List.{[], _∷_};
+ghost use Prim.Native.Nat.{_-_};
+ghost use lib.Dec.{eqb, ltb};
+ghost use Rattle.rules.specs.Choice.{every};
+ghost use Rattle.rules.specs.Layout.{FILE, OPEN, LINKS, SLOT, REFERENCES};
+ghost use Rattle.rules.specs.Store.{tab, descOf, slot};
+ghost use Rattle.rules.specs.Sound.{openBut};
+ghost use Rattle.rules.specs.Checks.{ofdHeld, freed, closing, dropping, releasing};
+ghost use Rattle.rules.specs.Decide.{closed, decideClose};
+ghost use Rattle.rules.specs.declared.decision.Release.the-variants as release;
+use allocation::held::is_held;
+use allocation::held::ofd_held;
+use allocation::last::freed_record;
+use allocation::last::none_but;
+use rules::decision::Decision;
+use rules::decision::Effect;
+use rules::decision::Output;
+use rules::decision::Release;
+use rules::ids::Fd;
+use rules::ids::Pid;
+use rules::ids::Slot;
+use rules::refusal::Refusal;
+use tables::numbers::down_one;
+use tables::opens::references;
+use tables::opens::slot_of;
+
+fn has_no_links(files: &[u32], s: Slot) -> bool
+    ensures { λ r. ⌜ r ≡ eqb (tab FILE (now (files .entry)) (s .0) LINKS) 0 ⌝ }
+{
+    tables::files::links(files, s) == 0
+}
+
+// The file goes with open file e: no name, and no other open file.
+fn file_goes(files: &[u32], opens: &[u32], e: u32, s: Slot) -> bool
+    ensures { λ r. ⌜ r ≡ every (eqb (tab FILE (now (files .entry)) (s .0) LINKS) 0 ∷ not (openBut (tab OPEN (now (opens .entry))) e (s .0)) ∷ []) ⌝ }
+{
+    if !has_no_links(files, s) {
+        return false;
+    }
+    none_but(opens, e, s.0)
+}
+
+fn freed_with(files: &[u32], e: u32, s: Slot) -> Release
+    ensures { λ r. ⌜ r ≡ release.Freed e s (freed (tab FILE (now (files .entry))) s) ⌝ }
+{
+    Release::Freed(e, s, freed_record(files, s))
+}
+
+// Open file e on slot s goes.
+fn close_last(files: &[u32], opens: &[u32], e: u32, s: Slot) -> Release
+    ensures { λ r. ⌜ r ≡ closing (tab FILE (now (files .entry))) (tab OPEN (now (opens .entry))) e s ⌝ }
+{
+    if file_goes(files, opens, e, s) {
+        return freed_with(files, e, s);
+    }
+    Release::Gone(e)
+}
+
+fn close_last_of(files: &[u32], opens: &[u32], e: u32) -> Release
+    ensures { λ r. ⌜ r ≡ closing (tab FILE (now (files .entry))) (tab OPEN (now (opens .entry))) e (slot (tab OPEN (now (opens .entry)) e SLOT)) ⌝ }
+{
+    close_last(files, opens, e, slot_of(opens, e))
+}
+
+fn has_more(opens: &[u32], e: u32) -> bool
+    ensures { λ r. ⌜ r ≡ ltb 1 (tab OPEN (now (opens .entry)) e REFERENCES) ⌝ }
+{
+    1 < references(opens, e)
+}
+
+fn kept_one_less(opens: &[u32], e: u32) -> Release
+    ensures { λ r. ⌜ r ≡ release.Kept e (tab OPEN (now (opens .entry)) e REFERENCES - 1) ⌝ }
+{
+    Release::Kept(e, down_one(references(opens, e)))
+}
+
+// Open file e loses a reference.
+fn drop_one(files: &[u32], opens: &[u32], e: u32) -> Release
+    ensures { λ r. ⌜ r ≡ dropping (tab FILE (now (files .entry))) (tab OPEN (now (opens .entry))) e ⌝ }
+{
+    if has_more(opens, e) {
+        return kept_one_less(opens, e);
+    }
+    close_last_of(files, opens, e)
+}
+
+fn drop_held(files: &[u32], opens: &[u32], processes: &[u32], p: Pid, i: Fd) -> Release
+    ensures { λ r. ⌜ r ≡ dropping (tab FILE (now (files .entry))) (tab OPEN (now (opens .entry))) (ofdHeld (descOf (now (processes .entry))) p i) ⌝ }
+{
+    drop_one(files, opens, ofd_held(processes, p, i))
+}
+
+// Descriptor i is emptied.
+pub fn release(files: &[u32], opens: &[u32], processes: &[u32], p: Pid, i: Fd) -> Release
+    ensures { λ r. ⌜ r ≡ releasing (tab FILE (now (files .entry))) (tab OPEN (now (opens .entry))) (descOf (now (processes .entry))) p i ⌝ }
+{
+    if is_held(processes, p, i) {
+        return drop_held(files, opens, processes, p, i);
+    }
+    Release::Nothing
+}
+
+fn closed_at(files: &[u32], opens: &[u32], processes: &[u32], p: Pid, i: Fd) -> Decision
+    ensures { λ r. ⌜ r ≡ closed (tab FILE (now (files .entry))) (tab OPEN (now (opens .entry))) (descOf (now (processes .entry))) p i ⌝ }
+{
+    Decision::Granted(
+        0,
+        Output::Nothing,
+        Effect::Closed(i, release(files, opens, processes, p, i)),
+    )
+}
+
+pub fn decide_close(files: &[u32], opens: &[u32], processes: &[u32], p: Pid, i: Fd) -> Decision
+    ensures { λ r. ⌜ r ≡ decideClose (tab FILE (now (files .entry))) (tab OPEN (now (opens .entry))) (descOf (now (processes .entry))) p i ⌝ }
+{
+    if !is_held(processes, p, i) {
+        return Decision::Refused(Refusal::NotHeld, 0);
+    }
+    closed_at(files, opens, processes, p, i)
+}

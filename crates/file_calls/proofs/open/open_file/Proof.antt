@@ -1,0 +1,19 @@
+use Rattle.rules.specs.DecidePaths.{openFile}
+use Rattle.rules.proofs.Choices.{steps}
+use Rattle.file_calls.proofs.open.open_file.Statement.{statement}
+use Rattle.file_calls.proofs.open.open_file.Tie as tie
+
+pub open-file-spec : {M : Type 1} → statement M
+unfolding openFile
+open-file-spec =
+    tie.close
+    (tie.spec
+    (λ c κs. tt)
+    (λ c. search steps)
+    (λ c κs. tt)
+    (λ c κs. tt)
+    (λ c. rw (← c .before .before .rights-of .ensures) (search steps))
+    (λ c κs. tt)
+    (λ c. rw (← c .before .before .before .before .rights-of .ensures) (search steps))
+    (λ c κs. tt)
+    (λ c. rw (← c .before .before .before .before .before .rights-of .ensures) (search steps)))

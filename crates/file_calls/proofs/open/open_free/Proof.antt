@@ -1,0 +1,7 @@
+use Rattle.rules.specs.DecidePaths.{openRoom}
+use Rattle.file_calls.proofs.open.open_free.Statement.{statement}
+use Rattle.file_calls.proofs.open.open_free.Tie as tie
+
+pub open-free-spec : {M : Type 1} → statement M
+unfolding openRoom
+open-free-spec = tie.close (tie.spec (λ c κs. tt) (λ c κs. tt) (λ c κs. tt) (λ c. cc))

@@ -1,0 +1,52 @@
+// 8. Change bits.
+ghost use mathlib.Core.Path.{_≡_};
+ghost use Rattle.rules.specs.Layout.{FILE, OWNER};
+ghost use Rattle.rules.specs.Store.{tab, tree};
+ghost use Rattle.rules.specs.Rights.{owns};
+ghost use Rattle.rules.specs.DecidePaths.{changeBitsAt, decideChangeBits};
+use resolution::rights::label_allows;
+use resolution::walk::walk_path;
+use rules::decision::Decision;
+use rules::decision::Effect;
+use rules::decision::Output;
+use rules::decision::Walk;
+use rules::ids::Slot;
+use rules::refusal::Refusal;
+use rules::request::Subject;
+use rules::rights::Bits;
+use rules::rights::Rights;
+use tables::files::owner;
+
+fn owns_file(files: &[u32], who: Subject, s: Slot) -> bool
+    ensures { λ r. ⌜ r ≡ owns who (tab FILE (now (files .entry)) (s .0) OWNER) ⌝ }
+{
+    resolution::rights::is_owner(who, owner(files, s))
+}
+
+fn change_bits_at(files: &[u32], policy: &[u8], who: Subject, bits: u32, s: Slot) -> Decision
+    ensures { λ r. ⌜ r ≡ changeBitsAt (now (policy .entry)) (tab FILE (now (files .entry))) who bits s ⌝ }
+{
+    if !owns_file(files, who, s) {
+        return Decision::Refused(Refusal::BitsForbid, 0);
+    }
+    if !label_allows(files, policy, who, s, Rights::WRITE) {
+        return Decision::Refused(Refusal::LabelForbids, 0);
+    }
+    Decision::Granted(0, Output::Nothing, Effect::BitsChanged(s, Bits(bits)))
+}
+
+pub fn decide_change_bits(
+    files: &[u32],
+    contents: &[u8],
+    policy: &[u8],
+    who: Subject,
+    bits: u32,
+    path: &[u8],
+) -> Decision
+    ensures { λ r. ⌜ r ≡ decideChangeBits (now (policy .entry)) (tree (now (files .entry)) (now (contents .entry))) who bits (now (path .entry)) ⌝ }
+{
+    match walk_path(files, contents, policy, who, path) {
+        Walk::Reached(at) => change_bits_at(files, policy, who, bits, at.slot),
+        Walk::Stopped(r, k) => Decision::Refused(r, k),
+    }
+}

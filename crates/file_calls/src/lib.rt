@@ -1,0 +1,6 @@
+// The calls on a file that a path names: what they are answered, on the tables as they are. Nothing is written here.
+pub mod change_bits;
+pub mod execute;
+pub mod list;
+pub mod open;
+pub mod stat;

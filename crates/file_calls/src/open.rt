@@ -1,0 +1,224 @@
+// 1. Open.
+ghost use mathlib.Core.Path.{_≡_};
+ghost use mathlib.Core.List.{[], _∷_};
+ghost use lib.Dec.{ltb};
+ghost use Rattle.rules.specs.Choice.{every};
+ghost use Rattle.rules.specs.Layout.{FILE, OPEN, LENGTH};
+ghost use Rattle.rules.specs.Store.{tab, tree, descOf};
+ghost use Rattle.rules.specs.Rights.{modeOf, modeRights};
+ghost use Rattle.rules.specs.Checks.{freeFd, freeOfd};
+ghost use Rattle.rules.specs.DecidePaths.{truncated, newOpen, opening, opened, openRoom, openFile, openMode, decideOpen};
+ghost use Rattle.rules.specs.declared.decision.Effect.the-variants as effect;
+use allocation::free::free_fd;
+use allocation::free::free_ofd;
+use resolution::rights::bits_allow;
+use resolution::rights::label_allows;
+use resolution::walk::walk_path;
+use rules::decision::Decision;
+use rules::decision::Effect;
+use rules::decision::NewOpen;
+use rules::decision::Output;
+use rules::decision::Record;
+use rules::decision::Walk;
+use rules::ids::Fd;
+use rules::ids::Pid;
+use rules::ids::Slot;
+use rules::refusal::Refusal;
+use rules::request::Subject;
+use rules::rights::ModeNumber;
+use rules::rights::OpenMode;
+use rules::rights::Rights;
+use tables::files::is_plain;
+use tables::layout::DESCRIPTORS;
+use tables::layout::OPENS;
+use tables::layout::PLAIN;
+use tables::numbers::up_one;
+
+// The rights that an open asks.
+fn rights_of(m: OpenMode) -> Rights
+    ensures { λ r. ⌜ r ≡ modeRights m ⌝ }
+{
+    let reads = m.0 == OpenMode::READ.0;
+    if reads {
+        return Rights::READ;
+    }
+    let both = m.0 == OpenMode::READ_WRITE.0;
+    if both {
+        return Rights::READ_WRITE;
+    }
+    Rights::WRITE
+}
+
+// The record of a file that is cut to empty.
+fn truncate(files: &[u32], s: Slot) -> Record
+    ensures { λ r. ⌜ r ≡ truncated (tab FILE (now (files .entry))) s ⌝ }
+{
+    Record {
+        kind: PLAIN,
+        owner: tables::files::owner(files, s),
+        bits: tables::files::bits(files, s),
+        label: tables::files::label(files, s),
+        length: 0,
+        links: tables::files::links(files, s),
+        version: up_one(tables::files::version(files, s)),
+    }
+}
+
+fn new_open(s: Slot, m: OpenMode, i: u8, e: u32) -> NewOpen
+    ensures { λ r. ⌜ r ≡ newOpen s m i e ⌝ }
+{
+    NewOpen {
+        fd: Fd(i),
+        ofd: e,
+        slot: s,
+        mode: m,
+    }
+}
+
+fn has_bytes(files: &[u32], s: Slot) -> bool
+    ensures { λ r. ⌜ r ≡ ltb 0 (tab FILE (now (files .entry)) (s .0) LENGTH) ⌝ }
+{
+    0 < tables::files::length(files, s)
+}
+
+// An empty file is not cut.
+fn is_cut(files: &[u32], s: Slot, cut: bool) -> bool
+    ensures { λ r. ⌜ r ≡ every (cut ∷ ltb 0 (tab FILE (now (files .entry)) (s .0) LENGTH) ∷ []) ⌝ }
+{
+    if !cut {
+        return false;
+    }
+    has_bytes(files, s)
+}
+
+fn truncated_open(files: &[u32], s: Slot, m: OpenMode, i: u8, e: u32) -> Effect
+    ensures { λ r. ⌜ r ≡ effect.Truncated (newOpen s m i e) (truncated (tab FILE (now (files .entry))) s) ⌝ }
+{
+    Effect::Truncated(new_open(s, m, i, e), truncate(files, s))
+}
+
+fn plain_open(s: Slot, m: OpenMode, i: u8, e: u32) -> Effect
+    ensures { λ r. ⌜ r ≡ effect.Opened (newOpen s m i e) ⌝ }
+{
+    Effect::Opened(new_open(s, m, i, e))
+}
+
+fn open_effect(files: &[u32], s: Slot, m: OpenMode, cut: bool, i: u8, e: u32) -> Effect
+    ensures { λ r. ⌜ r ≡ opening (tab FILE (now (files .entry))) s m cut i e ⌝ }
+{
+    if is_cut(files, s, cut) {
+        return truncated_open(files, s, m, i, e);
+    }
+    plain_open(s, m, i, e)
+}
+
+fn opened_at(files: &[u32], s: Slot, m: OpenMode, cut: bool, i: u8, e: u32) -> Decision
+    ensures { λ r. ⌜ r ≡ opened (tab FILE (now (files .entry))) s m cut i e ⌝ }
+{
+    Decision::Granted(
+        i as u32,
+        Output::Nothing,
+        open_effect(files, s, m, cut, i, e),
+    )
+}
+
+fn open_room(files: &[u32], s: Slot, m: OpenMode, cut: bool, i: u8, e: u32) -> Decision
+    ensures { λ r. ⌜ r ≡ openRoom (tab FILE (now (files .entry))) s m cut i e ⌝ }
+{
+    let descriptor = i < DESCRIPTORS;
+    if !descriptor {
+        return Decision::Refused(Refusal::NoRoom, 0);
+    }
+    let entry = e < OPENS;
+    if !entry {
+        return Decision::Refused(Refusal::NoRoom, 0);
+    }
+    opened_at(files, s, m, cut, i, e)
+}
+
+fn open_free(
+    files: &[u32],
+    opens: &[u32],
+    processes: &[u32],
+    p: Pid,
+    m: OpenMode,
+    cut: bool,
+    s: Slot,
+) -> Decision
+    ensures { λ r. ⌜ r ≡ openRoom (tab FILE (now (files .entry))) s m cut (freeFd (descOf (now (processes .entry))) p) (freeOfd (tab OPEN (now (opens .entry)))) ⌝ }
+{
+    open_room(files, s, m, cut, free_fd(processes, p), free_ofd(opens))
+}
+
+fn open_file(
+    files: &[u32],
+    opens: &[u32],
+    processes: &[u32],
+    policy: &[u8],
+    p: Pid,
+    who: Subject,
+    m: OpenMode,
+    cut: bool,
+    s: Slot,
+) -> Decision
+    ensures { λ r. ⌜ r ≡ openFile (now (policy .entry)) (tab FILE (now (files .entry))) (tab OPEN (now (opens .entry))) (descOf (now (processes .entry))) p who m cut s ⌝ }
+{
+    if !is_plain(files, s) {
+        return Decision::Refused(Refusal::WrongKind, 0);
+    }
+    let want = rights_of(m);
+    if !bits_allow(files, who, s, want) {
+        return Decision::Refused(Refusal::BitsForbid, 0);
+    }
+    if !label_allows(files, policy, who, s, want) {
+        return Decision::Refused(Refusal::LabelForbids, 0);
+    }
+    open_free(files, opens, processes, p, m, cut, s)
+}
+
+fn open_mode(
+    files: &[u32],
+    opens: &[u32],
+    processes: &[u32],
+    policy: &[u8],
+    p: Pid,
+    who: Subject,
+    m: ModeNumber,
+    s: Slot,
+) -> Decision
+    ensures { λ r. ⌜ r ≡ openMode (now (policy .entry)) (tab FILE (now (files .entry))) (tab OPEN (now (opens .entry))) (descOf (now (processes .entry))) p who m s ⌝ }
+{
+    match m {
+        ModeNumber::Keep(k) => open_file(files, opens, processes, policy, p, who, k, false, s),
+        ModeNumber::Truncate(k) => open_file(files, opens, processes, policy, p, who, k, true, s),
+        ModeNumber::OutOfRange => Decision::Refused(Refusal::Malformed, 0),
+    }
+}
+
+pub fn decide_open(
+    files: &[u32],
+    contents: &[u8],
+    opens: &[u32],
+    processes: &[u32],
+    policy: &[u8],
+    p: Pid,
+    who: Subject,
+    n: u32,
+    path: &[u8],
+) -> Decision
+    ensures { λ r. ⌜ r ≡ decideOpen (now (policy .entry)) (tree (now (files .entry)) (now (contents .entry))) (tab OPEN (now (opens .entry))) (descOf (now (processes .entry))) p who n (now (path .entry)) ⌝ }
+{
+    match walk_path(files, contents, policy, who, path) {
+        Walk::Reached(at) => open_mode(
+            files,
+            opens,
+            processes,
+            policy,
+            p,
+            who,
+            OpenMode::new(n),
+            at.slot,
+        ),
+        Walk::Stopped(r, k) => Decision::Refused(r, k),
+    }
+}
