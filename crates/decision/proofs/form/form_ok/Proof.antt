@@ -1,0 +1,57 @@
+use Rattle.rules.specs.Calls.{formOk}
+use borrow.Author.Needs.{needs}
+use Rattle.decision.proofs.form.form_ok.Statement.{statement}
+use Rattle.decision.proofs.form.form_ok.Tie as tie
+
+pub form-ok-spec : {M : Type 1} → statement M
+unfolding formOk
+form-ok-spec =
+    tie.close
+    (tie.spec
+    (λ c. search needs)
+    (λ c κs. tt)
+    (λ c. search needs)
+    (λ c κs. tt)
+    (λ c. search needs)
+    (λ c κs. tt)
+    (λ c. search needs)
+    (λ c κs. tt)
+    (λ c. search needs)
+    (λ c κs. tt)
+    (λ c. search needs)
+    (λ c κs. tt)
+    (λ c. search needs)
+    (λ c κs. tt)
+    (λ c. search needs)
+    (λ c κs. tt)
+    (λ c. search needs)
+    (λ c κs. tt)
+    (λ c. search needs)
+    (λ c. search needs)
+    (λ c. search needs)
+    (λ c. search needs)
+    (λ c κs. tt)
+    (λ c. search needs)
+    (λ c. search needs)
+    (λ c. search needs)
+    (λ c. search needs)
+    (λ c κs. tt)
+    (λ c. search needs)
+    (λ c. simp (← c .open-ok .ensures, c .before .enum-told .given .1))
+    (λ c. simp (← c .new-file-ok .ensures, c .before .enum-told2 .given .1))
+    (λ c. simp (← c .new-file-ok2 .ensures, c .before .enum-told3 .given .1))
+    (λ c. simp (← c .path-below-root .ensures, c .before .enum-told4 .given .1))
+    (λ c. simp (← c .path-below-root2 .ensures, c .before .enum-told5 .given .1))
+    (λ c. simp (← c .both-paths-ok .ensures, c .before .enum-told6 .given .1))
+    (λ c. simp (← c .path-ok .ensures, c .before .enum-told7 .given .1))
+    (λ c. simp (← c .bits-and-path-ok .ensures, c .before .enum-told8 .given .1))
+    (λ c. simp (← c .path-ok2 .ensures, c .before .enum-told9 .given .1))
+    (λ c. simp (c .enum-told10 .given .1))
+    (λ c. simp (c .enum-told11 .given .1))
+    (λ c. simp (c .enum-told12 .given .1))
+    (λ c. simp (← c .offset-ok .ensures, c .before .enum-told13 .given .1))
+    (λ c. simp (c .enum-told14 .given .1))
+    (λ c. simp (c .enum-told15 .given .1))
+    (λ c. simp (c .enum-told16 .given .1))
+    (λ c. simp (← c .path-ok3 .ensures, c .before .enum-told17 .given .1))
+    (λ c. simp (c .enum-told18 .given .1)))

@@ -1,0 +1,144 @@
+// The form of a call: which call it is, and whether its numbers and paths are well formed.
+ghost use mathlib.Core.Path.{_≡_};
+ghost use mathlib.Core.Bool.{true, false};
+ghost use mathlib.Core.List.{[], _∷_};
+ghost use lib.Dec.{leb};
+ghost use Rattle.rules.specs.Choice.{every};
+ghost use Rattle.rules.specs.Layout.{BLOCK};
+ghost use Rattle.rules.specs.Rights.{bitsKnown, modeOf, modeKnown};
+ghost use Rattle.rules.specs.Paths.{pathOk};
+ghost use Rattle.rules.specs.Calls.{operationOf, pathBelowRoot, newFileOk, formOk};
+ghost use Rattle.decision.specs.Form.{areBits};
+use resolution::paths::path_below_root;
+use resolution::paths::path_ok;
+use rules::request::Operation;
+use rules::rights::Bits;
+use rules::rights::BitsNumber;
+use rules::rights::ModeNumber;
+use rules::rights::OpenMode;
+use tables::layout::BLOCK;
+
+// Which call a number names.
+pub fn operation_of(call: u8) -> Operation
+    ensures { λ r. ⌜ r ≡ operationOf call ⌝ }
+{
+    match call {
+        1 => Operation::Open,
+        2 => Operation::Create,
+        3 => Operation::MakeDirectory,
+        4 => Operation::Unlink,
+        5 => Operation::RemoveDirectory,
+        6 => Operation::Link,
+        7 => Operation::List,
+        8 => Operation::ChangeBits,
+        9 => Operation::Stat,
+        10 => Operation::Close,
+        11 => Operation::Read,
+        12 => Operation::Write,
+        13 => Operation::Seek,
+        14 => Operation::Duplicate,
+        15 => Operation::Fork,
+        16 => Operation::Exit,
+        17 => Operation::Execute,
+        _ => Operation::Unknown,
+    }
+}
+
+fn is_mode(m: ModeNumber) -> bool
+    ensures { λ r. ⌜ r ≡ modeKnown m ⌝ }
+{
+    match m {
+        ModeNumber::Keep(_) => true,
+        ModeNumber::Truncate(_) => true,
+        ModeNumber::OutOfRange => false,
+    }
+}
+
+fn mode_known(n: u32) -> bool
+    ensures { λ r. ⌜ r ≡ modeKnown (modeOf n) ⌝ }
+{
+    is_mode(OpenMode::new(n))
+}
+
+fn are_bits(b: BitsNumber) -> bool
+    ensures { λ r. ⌜ r ≡ areBits b ⌝ }
+{
+    match b {
+        BitsNumber::Valid(_) => true,
+        BitsNumber::OutOfRange => false,
+    }
+}
+
+fn bits_known(n: u32) -> bool
+    ensures { λ r. ⌜ r ≡ bitsKnown n ⌝ }
+{
+    are_bits(Bits::new(n))
+}
+
+fn open_ok(n: u32, path: &[u8]) -> bool
+    ensures { λ r. ⌜ r ≡ every (modeKnown (modeOf n) ∷ pathOk (now (path .entry)) ∷ []) ⌝ }
+{
+    if !mode_known(n) {
+        return false;
+    }
+    path_ok(path)
+}
+
+fn new_file_ok(n: u32, path: &[u8]) -> bool
+    ensures { λ r. ⌜ r ≡ newFileOk n (now (path .entry)) ⌝ }
+{
+    if !bits_known(n) {
+        return false;
+    }
+    path_below_root(path)
+}
+
+fn bits_and_path_ok(n: u32, path: &[u8]) -> bool
+    ensures { λ r. ⌜ r ≡ every (bitsKnown n ∷ pathOk (now (path .entry)) ∷ []) ⌝ }
+{
+    if !bits_known(n) {
+        return false;
+    }
+    path_ok(path)
+}
+
+fn both_paths_ok(path: &[u8], bytes: &[u8]) -> bool
+    ensures { λ r. ⌜ r ≡ every (pathOk (now (path .entry)) ∷ pathBelowRoot (now (bytes .entry)) ∷ []) ⌝ }
+{
+    if !path_ok(path) {
+        return false;
+    }
+    path_below_root(bytes)
+}
+
+fn offset_ok(n: u32) -> bool
+    ensures { λ r. ⌜ r ≡ leb n BLOCK ⌝ }
+{
+    (n as usize) <= BLOCK
+}
+
+// The call is well formed.
+pub fn form_ok(op: Operation, n: u32, path: &[u8], bytes: &[u8]) -> bool
+    ensures { λ r. ⌜ r ≡ formOk op n (now (path .entry)) (now (bytes .entry)) ⌝ }
+{
+    match op {
+        Operation::Open => open_ok(n, path),
+        Operation::Create => new_file_ok(n, path),
+        Operation::MakeDirectory => new_file_ok(n, path),
+        Operation::Unlink => path_below_root(path),
+        Operation::RemoveDirectory => path_below_root(path),
+        Operation::Link => both_paths_ok(path, bytes),
+        Operation::List => path_ok(path),
+        Operation::ChangeBits => bits_and_path_ok(n, path),
+        Operation::Stat => path_ok(path),
+        Operation::Close => true,
+        Operation::Read => true,
+        Operation::Write => true,
+        Operation::Seek => offset_ok(n),
+        Operation::Duplicate => true,
+        Operation::Fork => true,
+        Operation::Exit => true,
+        Operation::Execute => path_ok(path),
+        Operation::Unknown => false,
+    }
+}
