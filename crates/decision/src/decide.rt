@@ -3,9 +3,9 @@ ghost use mathlib.Core.Path.{_≡_};
 ghost use Rattle.rules.specs.Store.{store, view};
 ghost use Rattle.rules.specs.Decide.{decideOwn, decide};
 ghost use Rattle.decision.specs.Lent.{callOf};
-use allocation::held::in_use;
 use crate::form::form_ok;
 use crate::form::operation_of;
+use allocation::held::in_use;
 use descriptor_calls::duplicate::decide_duplicate;
 use descriptor_calls::fork::decide_fork;
 use descriptor_calls::read::decide_read;
@@ -93,5 +93,16 @@ pub fn decide_call(
     if !form_ok(op, c.number as u32, path, bytes) {
         return Decision::Refused(Refusal::Malformed, 0);
     }
-    decide_own(files, contents, opens, processes, policy, c, path, bytes, buffer, op)
+    decide_own(
+        files,
+        contents,
+        opens,
+        processes,
+        policy,
+        c,
+        path,
+        bytes,
+        buffer,
+        op,
+    )
 }

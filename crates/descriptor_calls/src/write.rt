@@ -8,11 +8,11 @@ ghost use Rattle.rules.specs.Store.{tab, descOf};
 ghost use Rattle.rules.specs.Checks.{ofdHeld};
 ghost use Rattle.rules.specs.Decide.{writeAt, placement, writeFile, writeSome, writeOpen, decideWrite};
 ghost use Rattle.descriptor_calls.specs.Stored.{stored};
-use allocation::held::is_held;
-use allocation::held::ofd_held;
 use crate::open_files::open_appends;
 use crate::open_files::open_length;
 use crate::open_files::open_writes;
+use allocation::held::is_held;
+use allocation::held::ofd_held;
 use rules::decision::Decision;
 use rules::decision::Effect;
 use rules::decision::Output;
@@ -111,14 +111,7 @@ fn write_open(files: &[u32], opens: &[u32], e: u32, n: usize) -> Decision
     write_some(files, opens, e, n)
 }
 
-fn write_held(
-    files: &[u32],
-    opens: &[u32],
-    processes: &[u32],
-    p: Pid,
-    i: Fd,
-    n: usize,
-) -> Decision
+fn write_held(files: &[u32], opens: &[u32], processes: &[u32], p: Pid, i: Fd, n: usize) -> Decision
     ensures { λ r. ⌜ r ≡ writeOpen (tab FILE (now (files .entry))) (tab OPEN (now (opens .entry))) (ofdHeld (descOf (now (processes .entry))) p i) n ⌝ }
 {
     write_open(files, opens, ofd_held(processes, p, i), n)

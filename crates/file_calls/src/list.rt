@@ -35,14 +35,7 @@ fn list_ranked(files: &[u32], contents: &[u8], k: u32, d: Slot) -> Decision
     list_entry(d, dirent_ranked(shown(files, contents, d), k))
 }
 
-fn list_at(
-    files: &[u32],
-    contents: &[u8],
-    policy: &[u8],
-    who: Subject,
-    k: u32,
-    d: Slot,
-) -> Decision
+fn list_at(files: &[u32], contents: &[u8], policy: &[u8], who: Subject, k: u32, d: Slot) -> Decision
     ensures { λ r. ⌜ r ≡ listAt (now (policy .entry)) (tree (now (files .entry)) (now (contents .entry))) who k d ⌝ }
 {
     if !is_directory(files, d) {

@@ -6,10 +6,10 @@ ghost use Rattle.rules.specs.Paths.{names, lastName};
 ghost use Rattle.rules.specs.Directories.{freeDirent};
 ghost use Rattle.rules.specs.Checks.{freeSlot};
 ghost use Rattle.rules.specs.DecidePaths.{newRecord, created, createRoom, createIn, decideCreate};
-use allocation::free::free_slot;
 use crate::dirs::free_in;
 use crate::dirs::gaining;
 use crate::dirs::is_absent;
+use allocation::free::free_slot;
 use resolution::paths::last_name;
 use resolution::rights::bits_allow;
 use resolution::rights::label_allows;
@@ -41,7 +41,15 @@ fn new_record(files: &[u32], who: Subject, kind: u32, bits: u32, d: Slot, s: Slo
     }
 }
 
-fn created_at(files: &[u32], who: Subject, kind: u32, bits: u32, d: Slot, s: u32, i: u32) -> Decision
+fn created_at(
+    files: &[u32],
+    who: Subject,
+    kind: u32,
+    bits: u32,
+    d: Slot,
+    s: u32,
+    i: u32,
+) -> Decision
     ensures { λ r. ⌜ r ≡ created (tab FILE (now (files .entry))) who kind bits d s i ⌝ }
 {
     Decision::Granted(

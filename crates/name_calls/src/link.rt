@@ -92,15 +92,7 @@ fn link_new(
     ensures { λ r. ⌜ r ≡ linkNew (now (policy .entry)) (tree (now (files .entry)) (now (contents .entry))) who (now (new .entry)) old ⌝ }
 {
     match walk_parent(files, contents, policy, who, new) {
-        Walk::Reached(at) => link_in(
-            files,
-            contents,
-            policy,
-            who,
-            old,
-            last_name(new),
-            at.slot,
-        ),
+        Walk::Reached(at) => link_in(files, contents, policy, who, old, last_name(new), at.slot),
         Walk::Stopped(r, k) => Decision::Refused(r, k),
     }
 }

@@ -135,13 +135,7 @@ pub fn walk_path(files: &[u32], contents: &[u8], policy: &[u8], who: Subject, pa
     walk_from(files, contents, policy, who, path, 0, NAMES + 1, 1, root())
 }
 
-fn enter_parent(
-    files: &[u32],
-    policy: &[u8],
-    who: Subject,
-    k: u32,
-    at: Location,
-) -> Walk
+fn enter_parent(files: &[u32], policy: &[u8], who: Subject, k: u32, at: Location) -> Walk
     ensures { λ r. ⌜ r ≡ enterParent (tab FILE (now (files .entry))) (now (policy .entry)) who k at ⌝ }
 {
     let d = at.slot;

@@ -1,15 +1,14 @@
 -- What a call leaves: its answer as it crosses to C, the reader's buffer, and the four tables.
 use Prim.Native.Nat.{ℕ}
-use mathlib.Core.List.{List, []}
-use Rattle.rules.specs.Store.{Store, View, view}
-use Rattle.rules.specs.Refusals.{GRANTED}
-use Rattle.rules.specs.Directories.{padded}
+use mathlib.Core.List.{List}
+use Rattle.rules.specs.Store.{Store}
 use Rattle.rules.specs.Calls.{Call}
 use Rattle.rules.specs.Effects.{carryOut}
-use Rattle.rules.specs.Step.{Outcome, nameOut, fieldsOut, bufferOut, answerOf}
+use Rattle.rules.specs.Step.{Outcome, answerOf}
 use Rattle.rules.specs.declared.decision.Output.{Output}
 use Rattle.rules.specs.declared.decision.Effect.{Effect}
 use Rattle.rules.specs.declared.answer.Answer.{Answer}
+use Rattle.reply.specs.Answers.{saidOf}
 
 pub record Lent : Type 0 where
   pub answer : Answer
@@ -22,35 +21,6 @@ lent a b s = record { answer = a; buffer = b; store = s }
 -- an outcome of the rules, as it is lent back
 abbrev pub lentOf : Outcome → Lent
 lentOf o = lent (answerOf (o .reply)) (o .reply .buffer) (o .store)
-
--- an answer of numbers alone
-abbrev pub plain : (refusal stop value : ℕ) → Answer
-plain r k n = answerOf (record { refusal = r; stop = k; value = n; name = []; fields = []; buffer = [] })
-
--- the answer of a granted call with value n and output o
-abbrev pub outputAnswer : View → ℕ → Output → Answer
-outputAnswer v n o = answerOf (record { refusal = GRANTED; stop = 0; value = n; name = nameOut v o; fields = fieldsOut o; buffer = [] })
-
-abbrev pub withName : ℕ → List ℕ → Answer
-withName n name = answerOf (record { refusal = GRANTED; stop = 0; value = n; name = name; fields = []; buffer = [] })
-
--- a name of 16 bytes, of which `length` count
-abbrev pub named : (value length : ℕ) → (name : List ℕ) → Answer
-named n length name = record { refusal = GRANTED; stop = 0; value = n; «name_length» = length; name = name; fields = padded 8 [] }
-
-abbrev pub withFields : ℕ → List ℕ → Answer
-withFields n fields = answerOf (record { refusal = GRANTED; stop = 0; value = n; name = []; fields = fields; buffer = [] })
-
--- what an output says: the answer, and the buffer
-pub record Said : Type 0 where
-  pub answer : Answer
-  pub buffer : List ℕ
-
-abbrev pub said : Answer → List ℕ → Said
-said a b = record { answer = a; buffer = b }
-
-unfoldable pub saidOf : Store → ℕ → Output → List ℕ → Said
-saidOf s n o buffer = said (outputAnswer (view s) n o) (bufferOut s o buffer)
 
 -- a granted call: what its output says of the store, and then what its effect makes of it
 unfoldable pub granting : Store → Call → ℕ → Output → Effect → Lent

@@ -2,11 +2,11 @@
 ghost use mathlib.Core.Path.{_≡_};
 ghost use Rattle.rules.specs.Store.{store};
 ghost use Rattle.rules.specs.Step.{outcomeOf, act, step};
-ghost use Rattle.decision.specs.Arms.{callOf};
+ghost use Rattle.decision.specs.Lent.{callOf};
 ghost use Rattle.store.specs.Lent.{lent, lentOf, granting};
-use crate::answer::refused_answer;
-use crate::answer::say;
-use crate::carry::carry_out;
+use apply::carry::carry_out;
+use reply::answer::refused_answer;
+use reply::answer::say;
 use rules::answer::Answer;
 use rules::decision::Decision;
 use rules::decision::Effect;

@@ -1,4 +1,2 @@
 // The store: one call on the lent tables.
-pub mod answer;
 pub mod call;
-pub mod carry;

@@ -1,6 +1,7 @@
 use borrow.Author.Needs.{needs}
 use Rattle.rules.specs.Step.{outcomeOf, replyTo, storeAfter}
-use Rattle.store.specs.Lent.{granting, saidOf}
+use Rattle.reply.specs.Answers.{saidOf}
+use Rattle.store.specs.Lent.{granting}
 use Rattle.store.proofs.call.settle.Statement.{statement}
 use Rattle.store.proofs.call.settle.Tie as tie
 

@@ -1,0 +1,199 @@
+// An effect is carried out on the tables. Exit and fork go through the eight descriptors, each on the tables as they then are.
+ghost use mathlib.Core.Path.{_≡_};
+ghost use Prim.Native.Nat.{ℕ};
+ghost use mathlib.Core.List.{List};
+ghost use mathlib.Core.List.{[], _∷_};
+ghost use Rattle.rules.specs.Store.{store, applyAll, Change};
+ghost use Rattle.rules.specs.Store as change;
+ghost use Rattle.rules.specs.Paths.{names, lastName};
+ghost use Rattle.rules.specs.Effects.{shared, sharedAll, released, releasedAll, createChanges, linkChanges, forkChanges, carryOut};
+ghost use Rattle.decision.specs.Lent.{callOf};
+use descriptor_calls::fork::share;
+use descriptor_calls::release::release;
+use effect::files::change_bits;
+use effect::files::write_bytes;
+use effect::names::create_file;
+use effect::names::link_file;
+use effect::names::remove_directory;
+use effect::names::unlink_file;
+use effect::opens::close_descriptor;
+use effect::opens::duplicate_descriptor as duplicate;
+use effect::opens::move_offset;
+use effect::opens::open_file;
+use effect::opens::open_truncated;
+use effect::opens::share_descriptor;
+use effect::processes::free_process;
+use effect::processes::make_process;
+use effect::processes::relabel_process;
+use resolution::paths::last_name;
+use rules::decision::DirChange;
+use rules::decision::Effect;
+use rules::decision::Record;
+use rules::ids::Fd;
+use rules::ids::Pid;
+use rules::ids::Slot;
+use rules::request::Request;
+use tables::layout::DESCRIPTORS;
+
+// One descriptor of a process that ends.
+fn release_one(
+    files: &mut [u32],
+    contents: &mut [u8],
+    opens: &mut [u32],
+    processes: &mut [u32],
+    p: Pid,
+    i: u8,
+)
+    ensures { λ _. ⌜ store (now (files .exit)) (now (contents .exit)) (now (opens .exit)) (now (processes .exit)) ≡ released p i (store (now (files .entry)) (now (contents .entry)) (now (opens .entry)) (now (processes .entry))) ⌝ }
+{
+    let r = release(files, opens, processes, p, Fd(i));
+    close_descriptor(files, contents, opens, processes, p, Fd(i), r);
+}
+
+fn release_all(
+    files: &mut [u32],
+    contents: &mut [u8],
+    opens: &mut [u32],
+    processes: &mut [u32],
+    p: Pid,
+)
+    ensures { λ _. ⌜ store (now (files .exit)) (now (contents .exit)) (now (opens .exit)) (now (processes .exit)) ≡ releasedAll p (store (now (files .entry)) (now (contents .entry)) (now (opens .entry)) (now (processes .entry))) ⌝ }
+{
+    let mut i: u8 = 0;
+    while i < DESCRIPTORS {
+        release_one(files, contents, opens, processes, p, i);
+        i += 1;
+    }
+}
+
+// One descriptor of a child.
+fn share_one(
+    files: &mut [u32],
+    contents: &mut [u8],
+    opens: &mut [u32],
+    processes: &mut [u32],
+    p: Pid,
+    q: Pid,
+    i: u8,
+)
+    ensures { λ _. ⌜ store (now (files .exit)) (now (contents .exit)) (now (opens .exit)) (now (processes .exit)) ≡ shared p q i (store (now (files .entry)) (now (contents .entry)) (now (opens .entry)) (now (processes .entry))) ⌝ }
+{
+    let s = share(opens, processes, p, Fd(i));
+    share_descriptor(files, contents, opens, processes, q, Fd(i), s);
+}
+
+fn share_all(
+    files: &mut [u32],
+    contents: &mut [u8],
+    opens: &mut [u32],
+    processes: &mut [u32],
+    p: Pid,
+    q: Pid,
+)
+    ensures { λ _. ⌜ store (now (files .exit)) (now (contents .exit)) (now (opens .exit)) (now (processes .exit)) ≡ sharedAll p q (store (now (files .entry)) (now (contents .entry)) (now (opens .entry)) (now (processes .entry))) ⌝ }
+{
+    let mut i: u8 = 0;
+    while i < DESCRIPTORS {
+        share_one(files, contents, opens, processes, p, q, i);
+        i += 1;
+    }
+}
+
+// A new file or directory under the last name of the path.
+fn create(
+    files: &mut [u32],
+    contents: &mut [u8],
+    opens: &mut [u32],
+    processes: &mut [u32],
+    path: &[u8],
+    d: DirChange,
+    s: Slot,
+    r: Record,
+)
+    ensures { λ _. ⌜ store (now (files .exit)) (now (contents .exit)) (now (opens .exit)) (now (processes .exit)) ≡ applyAll (createChanges (lastName (names (now (path .entry)))) d s r) (store (now (files .entry)) (now (contents .entry)) (now (opens .entry)) (now (processes .entry))) ⌝ }
+{
+    create_file(files, contents, opens, processes, last_name(path), d, s, r);
+}
+
+// A new name, the last of the path, for a file.
+fn link(
+    files: &mut [u32],
+    contents: &mut [u8],
+    opens: &mut [u32],
+    processes: &mut [u32],
+    path: &[u8],
+    d: DirChange,
+    s: Slot,
+    links: u32,
+)
+    ensures { λ _. ⌜ store (now (files .exit)) (now (contents .exit)) (now (opens .exit)) (now (processes .exit)) ≡ applyAll (linkChanges (lastName (names (now (path .entry)))) d s links) (store (now (files .entry)) (now (contents .entry)) (now (opens .entry)) (now (processes .entry))) ⌝ }
+{
+    link_file(
+        files,
+        contents,
+        opens,
+        processes,
+        last_name(path),
+        d,
+        s,
+        links,
+    );
+}
+
+// A child, with its parent's descriptors.
+fn fork(
+    files: &mut [u32],
+    contents: &mut [u8],
+    opens: &mut [u32],
+    processes: &mut [u32],
+    p: Pid,
+    q: Pid,
+    user: u32,
+    label: u32,
+)
+    ensures { λ _. ⌜ store (now (files .exit)) (now (contents .exit)) (now (opens .exit)) (now (processes .exit)) ≡ applyAll (forkChanges q user label) (sharedAll p q (store (now (files .entry)) (now (contents .entry)) (now (opens .entry)) (now (processes .entry)))) ⌝ }
+{
+    share_all(files, contents, opens, processes, p, q);
+    make_process(files, contents, opens, processes, q, user, label);
+}
+
+// A process ends.
+fn exit(files: &mut [u32], contents: &mut [u8], opens: &mut [u32], processes: &mut [u32], p: Pid)
+    ensures { λ _. ⌜ store (now (files .exit)) (now (contents .exit)) (now (opens .exit)) (now (processes .exit)) ≡ applyAll (change.procZero (p .0) ∷ []) (releasedAll p (store (now (files .entry)) (now (contents .entry)) (now (opens .entry)) (now (processes .entry)))) ⌝ }
+{
+    release_all(files, contents, opens, processes, p);
+    free_process(files, contents, opens, processes, p);
+}
+
+// What an effect does.
+pub fn carry_out(
+    files: &mut [u32],
+    contents: &mut [u8],
+    opens: &mut [u32],
+    processes: &mut [u32],
+    c: Request,
+    path: &[u8],
+    bytes: &[u8],
+    e: Effect,
+)
+    ensures { λ _. ⌜ ((buffer : List ℕ) → store (now (files .exit)) (now (contents .exit)) (now (opens .exit)) (now (processes .exit)) ≡ carryOut (callOf c (now (path .entry)) (now (bytes .entry)) buffer) e (store (now (files .entry)) (now (contents .entry)) (now (opens .entry)) (now (processes .entry)))) ⌝ }
+{
+    let p = c.process;
+    match e {
+        Effect::Nothing => {}
+        Effect::Opened(n) => open_file(files, contents, opens, processes, p, n),
+        Effect::Truncated(n, r) => open_truncated(files, contents, opens, processes, p, n, r),
+        Effect::Created(d, s, r) => create(files, contents, opens, processes, path, d, s, r),
+        Effect::Unlinked(d, u) => unlink_file(files, contents, opens, processes, d, u),
+        Effect::Removed(d, s, r) => remove_directory(files, contents, opens, processes, d, s, r),
+        Effect::Linked(d, s, n) => link(files, contents, opens, processes, bytes, d, s, n),
+        Effect::BitsChanged(s, b) => change_bits(files, contents, opens, processes, s, b),
+        Effect::Closed(i, r) => close_descriptor(files, contents, opens, processes, p, i, r),
+        Effect::Stored(w) => write_bytes(files, contents, opens, processes, bytes, w),
+        Effect::Moved(o, at) => move_offset(files, contents, opens, processes, o, at),
+        Effect::Duplicated(i, o, n) => duplicate(files, contents, opens, processes, p, i, o, n),
+        Effect::Forked(q, u, l) => fork(files, contents, opens, processes, p, q, u, l),
+        Effect::Exited => exit(files, contents, opens, processes, p),
+        Effect::Relabelled(l) => relabel_process(files, contents, opens, processes, p, l),
+    }
+}

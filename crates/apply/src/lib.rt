@@ -1,0 +1,2 @@
+// A decision's effect is carried out on the lent tables. Nothing is refused here.
+pub mod carry;

@@ -1,0 +1,142 @@
+// The answer of a call, and the reader's buffer.
+ghost use mathlib.Core.Path.{_≡_};
+ghost use mathlib.Core.List.{[], _∷_};
+ghost use Prim.Native.Nat.{min};
+ghost use lib.ListN.{length, take, drop};
+ghost use lib.Seq.{sets};
+ghost use Rattle.rules.specs.Store.{store, block, shownOf};
+ghost use Rattle.rules.specs.Refusals.{refusalNumber};
+ghost use Rattle.rules.specs.Directories.{padded, direntName};
+ghost use Rattle.rules.specs.Effects.{words};
+ghost use Rattle.reply.specs.Answers.{plain, named, withName, withFields, said, saidOf};
+use resolution::directories::dirent_name;
+use rules::answer::Answer;
+use rules::decision::Output;
+use rules::decision::Record;
+use rules::ids::Slot;
+use rules::refusal::Refusal;
+use tables::files::bytes;
+use tables::files::shown;
+use tables::numbers::smaller;
+use tables::parts::after;
+use tables::parts::upto;
+use tables::words::byte;
+use tables::words::copy_bytes;
+
+// An answer of numbers alone.
+pub fn plain_answer(refusal: u32, stop: u32, value: u32) -> Answer
+    ensures { λ r. ⌜ r ≡ plain refusal stop value ⌝ }
+{
+    let name = [0u8; 16];
+    let fields = [0u32; 8];
+    Answer {
+        refusal: refusal,
+        stop: stop,
+        value: value,
+        name_length: 0,
+        name: name,
+        fields: fields,
+    }
+}
+
+pub fn refused_answer(why: Refusal, stop: u32) -> Answer
+    ensures { λ r. ⌜ r ≡ plain (refusalNumber why) stop 0 ⌝ }
+{
+    plain_answer(why.number(), stop, 0)
+}
+
+// The name, then 0.
+fn padded_name(name: &[u8]) -> [u8; 16]
+    ensures { λ r. ⌜ r ≡ padded 16 (now (name .entry)) ⌝ }
+{
+    let mut all = [0u8; 16];
+    let mut k = 0;
+    while k < 16 {
+        all[k] = byte(name, k);
+        k += 1;
+    }
+    all
+}
+
+fn name_answer(value: u32, length: u32, name: [u8; 16]) -> Answer
+    ensures { λ r. ⌜ r ≡ named value length name ⌝ }
+{
+    let fields = [0u32; 8];
+    Answer {
+        refusal: 0,
+        stop: 0,
+        value: value,
+        name_length: length,
+        name: name,
+        fields: fields,
+    }
+}
+
+fn answer_named(value: u32, name: &[u8]) -> Answer
+    ensures { λ r. ⌜ r ≡ named value (min (length (now (name .entry))) 16) (padded 16 (now (name .entry))) ⌝ }
+{
+    name_answer(value, smaller(name.len(), 16), padded_name(name))
+}
+
+// The name of entry i of directory d.
+fn answer_listed(files: &[u32], contents: &[u8], value: u32, d: Slot, i: u32) -> Answer
+    ensures { λ r. ⌜ r ≡ withName value (direntName (shownOf (now (files .entry)) (now (contents .entry)) (d .0)) i) ⌝ }
+{
+    answer_named(value, dirent_name(shown(files, contents, d), i))
+}
+
+// A file's fields.
+fn answer_fields(value: u32, r: Record) -> Answer
+    ensures { λ a. ⌜ a ≡ withFields value (words r) ⌝ }
+{
+    let name = [0u8; 16];
+    let fields = [
+        r.kind,
+        r.owner,
+        r.bits,
+        r.label,
+        r.length,
+        r.links,
+        r.version,
+        0,
+    ];
+    Answer {
+        refusal: 0,
+        stop: 0,
+        value: value,
+        name_length: 0,
+        name: name,
+        fields: fields,
+    }
+}
+
+// Bytes of a slot into the buffer; those past them stay.
+fn read_into(contents: &[u8], buffer: &mut [u8], s: Slot, from: u32, n: u32)
+    ensures { λ _. ⌜ now (buffer .exit) ≡ sets (now (buffer .entry)) 0 (take n (drop from (block (now (contents .entry)) (s .0)))) ⌝ }
+{
+    let part = upto(after(bytes(contents, s), from as usize), n as usize);
+    copy_bytes(buffer, 0, part);
+}
+
+// The answer of a granted call, and the buffer.
+pub fn say(
+    files: &[u32],
+    contents: &[u8],
+    opens: &[u32],
+    processes: &[u32],
+    buffer: &mut [u8],
+    value: u32,
+    o: Output,
+) -> Answer
+    ensures { λ r. ⌜ said r (now (buffer .exit)) ≡ saidOf (store (now (files .entry)) (now (contents .entry)) (now (opens .entry)) (now (processes .entry))) value o (now (buffer .entry)) ⌝ }
+{
+    match o {
+        Output::Nothing => plain_answer(0, 0, value),
+        Output::Name(d, i) => answer_listed(files, contents, value, d, i),
+        Output::Fields(r) => answer_fields(value, r),
+        Output::Bytes(s, from, n) => {
+            read_into(contents, buffer, s, from, n);
+            plain_answer(0, 0, value)
+        }
+    }
+}

@@ -1,0 +1,2 @@
+// What a call answers, and the reader's buffer.
+pub mod answer;
