@@ -1,0 +1,4 @@
+//! What the programs of the gate must write, by the second program.
+
+pub mod answers;
+pub mod tables;
