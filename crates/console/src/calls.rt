@@ -1,4 +1,6 @@
 // A line that makes a call: the process, the call, and its parts.
+use crate::settings::Console;
+use crate::settings::with_known;
 use crate::words::find;
 use crate::words::head;
 use crate::words::index_of;
@@ -24,12 +26,12 @@ struct Parsed {
 // A call's number by its name, or as it stands, so that unknown ones can be made too.
 fn call_number(name: &[u8]) -> u64 {
     let k = index_of(
-        b"- open create mkdir unlink rmdir link list chmod stat close read write seek dup fork exit exec",
-        18,
+        b"open create mkdir unlink rmdir link list chmod stat close read write seek dup fork exit exec",
+        17,
         name,
     );
-    if k < 18 {
-        return k as u64;
+    if k < 17 {
+        return k as u64 + 1;
     }
     number(name)
 }
@@ -144,57 +146,48 @@ fn print_answer(a: Answer, buffer: &[u8]) {
     }
 }
 
-fn serve(
-    files: &mut [u32],
-    contents: &mut [u8],
-    opens: &mut [u32],
-    processes: &mut [u32],
-    policy: &[u8],
-    c: Request,
-    path: &[u8],
-    bytes: &[u8],
-    buffer: &mut [u8],
-) {
+fn serve(s: Console, c: Request, path: &[u8], bytes: &[u8], buffer: &mut [u8]) -> Console {
+    let mut files = s.files;
+    let mut contents = s.contents;
+    let mut opens = s.opens;
+    let mut processes = s.processes;
+    let policy = s.policy;
     let a = store::call::call(
-        files,
-        contents,
-        opens,
-        processes,
-        policy,
+        &mut files,
+        &mut contents,
+        &mut opens,
+        &mut processes,
+        &policy,
         c,
         path,
         bytes,
         buffer,
     );
     print_answer(a, buffer);
+    Console {
+        known: true,
+        files: files,
+        contents: contents,
+        opens: opens,
+        processes: processes,
+        policy: policy,
+    }
 }
 
-// Whether the line is a call's; then it is made, and its answer is written.
-pub fn call_line(
-    files: &mut [u32],
-    contents: &mut [u8],
-    opens: &mut [u32],
-    processes: &mut [u32],
-    policy: &[u8],
-    line: &[u8],
-) -> bool {
+// A line that makes a call: its answer is written.
+pub fn call_line(s: Console, line: &[u8]) -> Console {
     let mut path = [0u8; 512];
     let mut bytes = [0u8; 512];
     let mut buffer = [0u8; 512];
     let c = parse(line, &mut path, &mut bytes);
-    let known = c.known;
-    if known {
-        serve(
-            files,
-            contents,
-            opens,
-            processes,
-            policy,
-            c.request,
-            head(&path, c.path),
-            head(&bytes, c.bytes),
-            first(&mut buffer, c.buffer),
-        );
+    if !c.known {
+        return with_known(s, false);
     }
-    known
+    serve(
+        s,
+        c.request,
+        head(&path, c.path),
+        head(&bytes, c.bytes),
+        first(&mut buffer, c.buffer),
+    )
 }

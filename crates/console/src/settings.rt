@@ -1,10 +1,10 @@
-// Lines that set a table up or show it: fresh, set and show. A table goes by its number.
+// The console's tables, and the lines that set or show them.
 use crate::words::NO_NUMBER;
 use crate::words::find;
 use crate::words::head;
 use crate::words::index_of;
 use crate::words::number;
-use crate::words::print_words;
+use crate::words::print_record;
 use crate::words::unescape;
 use crate::words::word;
 use tables::layout::BLOCK;
@@ -18,17 +18,38 @@ use tables::parts::upto;
 use tables::words::copy_bytes;
 use tables::words::put;
 use tables::words::zero_bytes;
-use tables::words::zero_words;
 
-pub const FILES: usize = 0;
+ghost use Prim.Native.Nat.{_<_};
 
-pub const OPENS: usize = 1;
+// The tables, and whether the last line was understood.
+pub struct Console {
+    pub known: bool,
+    pub files: [u32; 448],
+    pub contents: [u8; 32768],
+    pub opens: [u32; 128],
+    pub processes: [u32; 88],
+    pub policy: [u8; 512],
+}
 
-pub const PROCESSES: usize = 2;
+// No files, no processes, no rights and no transitions.
+pub fn empty() -> Console {
+    let mut policy = [255u8; 512];
+    zero_bytes(&mut policy, 0, RIGHTS);
+    Console {
+        known: true,
+        files: [0u32; 448],
+        contents: [0u8; 32768],
+        opens: [0u32; 128],
+        processes: [0u32; 88],
+        policy: policy,
+    }
+}
 
-pub const CONTENTS: usize = 3;
-
-pub const POLICY: usize = 4;
+pub fn with_known(s: Console, known: bool) -> Console {
+    let mut t = s;
+    t.known = known;
+    t
+}
 
 // The line that starts at a place of the script.
 pub fn line_at(script: &[u8], at: usize) -> &[u8] {
@@ -40,57 +61,34 @@ pub fn next_line(script: &[u8], at: usize) -> usize {
     std::num::wrapping_add_usize(find(script, at, b'\n'), 1)
 }
 
-fn width(table: usize) -> usize {
-    match table {
-        FILES => FILE,
-        OPENS => OPEN,
-        PROCESSES => PROCESS,
-        CONTENTS => BLOCK,
-        _ => LABELS,
+// Word k as an index, 0 where it is no number.
+fn index(line: &[u8], k: usize) -> usize
+    ensures { λ r. ⌜ r < 4294967296 ⌝ }
+{
+    let n = number(word(line, k));
+    if n < NO_NUMBER {
+        return n as usize;
     }
+    0
 }
 
-// Where a record of a table starts.
-fn start(table: usize, record: u64) -> usize {
-    let i = (record % NO_NUMBER) as usize;
-    match table {
-        FILES => FILE * i,
-        OPENS => OPEN * i,
-        PROCESSES => PROCESS * i,
-        CONTENTS => BLOCK * i,
-        _ => LABELS * i,
-    }
+fn is_number(line: &[u8], k: usize) -> bool {
+    number(word(line, k)) < NO_NUMBER
 }
 
-// The line is of this kind, of this table, and names a record of it.
-fn is_of(line: &[u8], kind: &[u8], table: usize) -> bool {
-    if NO_NUMBER <= number(word(line, 2)) {
-        return false;
-    }
-    if index_of(b"files opens processes contents policy", 5, word(line, 1)) != table {
-        return false;
-    }
-    check::same(word(line, 0), kind)
-}
-
-// Where the line's values go: its record, and the field where they start.
-fn target(line: &[u8], table: usize) -> usize {
-    std::num::wrapping_add_usize(start(table, number(word(line, 2))), number(word(line, 3)) as usize)
-}
-
-// The words of a line from word 3 on are numbers.
+// The values of a line, from word 4 on, are numbers.
 fn has_numbers(line: &[u8]) -> bool {
-    let mut k = 3;
+    let mut i = 4;
     let mut left = line.len();
     while 0 < left {
-        let text = word(line, k);
+        let text = word(line, i);
         if text.len() == 0 {
             return true;
         }
         if NO_NUMBER <= number(text) {
             return false;
         }
-        k = std::num::wrapping_add_usize(k, 1);
+        i = std::num::wrapping_add_usize(i, 1);
         left -= 1;
     }
     true
@@ -110,98 +108,118 @@ fn put_numbers(words: &mut [u32], at: usize, line: &[u8]) {
     }
 }
 
-// set TABLE RECORD FIELD NUMBER ..
-fn set_words(words: &mut [u32], table: usize, line: &[u8]) -> bool {
-    if !is_of(line, b"set", table) {
-        return false;
-    }
+// The words of a table from `at` on become the line's numbers.
+fn set_words(words: &mut [u32], at: usize, line: &[u8]) -> bool {
     let known = has_numbers(line);
     if known {
-        put_numbers(words, target(line, table), line);
+        put_numbers(words, at, line);
     }
     known
 }
 
-// set TABLE RECORD FIELD TEXT
-fn set_bytes(bytes: &mut [u8], table: usize, line: &[u8]) -> bool {
-    if !is_of(line, b"set", table) {
-        return false;
-    }
+// The bytes of a table from `at` on become the line's text.
+fn set_bytes(bytes: &mut [u8], at: usize, line: &[u8]) -> bool {
     let mut text = [0u8; 512];
     let n = unescape(word(line, 4), &mut text);
     let known = n <= 512;
     if known {
-        copy_bytes(bytes, target(line, table), head(&text, n));
+        copy_bytes(bytes, at, head(&text, n));
     }
     known
 }
 
-// The set lines of the script's head, which ends at an empty line.
-fn refresh_words(words: &mut [u32], table: usize, script: &[u8]) {
+fn set_files(s: Console, line: &[u8]) -> Console {
+    let mut words = s.files;
+    let known = set_words(&mut words, FILE * index(line, 2) + index(line, 3), line);
+    let mut t = with_known(s, known);
+    t.files = words;
+    t
+}
+
+fn set_opens(s: Console, line: &[u8]) -> Console {
+    let mut words = s.opens;
+    let known = set_words(&mut words, OPEN * index(line, 2) + index(line, 3), line);
+    let mut t = with_known(s, known);
+    t.opens = words;
+    t
+}
+
+fn set_processes(s: Console, line: &[u8]) -> Console {
+    let mut words = s.processes;
+    let known = set_words(&mut words, PROCESS * index(line, 2) + index(line, 3), line);
+    let mut t = with_known(s, known);
+    t.processes = words;
+    t
+}
+
+fn set_contents(s: Console, line: &[u8]) -> Console {
+    let mut bytes = s.contents;
+    let known = set_bytes(&mut bytes, BLOCK * index(line, 2) + index(line, 3), line);
+    let mut t = with_known(s, known);
+    t.contents = bytes;
+    t
+}
+
+fn set_policy(s: Console, line: &[u8]) -> Console {
+    let mut bytes = s.policy;
+    let known = set_bytes(&mut bytes, LABELS * index(line, 2) + index(line, 3), line);
+    let mut t = with_known(s, known);
+    t.policy = bytes;
+    t
+}
+
+// The table that the line names, if it names a record too.
+fn table_of(line: &[u8]) -> usize {
+    if !is_number(line, 2) {
+        return 5;
+    }
+    index_of(b"files opens processes contents policy", 5, word(line, 1))
+}
+
+// set TABLE RECORD FIELD, then numbers or a text.
+pub fn set_line(s: Console, line: &[u8]) -> Console {
+    if !is_number(line, 3) {
+        return with_known(s, false);
+    }
+    match table_of(line) {
+        0 => set_files(s, line),
+        1 => set_opens(s, line),
+        2 => set_processes(s, line),
+        3 => set_contents(s, line),
+        4 => set_policy(s, line),
+        _ => with_known(s, false),
+    }
+}
+
+// show TABLE RECORD, of a table of words.
+pub fn show_line(s: Console, line: &[u8]) -> Console {
+    let files = s.files;
+    let opens = s.opens;
+    let processes = s.processes;
+    let i = index(line, 2);
+    let table = table_of(line);
+    match table {
+        0 => print_record(&files, FILE * i, FILE),
+        1 => print_record(&opens, OPEN * i, OPEN),
+        2 => print_record(&processes, PROCESS * i, PROCESS),
+        _ => {}
+    }
+    with_known(s, table < 3)
+}
+
+// The tables that the set lines of the script's head give. An empty line ends the head.
+pub fn fresh(script: &[u8]) -> Console {
+    let mut s = empty();
     let mut at = 0;
     let mut n = 0;
     while n < script.len() {
         let line = line_at(script, at);
         if line.len() == 0 {
-            return;
+            return with_known(s, true);
         }
-        set_words(words, table, line);
+        s = set_line(s, line);
         at = next_line(script, at);
         n += 1;
     }
-}
-
-fn refresh_bytes(bytes: &mut [u8], table: usize, script: &[u8]) {
-    let mut at = 0;
-    let mut n = 0;
-    while n < script.len() {
-        let line = line_at(script, at);
-        if line.len() == 0 {
-            return;
-        }
-        set_bytes(bytes, table, line);
-        at = next_line(script, at);
-        n += 1;
-    }
-}
-
-// All 0, but that the policy has no transitions.
-fn clear_bytes(bytes: &mut [u8], table: usize) {
-    zero_bytes(bytes, 0, bytes.len());
-    let mut i = RIGHTS;
-    while i < bytes.len() {
-        if table != POLICY {
-            return;
-        }
-        bytes[i] = 255;
-        i += 1;
-    }
-}
-
-fn is_fresh(line: &[u8]) -> bool {
-    check::same(line, b"fresh")
-}
-
-// Whether the line sets or shows words of the table.
-pub fn words_line(words: &mut [u32], table: usize, script: &[u8], line: &[u8]) -> bool {
-    if is_fresh(line) {
-        zero_words(words, 0, words.len());
-        refresh_words(words, table, script);
-        return true;
-    }
-    if is_of(line, b"show", table) {
-        print_words(words, start(table, number(word(line, 2))), width(table));
-        return true;
-    }
-    set_words(words, table, line)
-}
-
-// Whether the line sets bytes of the table.
-pub fn bytes_line(bytes: &mut [u8], table: usize, script: &[u8], line: &[u8]) -> bool {
-    if is_fresh(line) {
-        clear_bytes(bytes, table);
-        refresh_bytes(bytes, table, script);
-        return true;
-    }
-    set_bytes(bytes, table, line)
+    with_known(s, true)
 }

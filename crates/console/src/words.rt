@@ -180,7 +180,7 @@ fn print_word(n: u32) {
 }
 
 // n words of a table, from `at` on.
-pub fn print_words(table: &[u32], at: usize, n: usize) {
+fn print_words(table: &[u32], at: usize, n: usize) {
     let mut a = at;
     let mut left = n;
     while 0 < left {
@@ -191,4 +191,9 @@ pub fn print_words(table: &[u32], at: usize, n: usize) {
         a += 1;
         left -= 1;
     }
+}
+
+pub fn print_record(table: &[u32], at: usize, width: usize) {
+    io::write_all(1, b":");
+    print_words(table, at, width);
 }

@@ -20,7 +20,7 @@ pub fn text(bytes: &[u8]) -> String {
 pub fn answer(answer: &Answer, read: &[u8]) -> String {
     let Answer { refusal, stop, value, name, fields } = answer;
     let mut line = format!("answer={refusal} stop={stop} value={value} bytes={}{}", text(name), text(read));
-    for fields in fields {
+    if let Some(fields) = fields {
         for (name, field) in FIELDS.iter().zip(fields) {
             line += &format!(" {name}={field}");
         }
