@@ -45,12 +45,7 @@ fn kind(tables: &mut Tables, chance: &mut Chance) -> Option<()> {
     Some(())
 }
 
-fn file_field(
-    tables: &mut Tables,
-    chance: &mut Chance,
-    column: usize,
-    highest: u32,
-) -> Option<()> {
+fn file_field(tables: &mut Tables, chance: &mut Chance, column: usize, highest: u32) -> Option<()> {
     let slot = slot_in_use(tables, chance)?;
     let word = over(chance, highest);
     tables.set_file(slot, column, word);
@@ -69,12 +64,7 @@ fn file_label(tables: &mut Tables, chance: &mut Chance) -> Option<()> {
     file_field(tables, chance, LABEL, 15)
 }
 
-fn open_field(
-    tables: &mut Tables,
-    chance: &mut Chance,
-    column: usize,
-    highest: u32,
-) -> Option<()> {
+fn open_field(tables: &mut Tables, chance: &mut Chance, column: usize, highest: u32) -> Option<()> {
     let entry = open_file(tables, chance, true)?;
     let word = over(chance, highest);
     tables.set_open_file(entry, column, word);
