@@ -22,22 +22,11 @@ pub fn add_open_files(
         chance.shuffle(&mut entries);
     }
     for (count, &entry) in entries[..shape.opens].iter().enumerate() {
-        let unnamed = if count < shape.unnamed {
-            free_slots.pop()
-        } else {
-            None
-        };
-        // One descriptor is left for each entry to come.
         let to_come = shape.opens - count - 1;
-        let spare = places.len().saturating_sub(to_come + 1);
-        let sharers = 1 + if spare > 0 && chance.one_in(3) {
-            chance.between(1, spare.min(4))
-        } else {
-            0
-        };
-        if places.len() < sharers {
+        let Some(sharers) = sharers(chance, places.len(), to_come) else {
             return;
-        }
+        };
+        let unnamed = (count < shape.unnamed).then(|| free_slots.pop()).flatten();
         let Some(slot) = unnamed
             .map(|slot| make_unnamed(chance, tables, slot))
             .or_else(|| chance.pick_where(SLOTS, |slot| tables.is_kind(slot, PLAIN)))
@@ -48,6 +37,17 @@ pub fn add_open_files(
         for (process, descriptor) in places.drain(..sharers) {
             tables.set_descriptor(process, descriptor, entry as u32 + 1);
         }
+    }
+}
+
+/// How many descriptors are to hold an entry: often one, and never so many
+/// that none is left for an entry to come.
+fn sharers(chance: &mut Chance, free: usize, to_come: usize) -> Option<usize> {
+    let spare = free.checked_sub(1)?.saturating_sub(to_come);
+    if spare > 0 && chance.one_in(3) {
+        Some(1 + chance.between(1, spare.min(4)))
+    } else {
+        Some(1)
     }
 }
 
