@@ -82,6 +82,11 @@ impl Comparison {
         let Some(answer) = self.call_both(&call) else {
             return false;
         };
+        if answer.refusal == 1 {
+            let answers = Some((&answer, &answer));
+            self.report("a sound store became unsound", Some(&call), answers);
+            return false;
+        }
         if answer.is_granted() {
             self.before.copy_from(&self.store);
             if call.changes_names() {
@@ -97,34 +102,38 @@ impl Comparison {
         let answer = store_call(&mut self.store, call, &mut ours);
         let other = Answer::from(reference_call(&mut self.reference, call, &mut theirs));
         self.tally.count(call.row(), answer.refusal);
-        let answers = Some((&answer, &other));
-        if answer != other {
-            self.report("the answers differ", Some(call), answers);
-        } else if ours != theirs {
-            self.report("the buffers differ", Some(call), answers);
-        } else if self.store != self.reference {
-            self.report("the tables differ", Some(call), answers);
-        } else if !answer.is_granted() && (self.store != self.before || ours != call.buffer) {
-            self.report("a refused call changed something", Some(call), answers);
-        } else {
-            return Some(answer);
-        }
-        None
+        self.judge("", call, [(&answer, &ours), (&other, &theirs)])
+            .then_some(answer)
     }
 
-    /// The call without the soundness test, on copies of the sound store.
+    /// The call without the soundness test, on the sound stores, which are put back.
     fn act(&mut self, call: &Call) -> bool {
         self.tally.acts += 1;
         let (mut ours, mut theirs) = (call.buffer.clone(), call.buffer.clone());
         let answer = store_act(&mut self.store, call, &mut ours);
         let other = Answer::from(reference_act(&mut self.reference, call, &mut theirs));
-        if answer != other || ours != theirs || self.store != self.reference {
-            let answers = Some((&answer, &other));
-            self.report("without the soundness test", Some(call), answers);
-            return false;
-        }
+        let results = [(&answer, &ours), (&other, &theirs)];
+        let alike = self.judge("without the soundness test, ", call, results);
         self.restore();
-        true
+        alike
+    }
+
+    /// Whether both programs left the same, and a refused call nothing.
+    fn judge(&mut self, how: &str, call: &Call, results: [(&Answer, &Vec<u8>); 2]) -> bool {
+        let [(answer, ours), (other, theirs)] = results;
+        let what = if answer != other {
+            "the answers differ"
+        } else if ours != theirs {
+            "the buffers differ"
+        } else if self.store != self.reference {
+            "the tables differ"
+        } else if !answer.is_granted() && (self.store != self.before || *ours != call.buffer) {
+            "a refused call changed something"
+        } else {
+            return true;
+        };
+        self.report(&format!("{how}{what}"), Some(call), Some((answer, other)));
+        false
     }
 
     /// Puts both stores back to what they were before the call.
@@ -138,19 +147,34 @@ impl Comparison {
         let sound = self.before.clone();
         let what = self.spoil();
         self.restore();
-        let judged = (store_sound(&self.before), reference_sound(&self.before));
-        let alike = if judged.0 != judged.1 || (what.is_some() && judged.0) {
-            let said = format!("{}: sound is {judged:?}", what.unwrap_or_default());
-            self.report(&said, None, None);
-            false
-        } else {
-            self.tally.altered_sound += u64::from(judged.0);
-            self.call_both(call)
-                .is_some_and(|answer| judged.0 || answer.refusal == 1)
+        let judged = [store_sound(&self.before), reference_sound(&self.before)];
+        let alike = match (judged, &what) {
+            ([false, false], _) => self.expect(call, |refusal| refusal == 1),
+            ([true, true], None) => {
+                self.tally.altered_sound += 1;
+                self.expect(call, |refusal| refusal != 1)
+            }
+            _ => {
+                let what = what.as_deref().unwrap_or("words altered by chance");
+                self.report(&format!("{what}: sound is {judged:?}"), None, None);
+                false
+            }
         };
         self.before = sound;
         self.restore();
         alike
+    }
+
+    /// The call on both stores, with a refusal that fits their soundness.
+    fn expect(&mut self, call: &Call, fits: impl Fn(u32) -> bool) -> bool {
+        let Some(answer) = self.call_both(call) else {
+            return false;
+        };
+        if !fits(answer.refusal) {
+            let answers = Some((&answer, &answer));
+            self.report("refusal 1 and soundness do not fit", Some(call), answers);
+        }
+        fits(answer.refusal)
     }
 
     /// Spoils the store at hand; answers how, if it is unsound for certain.
@@ -214,7 +238,7 @@ impl Comparison {
             println!("  store:     {store:?}\n  reference: {reference:?}");
         }
         match self.store.first_difference(&self.reference) {
-            Some(word) => println!("  first differing word, store and reference: {word}"),
+            Some(word) => println!("  first differing word: {word}"),
             None => println!("  the tables are equal"),
         }
     }

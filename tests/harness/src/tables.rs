@@ -151,8 +151,13 @@ fn differing_word<T: PartialEq + std::fmt::Debug>(
     let longest = ours.len().max(theirs.len());
     let at = (0..longest).find(|&at| ours.get(at) != theirs.get(at))?;
     let (record, column) = (at / width, at % width);
-    let (ours, theirs) = (ours.get(at), theirs.get(at));
+    let word = |table: &[T]| match table.get(at) {
+        Some(word) => format!("{word:?}"),
+        None => "nothing".into(),
+    };
     Some(format!(
-        "{table}, record {record}, place {column}: {ours:?} and {theirs:?}"
+        "{table}, record {record}, place {column}: {} and {}",
+        word(ours),
+        word(theirs)
     ))
 }
