@@ -1,6 +1,7 @@
 //! The cost of a granted call by its kind, without the soundness test.
 
 use super::mix::{reference_acts, store_acts, Scene, Side};
+use super::stores;
 use super::timing::{nanoseconds, print_head, print_row, side_by_side};
 use super::undo::Undo;
 use crate::call::{name_of, Call, CALLS};
@@ -22,6 +23,8 @@ pub fn print_by_kind(scenes: &[Scene]) {
     println!("\n## By call: a granted call without the soundness test\n");
     print_head("call");
     let mut samples = collect(scenes);
+    samples[0] = refused_at_once(scenes);
+    print_row("refused: process not in use", compare(&mut samples[0]));
     for (kind, samples) in samples.iter_mut().enumerate().skip(1) {
         if samples.is_empty() {
             println!("| {} | none granted | | |", name_of(kind));
@@ -29,6 +32,18 @@ pub fn print_by_kind(scenes: &[Scene]) {
             print_row(name_of(kind), compare(samples));
         }
     }
+}
+
+/// A call by a process number that none has: what a call costs before its own checks.
+fn refused_at_once(scenes: &[Scene]) -> Vec<Sample> {
+    let mut call = stores::stat(b"/");
+    call.process = u8::MAX;
+    let sample = |scene: &Scene| Sample {
+        tables: scene.start.clone(),
+        call: call.clone(),
+        undo: Undo::between(&scene.start, &scene.start),
+    };
+    scenes.iter().map(sample).collect()
 }
 
 /// Granted calls of each kind from every scene.
