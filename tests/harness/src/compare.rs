@@ -56,6 +56,7 @@ impl Comparison {
     fn run_store(&mut self, calls: u64) {
         self.before = random_store(&mut self.chance);
         self.tally.stores += 1;
+        self.tally.features.count(&self.before);
         if !(store_sound(&self.before) && reference_sound(&self.before)) {
             self.report("a store made to be sound is not", None, None);
             return;

@@ -7,6 +7,7 @@ pub mod call;
 pub mod chance;
 pub mod compare;
 pub mod defects;
+pub mod features;
 pub mod generate;
 pub mod layout;
 pub mod programs;

@@ -2,6 +2,7 @@
 
 use crate::call::{name_of, CALLS};
 use crate::defects::Defect;
+use crate::features::Features;
 use crate::sizes;
 
 const REFUSALS: usize = 15;
@@ -10,6 +11,7 @@ pub struct Tally {
     /// By call (0 for an unknown one) and refusal (0 for granted).
     answers: [[u64; REFUSALS]; CALLS + 1],
     pub stores: u64,
+    pub features: Features,
     pub acts: u64,
     /// Stores by their defect.
     pub defects: Vec<u64>,
@@ -29,6 +31,7 @@ impl Tally {
         Tally {
             answers: [[0; REFUSALS]; CALLS + 1],
             stores: 0,
+            features: Features::default(),
             acts: 0,
             defects: vec![0; defects],
             sizes: [0; sizes::TABLES.len()],
@@ -55,6 +58,7 @@ impl Tally {
 
     pub fn print(&self, defects: &[Defect]) {
         self.print_answers();
+        self.features.print();
         self.print_defects(defects);
         let (calls, granted) = (self.calls(), self.granted());
         println!(
