@@ -40,7 +40,10 @@ fn call_number(name: &[u8]) -> u64 {
 // path. The words end at the dot.
 fn place(call: u64, part: u8) -> usize {
     let row = if call < 18 { call as usize } else { 0 };
-    let parts = word(b". np. np. np. p. p. pd. np. np. p. f. fn. fd. fn. f. . . p.", row);
+    let parts = word(
+        b". np. np. np. p. p. pd. np. np. p. f. fn. fd. fn. f. . . p.",
+        row,
+    );
     let k = find(parts, 0, part);
     if k < parts.len() {
         return k + 2;
@@ -117,7 +120,10 @@ fn print_named(k: usize, value: u32) {
     io::write_all(1, b" ");
     io::write_all(
         1,
-        word(b"answer= stop= value= kind= owner= bits= label= length= names= stamp=", k),
+        word(
+            b"answer= stop= value= kind= owner= bits= label= length= names= stamp=",
+            k,
+        ),
     );
     io::print_decimal(1, value as u64);
 }

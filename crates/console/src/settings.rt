@@ -18,7 +18,6 @@ use tables::parts::upto;
 use tables::words::copy_bytes;
 use tables::words::put;
 use tables::words::zero_bytes;
-
 ghost use Prim.Native.Nat.{_<_};
 
 // The tables, and whether the last line was understood.

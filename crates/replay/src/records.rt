@@ -66,7 +66,10 @@ pub fn short_at(bytes: &[u8], at: usize) -> usize
 
 fn word_at(bytes: &[u8], at: usize) -> u32 {
     let rest = after(bytes, at);
-    (byte(rest, 0) as u32) + 256 * (byte(rest, 1) as u32) + 65536 * (byte(rest, 2) as u32) + 16777216 * (byte(rest, 3) as u32)
+    (byte(rest, 0) as u32)
+        + 256 * (byte(rest, 1) as u32)
+        + 65536 * (byte(rest, 2) as u32)
+        + 16777216 * (byte(rest, 3) as u32)
 }
 
 // Words of 4 bytes, little end first, from the place that the first two bytes give.

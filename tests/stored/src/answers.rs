@@ -18,8 +18,18 @@ pub fn text(bytes: &[u8]) -> String {
 
 /// The refusal, stop number and value, the listed name or bytes read, and stat's fields.
 pub fn answer(answer: &Answer, read: &[u8]) -> String {
-    let Answer { refusal, stop, value, name, fields } = answer;
-    let mut line = format!("answer={refusal} stop={stop} value={value} bytes={}{}", text(name), text(read));
+    let Answer {
+        refusal,
+        stop,
+        value,
+        name,
+        fields,
+    } = answer;
+    let mut line = format!(
+        "answer={refusal} stop={stop} value={value} bytes={}{}",
+        text(name),
+        text(read)
+    );
     if let Some(fields) = fields {
         for (name, field) in FIELDS.iter().zip(fields) {
             line += &format!(" {name}={field}");

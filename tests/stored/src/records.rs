@@ -22,7 +22,10 @@ pub fn record(kind: u8, bytes: &[u8]) -> Vec<u8> {
 }
 
 pub fn sizes(sizes: [usize; 5]) -> Vec<u8> {
-    let bytes: Vec<u8> = sizes.iter().flat_map(|&size| (size as u16).to_le_bytes()).collect();
+    let bytes: Vec<u8> = sizes
+        .iter()
+        .flat_map(|&size| (size as u16).to_le_bytes())
+        .collect();
     record(0, &bytes)
 }
 
@@ -56,7 +59,12 @@ pub fn changes(from: &Tables, to: &Tables) -> Vec<u8> {
     .concat()
 }
 
-fn patches<T: PartialEq>(kind: u8, from: &[T], to: &[T], written: impl Fn(&T) -> Vec<u8>) -> Vec<u8> {
+fn patches<T: PartialEq>(
+    kind: u8,
+    from: &[T],
+    to: &[T],
+    written: impl Fn(&T) -> Vec<u8>,
+) -> Vec<u8> {
     let mut out = Vec::new();
     let mut at = 0;
     while let Some(skip) = (at..to.len()).position(|i| from[i] != to[i]) {

@@ -20,7 +20,13 @@ pub struct Tables {
 
 impl Tables {
     /// Tables of 0 alone, in which the policy gives no right.
-    pub fn zero(files: usize, contents: usize, opens: usize, processes: usize, policy: usize) -> Tables {
+    pub fn zero(
+        files: usize,
+        contents: usize,
+        opens: usize,
+        processes: usize,
+        policy: usize,
+    ) -> Tables {
         Tables {
             files: vec![0; files],
             contents: vec![0; contents],
@@ -37,7 +43,13 @@ impl Tables {
         tables
     }
 
-    pub fn call(&mut self, request: Request, path: &[u8], data: &[u8], buffer: &mut [u8]) -> Answer {
+    pub fn call(
+        &mut self,
+        request: Request,
+        path: &[u8],
+        data: &[u8],
+        buffer: &mut [u8],
+    ) -> Answer {
         reference::call(
             &mut self.files,
             &mut self.contents,

@@ -37,6 +37,8 @@ use stored::records::{self, BUFFER, ROOM, SIZES};
 use tables::Tables;
 
 const SEED: u64 = 20_261;
+const LINK: u8 = 6;
+const WRITE: u8 = 12;
 const STORES: usize = 60;
 const CALLS: usize = 89;
 /// How many bytes but 0 the contents of a short store have.
@@ -73,7 +75,10 @@ fn sizes_of(tables: &Tables) -> [usize; 5] {
 }
 
 fn fits(tables: &Tables) -> bool {
-    sizes_of(tables).iter().zip(ROOM).all(|(&size, room)| size <= room)
+    sizes_of(tables)
+        .iter()
+        .zip(ROOM)
+        .all(|(&size, room)| size <= room)
 }
 
 /// The tables with a defect, or of another size; none where the choice does not fit.
@@ -94,7 +99,7 @@ fn store(chance: &mut Chance, number: usize) -> Tables {
     loop {
         let tables = random_store(chance);
         let length = tables.contents.iter().filter(|&&byte| byte != 0).count();
-        if length < SHORT || number % 6 == 0 {
+        if length < SHORT || number.is_multiple_of(6) {
             return tables;
         }
     }
@@ -132,7 +137,13 @@ impl Writer {
     fn call(&mut self, call: &Call) {
         let numbers = [call.process, call.call, call.descriptor];
         let buffer = call.buffer.len();
-        self.out.extend(records::call(numbers, call.number, &call.path, &call.data, buffer));
+        self.out.extend(records::call(
+            numbers,
+            call.number,
+            &call.path,
+            &call.data,
+            buffer,
+        ));
     }
 }
 
@@ -157,6 +168,15 @@ fn make(tables: &mut Tables, call: &Call) -> u32 {
     answer.refusal
 }
 
+/// The call with less of what it does not look at.
+fn short(mut call: Call) -> Call {
+    match call.call {
+        LINK | WRITE => {}
+        _ => call.data.truncate(4),
+    }
+    call
+}
+
 /// A call that can be written down, with a buffer that `crates/replay` has.
 fn writable(call: &Call) -> bool {
     call.path.len() < 256 && call.data.len() < 4096 && call.buffer.len() <= BUFFER
@@ -168,7 +188,7 @@ fn run_store(writer: &mut Writer, chance: &mut Chance, number: usize) {
     writer.tables(&tables);
     let mut maker = CallMaker::new(&tables);
     for _ in 0..CALLS {
-        let call = maker.call(chance, &tables);
+        let call = short(maker.call(chance, &tables));
         if !writable(&call) {
             continue;
         }
@@ -190,7 +210,11 @@ fn run_store(writer: &mut Writer, chance: &mut Chance, number: usize) {
 }
 
 fn main() -> std::io::Result<()> {
-    let mut writer = Writer { out: Vec::new(), held: zero(), sizes: SIZES };
+    let mut writer = Writer {
+        out: Vec::new(),
+        held: zero(),
+        sizes: SIZES,
+    };
     let mut chance = Chance::new(SEED);
     for number in 0..STORES {
         run_store(&mut writer, &mut chance, number);

@@ -30,7 +30,6 @@ const CALLS: [(&str, &str); 17] = [
 ];
 const READ: u8 = 11;
 
-
 /// A line that is not understood.
 struct Broken;
 
@@ -59,14 +58,24 @@ fn text(word: Option<&str>) -> Result<Vec<u8>, Broken> {
             rest = after;
         }
     }
-    if bytes.len() <= LONGEST { Ok(bytes) } else { Err(Broken) }
+    if bytes.len() <= LONGEST {
+        Ok(bytes)
+    } else {
+        Err(Broken)
+    }
 }
 
 fn escaped(text: &[u8]) -> Option<u8> {
     let digits = text.get(..4)?.strip_prefix(b"\\x")?;
     let digits = std::str::from_utf8(digits).ok()?;
-    let lower = digits.bytes().all(|byte| matches!(byte, b'0'..=b'9' | b'a'..=b'f'));
-    if lower { u8::from_str_radix(digits, 16).ok() } else { None }
+    let lower = digits
+        .bytes()
+        .all(|byte| matches!(byte, b'0'..=b'9' | b'a'..=b'f'));
+    if lower {
+        u8::from_str_radix(digits, 16).ok()
+    } else {
+        None
+    }
 }
 
 struct Console<'a> {
@@ -133,8 +142,15 @@ impl Console<'_> {
         let name = words.next();
         let known = CALLS.iter().position(|call| Some(call.0) == name);
         let call = known.map_or_else(|| small(name), |at| Ok(at as u8 + 1))?;
-        let parts = CALLS.get(usize::from(call).wrapping_sub(1)).map_or("", |call| call.1);
-        let mut request = Request { process, call, descriptor: 0, number: 0 };
+        let parts = CALLS
+            .get(usize::from(call).wrapping_sub(1))
+            .map_or("", |call| call.1);
+        let mut request = Request {
+            process,
+            call,
+            descriptor: 0,
+            number: 0,
+        };
         let (mut path, mut data) = (Vec::new(), Vec::new());
         for part in parts.chars() {
             match part {
@@ -144,13 +160,21 @@ impl Console<'_> {
                 _ => data = text(words.next())?,
             }
         }
-        let size = if call == READ { usize::from(request.number) } else { 0 };
+        let size = if call == READ {
+            usize::from(request.number)
+        } else {
+            0
+        };
         if words.next().is_some() || size > LONGEST {
             return Err(Broken);
         }
         let mut buffer = vec![0; size];
         let answer = self.tables.call(request, &path, &data, &mut buffer);
-        let read = if call == READ { &buffer[..answer.value as usize] } else { &[] };
+        let read = if call == READ {
+            &buffer[..answer.value as usize]
+        } else {
+            &[]
+        };
         Ok(format!(": {}", answers::answer(&answer, read)))
     }
 
@@ -176,7 +200,10 @@ fn main() -> std::io::Result<()> {
     let mut script = String::new();
     std::io::stdin().read_to_string(&mut script)?;
     let head = script.lines().take_while(|line| !line.is_empty()).collect();
-    let mut console = Console { head, tables: Tables::empty() };
+    let mut console = Console {
+        head,
+        tables: Tables::empty(),
+    };
     let mut out = std::io::stdout().lock();
     for (at, line) in script.lines().enumerate() {
         match console.line(line) {

@@ -21,7 +21,12 @@ fn short(bytes: &[u8], at: usize) -> usize {
 fn words(bytes: &[u8]) -> Vec<u32> {
     bytes
         .chunks(4)
-        .map(|chunk| chunk.iter().rev().fold(0, |word, &byte| (word << 8) | u32::from(byte)))
+        .map(|chunk| {
+            chunk
+                .iter()
+                .rev()
+                .fold(0, |word, &byte| (word << 8) | u32::from(byte))
+        })
         .collect()
 }
 
@@ -33,7 +38,12 @@ fn put<T: Copy>(table: &mut [T], at: usize, values: &[T]) {
 
 /// FNV-1a in 32 bits, a word or a byte a turn.
 fn digest(tables: &Tables, buffer: &[u8]) -> u32 {
-    let bytes = |bytes: &[u8]| bytes.iter().map(|&byte| u32::from(byte)).collect::<Vec<u32>>();
+    let bytes = |bytes: &[u8]| {
+        bytes
+            .iter()
+            .map(|&byte| u32::from(byte))
+            .collect::<Vec<u32>>()
+    };
     let all = [
         tables.files.clone(),
         bytes(&tables.contents),
@@ -43,7 +53,9 @@ fn digest(tables: &Tables, buffer: &[u8]) -> u32 {
     ];
     all.concat()
         .iter()
-        .fold(2_166_136_261, |digest: u32, word| (digest ^ word).wrapping_mul(16_777_619))
+        .fold(2_166_136_261, |digest: u32, word| {
+            (digest ^ word).wrapping_mul(16_777_619)
+        })
 }
 
 fn line(answer: &Answer, read: &[u8], digest: u32) -> String {
@@ -61,7 +73,10 @@ fn line(answer: &Answer, read: &[u8], digest: u32) -> String {
 impl Replay {
     fn new() -> Replay {
         let [files, contents, opens, processes, policy] = ROOM;
-        Replay { tables: Tables::zero(files, contents, opens, processes, policy), sizes: SIZES }
+        Replay {
+            tables: Tables::zero(files, contents, opens, processes, policy),
+            sizes: SIZES,
+        }
     }
 
     fn set(&mut self, kind: u8, bytes: &[u8]) -> Option<()> {
@@ -86,10 +101,19 @@ impl Replay {
         };
         let (path, data) = rest.split_at_checked(usize::from(*length))?;
         let number = u16::from_le_bytes([*low, *high]);
-        let request = Request { process: *process, call: *call, descriptor: *descriptor, number };
+        let request = Request {
+            process: *process,
+            call: *call,
+            descriptor: *descriptor,
+            number,
+        };
         let mut buffer = vec![BUFFER_BYTE; short(bytes, 0).min(BUFFER)];
         let answer = self.answer(request, path, data, &mut buffer);
-        let read = if *call == READ { &buffer[..answer.value as usize] } else { &[] };
+        let read = if *call == READ {
+            &buffer[..answer.value as usize]
+        } else {
+            &[]
+        };
         Some(line(&answer, read, digest(&self.tables, &buffer)))
     }
 
