@@ -1,0 +1,13 @@
+-- A call and a test as they cross to C.
+use Prim.Native.Nat.{ℕ}
+use mathlib.Core.Bool.{Bool, cond}
+use mathlib.Core.List.{List}
+use Rattle.rules.specs.Calls.{Call}
+
+-- a call from the numbers and bytes of its parts
+abbrev pub numbered : (process call fd number : ℕ) → (path bytes buffer : List ℕ) → Call
+numbered p c i n path bytes buffer = record { process = record { 0 = p }; call = c; fd = record { 0 = i }; number = n; path = path; bytes = bytes; buffer = buffer }
+
+-- a test as a number
+unfoldable pub flag : Bool → ℕ
+flag b = cond b 1 0

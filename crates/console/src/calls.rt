@@ -1,0 +1,199 @@
+// A line that makes a call: the process, the call, and its parts.
+use crate::settings::Console;
+use crate::settings::with_known;
+use crate::words::find;
+use crate::words::head;
+use crate::words::index_of;
+use crate::words::number;
+use crate::words::print_text;
+use crate::words::unescape;
+use crate::words::word;
+use rules::answer::Answer;
+use rules::ids::Fd;
+use rules::ids::Pid;
+use rules::request::Request;
+use tables::parts::upto;
+
+// A call as the line has it: its numbers, and how many bytes its path, its bytes and its buffer have.
+struct Parsed {
+    known: bool,
+    request: Request,
+    path: usize,
+    bytes: usize,
+    buffer: usize,
+}
+
+// A call's number by its name, or as it stands, so that unknown ones can be made too.
+fn call_number(name: &[u8]) -> u64 {
+    let k = index_of(
+        b"open create mkdir unlink rmdir link list chmod stat close read write seek dup fork exit exec",
+        17,
+        name,
+    );
+    if k < 17 {
+        return k as u64 + 1;
+    }
+    number(name)
+}
+
+// The word that holds a part of a call, 0 where the call has none: f descriptor, n number, p path, d bytes or second
+// path. The words end at the dot.
+fn place(call: u64, part: u8) -> usize {
+    let row = if call < 18 { call as usize } else { 0 };
+    let parts = word(
+        b". np. np. np. p. p. pd. np. np. p. f. fn. fd. fn. f. . . p.",
+        row,
+    );
+    let k = find(parts, 0, part);
+    if k < parts.len() {
+        return k + 2;
+    }
+    0
+}
+
+fn number_at(line: &[u8], k: usize) -> u64 {
+    if k == 0 {
+        return 0;
+    }
+    number(word(line, k))
+}
+
+fn text_at(line: &[u8], k: usize, out: &mut [u8]) -> usize {
+    if k == 0 {
+        return 0;
+    }
+    unescape(word(line, k), out)
+}
+
+fn in_range(process: u64, call: u64, fd: u64, n: u64) -> bool {
+    process < 256 && call < 256 && fd < 256 && n < 65536
+}
+
+fn request(process: u64, call: u64, fd: u64, n: u64) -> Request {
+    Request {
+        process: Pid((process % 256) as u8),
+        call: (call % 256) as u8,
+        fd: Fd((fd % 256) as u8),
+        number: (n % 65536) as u16,
+    }
+}
+
+fn buffer_size(c: Request) -> usize {
+    if c.call == 11 {
+        return c.number as usize;
+    }
+    0
+}
+
+fn fits(path: usize, bytes: usize, buffer: usize) -> bool {
+    path <= 512 && bytes <= 512 && buffer <= 512
+}
+
+// The line's call, with its path and bytes.
+fn parse(line: &[u8], path: &mut [u8], bytes: &mut [u8]) -> Parsed {
+    let call = call_number(word(line, 1));
+    let process = number(word(line, 0));
+    let fd = number_at(line, place(call, b'f'));
+    let n = number_at(line, place(call, b'n'));
+    let ended = word(line, place(call, b'.')).len() == 0;
+    let p = text_at(line, place(call, b'p'), path);
+    let b = text_at(line, place(call, b'd'), bytes);
+    let c = request(process, call, fd, n);
+    let size = buffer_size(c);
+    Parsed {
+        known: in_range(process, call, fd, n) & fits(p, b, size) & ended,
+        request: c,
+        path: p,
+        bytes: b,
+        buffer: size,
+    }
+}
+
+fn first(buffer: &mut [u8], n: usize) -> &mut [u8] {
+    if n < buffer.len() {
+        return &mut buffer[0..n];
+    }
+    buffer
+}
+
+fn print_named(k: usize, value: u32) {
+    io::write_all(1, b" ");
+    io::write_all(
+        1,
+        word(
+            b"answer= stop= value= kind= owner= bits= label= length= names= stamp=",
+            k,
+        ),
+    );
+    io::print_decimal(1, value as u64);
+}
+
+fn print_fields(f: [u32; 8]) {
+    let mut k = 0;
+    while k < 7 {
+        print_named(k + 3, f[k]);
+        k += 1;
+    }
+}
+
+// The answer, with the listed name or the bytes read, or a file's fields: kind 0 is no file's.
+fn print_answer(a: Answer, buffer: &[u8]) {
+    io::write_all(1, b":");
+    print_named(0, a.refusal);
+    print_named(1, a.stop);
+    print_named(2, a.value);
+    io::write_all(1, b" bytes=");
+    let name = a.name;
+    print_text(upto(&name, a.name_length as usize));
+    print_text(upto(buffer, a.value as usize));
+    let fields = a.fields;
+    if fields[0] != 0 {
+        print_fields(fields);
+    }
+}
+
+fn serve(s: Console, c: Request, path: &[u8], bytes: &[u8], buffer: &mut [u8]) -> Console {
+    let mut files = s.files;
+    let mut contents = s.contents;
+    let mut opens = s.opens;
+    let mut processes = s.processes;
+    let policy = s.policy;
+    let a = store::call::call(
+        &mut files,
+        &mut contents,
+        &mut opens,
+        &mut processes,
+        &policy,
+        c,
+        path,
+        bytes,
+        buffer,
+    );
+    print_answer(a, buffer);
+    Console {
+        known: true,
+        files: files,
+        contents: contents,
+        opens: opens,
+        processes: processes,
+        policy: policy,
+    }
+}
+
+// A line that makes a call: its answer is written.
+pub fn call_line(s: Console, line: &[u8]) -> Console {
+    let mut path = [0u8; 512];
+    let mut bytes = [0u8; 512];
+    let mut buffer = [0u8; 512];
+    let c = parse(line, &mut path, &mut bytes);
+    if !c.known {
+        return with_known(s, false);
+    }
+    serve(
+        s,
+        c.request,
+        head(&path, c.path),
+        head(&bytes, c.bytes),
+        first(&mut buffer, c.buffer),
+    )
+}

@@ -1,0 +1,70 @@
+// Runs a script of calls on the test console, and writes each line with its answer. docs/console.md has the lines.
+mod calls;
+mod settings;
+mod words;
+
+use calls::call_line;
+use settings::Console;
+use settings::empty;
+use settings::fresh;
+use settings::line_at;
+use settings::next_line;
+use settings::set_line;
+use settings::show_line;
+use settings::with_known;
+use tables::words::byte;
+use words::index_of;
+use words::word;
+
+// Empty lines and comments.
+fn is_silent(line: &[u8]) -> bool {
+    match byte(line, 0) {
+        0 | b'#' => true,
+        _ => false,
+    }
+}
+
+fn take(s: Console, script: &[u8], line: &[u8]) -> Console {
+    if is_silent(line) {
+        return with_known(s, true);
+    }
+    let kind = index_of(b"fresh set show", 3, word(line, 0));
+    match kind {
+        0 => fresh(script),
+        1 => set_line(s, line),
+        2 => show_line(s, line),
+        _ => call_line(s, line),
+    }
+}
+
+fn end_line(known: bool, n: usize) {
+    if !known {
+        io::write_all(1, b": not understood, line ");
+        io::print_decimal(1, n as u64);
+    }
+    io::write_all(1, b"\n");
+}
+
+// A script has at most as many lines as bytes.
+fn run(script: &[u8]) {
+    let mut s = empty();
+    let mut at = 0;
+    let mut n = 0;
+    while n < script.len() {
+        if script.len() <= at {
+            return;
+        }
+        n += 1;
+        let line = line_at(script, at);
+        io::write_all(1, line);
+        s = take(s, script, line);
+        end_line(s.known, n);
+        at = next_line(script, at);
+    }
+}
+
+fn main() {
+    let mut script = io::large_buffer();
+    let n = io::read_full(0, &mut script);
+    run(&script[..n]);
+}

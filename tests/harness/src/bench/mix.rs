@@ -1,0 +1,106 @@
+//! Lists of mixed calls, recorded once and run on every side alike.
+
+use super::timing::{nanoseconds, side_by_side};
+use crate::call::Call;
+use crate::chance::Chance;
+use crate::generate::{random_store, CallMaker};
+use crate::programs::*;
+use crate::tables::Tables;
+use std::hint::black_box;
+
+/// A store, and calls that follow each other on it.
+pub struct Scene {
+    pub start: Tables,
+    pub calls: Vec<Call>,
+    pub granted: usize,
+}
+
+impl Scene {
+    pub fn random(chance: &mut Chance, calls: usize) -> Scene {
+        let start = random_store(chance);
+        let mut tables = start.clone();
+        let mut maker = CallMaker::new(&tables);
+        let mut scene = Scene {
+            start,
+            calls: Vec::new(),
+            granted: 0,
+        };
+        for _ in 0..calls {
+            let call = maker.call(chance, &tables);
+            let mut buffer = call.buffer.clone();
+            let answer = reference_act(&mut tables, &call, &mut buffer);
+            if answer.refusal == 0 {
+                scene.granted += 1;
+                if call.changes_names() {
+                    maker.refresh(&tables);
+                }
+            }
+            scene.calls.push(call);
+        }
+        scene
+    }
+}
+
+/// One side: a program's call, whose answer is thrown away.
+pub type Side = fn(&mut Tables, &Call, &mut [u8]);
+
+pub fn store_calls(tables: &mut Tables, call: &Call, buffer: &mut [u8]) {
+    black_box(store_call(tables, call, buffer));
+}
+
+pub fn store_acts(tables: &mut Tables, call: &Call, buffer: &mut [u8]) {
+    black_box(store_act(tables, call, buffer));
+}
+
+pub fn reference_calls(tables: &mut Tables, call: &Call, buffer: &mut [u8]) {
+    black_box(reference_call(tables, call, buffer));
+}
+
+pub fn reference_acts(tables: &mut Tables, call: &Call, buffer: &mut [u8]) {
+    black_box(reference_act(tables, call, buffer));
+}
+
+/// Nanoseconds for a call, over all calls of the scenes; stores are put back
+/// outside the measured time.
+pub fn time_scenes(side: Side, scenes: &[Scene]) -> f64 {
+    let mut tables = Tables::blank();
+    let mut buffer = vec![0; 1024];
+    let mut total = 0.0;
+    let mut calls = 0;
+    for scene in scenes {
+        tables.copy_from(&scene.start);
+        calls += scene.calls.len();
+        total += nanoseconds(|| {
+            for call in &scene.calls {
+                side(&mut tables, call, &mut buffer[..call.buffer.len()]);
+            }
+        });
+    }
+    total / calls as f64
+}
+
+/// Medians of the store and the reference on the same scenes.
+pub fn compare_sides(store: Side, reference: Side, scenes: &[Scene]) -> [f64; 2] {
+    side_by_side([&mut || time_scenes(store, scenes), &mut || {
+        time_scenes(reference, scenes)
+    }])
+}
+
+/// Nanoseconds for a soundness test of the scenes' stores.
+fn time_soundness(sound: fn(&Tables) -> bool, scenes: &[Scene]) -> f64 {
+    const TURNS: usize = 200;
+    let total = nanoseconds(|| {
+        for scene in scenes {
+            for _ in 0..TURNS {
+                assert!(sound(black_box(&scene.start)));
+            }
+        }
+    });
+    total / (TURNS * scenes.len()) as f64
+}
+
+pub fn compare_soundness(scenes: &[Scene]) -> [f64; 2] {
+    side_by_side([&mut || time_soundness(store_sound, scenes), &mut || {
+        time_soundness(reference_sound, scenes)
+    }])
+}

@@ -1,0 +1,9 @@
+//! The benchmark: the proved store beside the second program and a tmpfs.
+
+pub mod growth;
+pub mod kinds;
+pub mod mix;
+pub mod stores;
+pub mod system;
+pub mod timing;
+pub mod undo;

@@ -1,0 +1,167 @@
+//! "All fields in range"; free records, entries and processes are zero.
+
+use super::pick::*;
+use super::Break;
+use crate::chance::Chance;
+use crate::layout::*;
+use crate::tables::Tables;
+
+const RANGE: &str = "all fields in range";
+const FREE_ZERO: &str = "free ones are zero";
+
+pub const FIELDS: &[(&str, &str, Break)] = &[
+    (RANGE, "kind over 2", kind),
+    (RANGE, "owner over 65,535", owner),
+    (RANGE, "bits over 7", bits),
+    (RANGE, "file label over 15", file_label),
+    (RANGE, "open slot over 63", open_slot),
+    (RANGE, "mode 0", mode_zero),
+    (RANGE, "mode over 4", mode_over),
+    (RANGE, "position over 512", position),
+    (RANGE, "in-use mark over 1", used_mark),
+    (RANGE, "user over 65,535", user),
+    (RANGE, "process label over 15", process_label),
+    (RANGE, "descriptor over 32", descriptor),
+    (RANGE, "rights over 7", rights),
+    (
+        RANGE,
+        "transition neither to a label nor 255",
+        policy_transition,
+    ),
+    (FREE_ZERO, "free record with a field", free_record),
+    (FREE_ZERO, "free entry with a field", free_entry),
+    (FREE_ZERO, "free process with user or label", free_process),
+    (
+        FREE_ZERO,
+        "free process with a descriptor",
+        free_process_holds,
+    ),
+];
+
+fn kind(tables: &mut Tables, chance: &mut Chance) -> Option<()> {
+    let slot = chance.below(SLOTS);
+    let word = over(chance, DIRECTORY);
+    tables.set_file(slot, KIND, word);
+    Some(())
+}
+
+fn file_field(tables: &mut Tables, chance: &mut Chance, column: usize, highest: u32) -> Option<()> {
+    let slot = slot_in_use(tables, chance)?;
+    let word = over(chance, highest);
+    tables.set_file(slot, column, word);
+    Some(())
+}
+
+fn owner(tables: &mut Tables, chance: &mut Chance) -> Option<()> {
+    file_field(tables, chance, OWNER, 65_535)
+}
+
+fn bits(tables: &mut Tables, chance: &mut Chance) -> Option<()> {
+    file_field(tables, chance, BITS, 7)
+}
+
+fn file_label(tables: &mut Tables, chance: &mut Chance) -> Option<()> {
+    file_field(tables, chance, LABEL, 15)
+}
+
+fn open_field(tables: &mut Tables, chance: &mut Chance, column: usize, highest: u32) -> Option<()> {
+    let entry = open_file(tables, chance, true)?;
+    let word = over(chance, highest);
+    tables.set_open_file(entry, column, word);
+    Some(())
+}
+
+/// The entry is a new one, so that no file loses what keeps it.
+fn open_slot(tables: &mut Tables, chance: &mut Chance) -> Option<()> {
+    let entry = open_by_someone(tables, chance, 0)?;
+    let word = over(chance, SLOTS as u32 - 1);
+    tables.set_open_file(entry, SLOT, word);
+    Some(())
+}
+
+fn mode_zero(tables: &mut Tables, chance: &mut Chance) -> Option<()> {
+    let entry = open_file(tables, chance, true)?;
+    tables.set_open_file(entry, MODE, 0);
+    Some(())
+}
+
+fn mode_over(tables: &mut Tables, chance: &mut Chance) -> Option<()> {
+    open_field(tables, chance, MODE, 4)
+}
+
+fn position(tables: &mut Tables, chance: &mut Chance) -> Option<()> {
+    open_field(tables, chance, OFFSET, BLOCK as u32)
+}
+
+fn process_field(
+    tables: &mut Tables,
+    chance: &mut Chance,
+    column: usize,
+    highest: u32,
+) -> Option<()> {
+    let process = process(tables, chance, true)?;
+    let word = over(chance, highest);
+    tables.set_process(process, column, word);
+    Some(())
+}
+
+fn used_mark(tables: &mut Tables, chance: &mut Chance) -> Option<()> {
+    process_field(tables, chance, USED, 1)
+}
+
+fn user(tables: &mut Tables, chance: &mut Chance) -> Option<()> {
+    process_field(tables, chance, USER, 65_535)
+}
+
+fn process_label(tables: &mut Tables, chance: &mut Chance) -> Option<()> {
+    process_field(tables, chance, DOMAIN, 15)
+}
+
+fn descriptor(tables: &mut Tables, chance: &mut Chance) -> Option<()> {
+    let (process, descriptor) = free_descriptor(tables, chance)?;
+    let word = over(chance, OPENS as u32);
+    tables.set_descriptor(process, descriptor, word);
+    Some(())
+}
+
+fn rights(tables: &mut Tables, chance: &mut Chance) -> Option<()> {
+    tables.policy[chance.below(RIGHTS)] = chance.pick(&[8, 9, 15, 16, 128, 255]);
+    Some(())
+}
+
+fn policy_transition(tables: &mut Tables, chance: &mut Chance) -> Option<()> {
+    tables.policy[RIGHTS + chance.below(RIGHTS)] = chance.pick(&[16, 17, 100, 128, 254]);
+    Some(())
+}
+
+fn free_record(tables: &mut Tables, chance: &mut Chance) -> Option<()> {
+    let slot = slot_of(tables, chance, FREE)?;
+    let column = chance.pick(&[OWNER, BITS, LABEL, LENGTH, LINKS]);
+    tables.set_file(slot, column, 1);
+    Some(())
+}
+
+fn free_entry(tables: &mut Tables, chance: &mut Chance) -> Option<()> {
+    let entry = open_file(tables, chance, false)?;
+    let column = chance.pick(&[SLOT, MODE, OFFSET]);
+    let word = chance.pick(&[1, 2, 63, 512, u32::MAX]);
+    tables.set_open_file(entry, column, word);
+    Some(())
+}
+
+fn free_process(tables: &mut Tables, chance: &mut Chance) -> Option<()> {
+    let process = process(tables, chance, false)?;
+    let column = chance.pick(&[USER, DOMAIN]);
+    tables.set_process(process, column, 1);
+    Some(())
+}
+
+/// The reference is counted, so that only the free process is wrong.
+fn free_process_holds(tables: &mut Tables, chance: &mut Chance) -> Option<()> {
+    let process = process(tables, chance, false)?;
+    let entry = open_file(tables, chance, true)?;
+    let references = tables.open_file(entry, REFERENCES);
+    tables.set_descriptor(process, chance.below(DESCRIPTORS), entry as u32 + 1);
+    tables.set_open_file(entry, REFERENCES, references + 1);
+    Some(())
+}

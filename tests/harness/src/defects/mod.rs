@@ -1,0 +1,30 @@
+//! Stores with one defect: for each clause of "Sound", the ways to break it alone.
+
+mod fields;
+mod names;
+mod opens;
+mod pick;
+mod zeros;
+
+use crate::chance::Chance;
+use crate::tables::Tables;
+
+/// Breaks a sound store in one way; `None` where this store has no place for it,
+/// and then the store may be half changed.
+pub type Break = fn(&mut Tables, &mut Chance) -> Option<()>;
+
+pub struct Defect {
+    pub clause: &'static str,
+    pub name: &'static str,
+    pub make: Break,
+}
+
+/// The defects of all clauses, in the paper's order.
+pub fn all() -> Vec<Defect> {
+    let groups = [fields::FIELDS, names::NAMES, opens::OPENS, zeros::ZEROS];
+    groups
+        .into_iter()
+        .flatten()
+        .map(|&(clause, name, make)| Defect { clause, name, make })
+        .collect()
+}

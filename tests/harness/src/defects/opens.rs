@@ -1,0 +1,71 @@
+//! The clauses on what keeps a file, open entries and references.
+
+use super::pick::*;
+use super::Break;
+use crate::chance::Chance;
+use crate::layout::*;
+use crate::tables::Tables;
+
+const KEPT: &str = "each plain file named or open";
+const ON_PLAIN: &str = "open entries only on plain files";
+const REFERRED: &str = "references equal to the descriptors counted";
+
+pub const OPENS: &[(&str, &str, Break)] = &[
+    (KEPT, "plain file neither named nor open", kept_by_nothing),
+    (ON_PLAIN, "open directory", open_directory),
+    (ON_PLAIN, "open free slot", open_free),
+    (REFERRED, "one reference too many", one_more),
+    (REFERRED, "one reference too few", one_less),
+    (REFERRED, "open entry that nobody holds", nobody_holds),
+    (REFERRED, "descriptor on a free entry", holds_free),
+];
+
+fn kept_by_nothing(tables: &mut Tables, chance: &mut Chance) -> Option<()> {
+    let slot = slot_of(tables, chance, FREE)?;
+    tables.set_file(slot, KIND, PLAIN);
+    Some(())
+}
+
+fn open_directory(tables: &mut Tables, chance: &mut Chance) -> Option<()> {
+    let slot = slot_of(tables, chance, DIRECTORY)?;
+    open_by_someone(tables, chance, slot)?;
+    Some(())
+}
+
+fn open_free(tables: &mut Tables, chance: &mut Chance) -> Option<()> {
+    let slot = slot_of(tables, chance, FREE)?;
+    open_by_someone(tables, chance, slot)?;
+    Some(())
+}
+
+fn one_more(tables: &mut Tables, chance: &mut Chance) -> Option<()> {
+    let entry = open_file(tables, chance, true)?;
+    let references = tables.open_file(entry, REFERENCES);
+    let change = chance.pick(&[1, 2, 256, 65_536]);
+    tables.set_open_file(entry, REFERENCES, references + change);
+    Some(())
+}
+
+fn one_less(tables: &mut Tables, chance: &mut Chance) -> Option<()> {
+    let entry = open_file(tables, chance, true)?;
+    let references = tables.open_file(entry, REFERENCES);
+    tables.set_open_file(entry, REFERENCES, references - 1);
+    Some(())
+}
+
+fn nobody_holds(tables: &mut Tables, chance: &mut Chance) -> Option<()> {
+    let slot = slot_of(tables, chance, PLAIN)?;
+    let entry = open_file(tables, chance, false)?;
+    tables.set_open_file(entry, SLOT, slot as u32);
+    tables.set_open_file(entry, MODE, 1);
+    let references = chance.pick(&[0, 1]);
+    tables.set_open_file(entry, REFERENCES, references);
+    Some(())
+}
+
+fn holds_free(tables: &mut Tables, chance: &mut Chance) -> Option<()> {
+    let entry = open_file(tables, chance, false)?;
+    let (process, descriptor) = free_descriptor(tables, chance)?;
+    tables.set_descriptor(process, descriptor, entry as u32 + 1);
+    Some(())
+}

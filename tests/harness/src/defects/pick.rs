@@ -1,0 +1,85 @@
+//! Parts of a store by chance, where it has such a part.
+
+use crate::chance::Chance;
+use crate::layout::*;
+use crate::tables::Tables;
+
+pub fn slot_of(tables: &Tables, chance: &mut Chance, kind: u32) -> Option<usize> {
+    chance.pick_where(SLOTS, |slot| tables.is_kind(slot, kind))
+}
+
+/// A directory other than the root.
+pub fn subdirectory(tables: &Tables, chance: &mut Chance) -> Option<usize> {
+    chance.pick_where(SLOTS, |slot| slot > 0 && tables.is_kind(slot, DIRECTORY))
+}
+
+pub fn slot_in_use(tables: &Tables, chance: &mut Chance) -> Option<usize> {
+    chance.pick_where(SLOTS, |slot| !tables.is_kind(slot, FREE))
+}
+
+/// A place of a directory that names something, or one that is empty.
+pub fn dirent(tables: &Tables, chance: &mut Chance, used: bool) -> Option<(usize, usize)> {
+    let holds = |slot: usize, place: usize| (tables.dirent_slot(slot, place) != 0) == used;
+    let fit = |slot: usize| {
+        tables.is_kind(slot, DIRECTORY) && (0..DIRENTS).any(|place| holds(slot, place))
+    };
+    let directory = chance.pick_where(SLOTS, fit)?;
+    let place = chance.pick_where(DIRENTS, |place| holds(directory, place))?;
+    Some((directory, place))
+}
+
+/// A name that the directory does not have.
+pub fn fresh_name(tables: &Tables, directory: usize) -> Vec<u8> {
+    (0..)
+        .map(|number: u32| format!("new{number}").into_bytes())
+        .find(|name| !tables.has_name(directory, name))
+        .unwrap_or_default()
+}
+
+pub fn open_file(tables: &Tables, chance: &mut Chance, used: bool) -> Option<usize> {
+    chance.pick_where(OPENS, |entry| {
+        (tables.open_file(entry, REFERENCES) > 0) == used
+    })
+}
+
+pub fn process(tables: &Tables, chance: &mut Chance, used: bool) -> Option<usize> {
+    chance.pick_where(PROCESSES, |process| {
+        (tables.process(process, USED) == 1) == used
+    })
+}
+
+/// A descriptor of a process in use that holds nothing.
+pub fn free_descriptor(tables: &Tables, chance: &mut Chance) -> Option<(usize, usize)> {
+    let free = |process: usize, descriptor: usize| tables.descriptor(process, descriptor) == 0;
+    let fit = |process: usize| {
+        tables.process(process, USED) == 1
+            && (0..DESCRIPTORS).any(|descriptor| free(process, descriptor))
+    };
+    let process = chance.pick_where(PROCESSES, fit)?;
+    let descriptor = chance.pick_where(DESCRIPTORS, |descriptor| free(process, descriptor))?;
+    Some((process, descriptor))
+}
+
+/// Opens a slot in an entry and descriptor that are free, counts right.
+pub fn open_by_someone(tables: &mut Tables, chance: &mut Chance, slot: usize) -> Option<usize> {
+    let entry = open_file(tables, chance, false)?;
+    let (process, descriptor) = free_descriptor(tables, chance)?;
+    tables.set_descriptor(process, descriptor, entry as u32 + 1);
+    tables.set_open_file(entry, SLOT, slot as u32);
+    tables.set_open_file(entry, MODE, 1);
+    tables.set_open_file(entry, REFERENCES, 1);
+    Some(entry)
+}
+
+/// A word over the limit: just over it, far over it, or wrapping in 8 or 16 bits.
+pub fn over(chance: &mut Chance, limit: u32) -> u32 {
+    let any = chance.word() as u32;
+    chance.pick(&[
+        limit + 1,
+        limit + 2,
+        limit + 256,
+        limit + 65_536,
+        u32::MAX,
+        any.max(limit + 1),
+    ])
+}

@@ -1,0 +1,78 @@
+//! What the stores made by chance have: shows that the generator gets there.
+
+use crate::layout::*;
+use crate::tables::Tables;
+use crate::tree;
+
+type Test = fn(&Tables) -> bool;
+
+const FEATURES: [(&str, Test); 9] = [
+    ("a directory 8 names deep", eight_deep),
+    ("a directory with 16 names", full_directory),
+    ("no free slot", no_free_slot),
+    ("no free open entry", no_free_entry),
+    ("no free process", no_free_process),
+    ("an open entry with several references", shared_entry),
+    ("an open file without a name", unnamed),
+    ("a stamp at the wrap", at_wrap),
+    ("a transition", has_transition),
+];
+
+#[derive(Default)]
+pub struct Features([u64; FEATURES.len()]);
+
+impl Features {
+    pub fn count(&mut self, tables: &Tables) {
+        for (count, (_, test)) in self.0.iter_mut().zip(FEATURES) {
+            *count += u64::from(test(tables));
+        }
+    }
+
+    pub fn print(&self) {
+        println!("\nsound stores, before the first call, with");
+        for (count, (name, _)) in self.0.iter().zip(FEATURES) {
+            println!("{count:>7}  {name}");
+        }
+    }
+}
+
+fn eight_deep(tables: &Tables) -> bool {
+    tree::nodes(tables)
+        .iter()
+        .any(|node| node.depth == DEEPEST && tables.is_kind(node.slot, DIRECTORY))
+}
+
+fn full_directory(tables: &Tables) -> bool {
+    (0..SLOTS)
+        .any(|slot| tables.is_kind(slot, DIRECTORY) && tables.file(slot, LENGTH) == DIRENTS as u32)
+}
+
+fn no_free_slot(tables: &Tables) -> bool {
+    (0..SLOTS).all(|slot| !tables.is_kind(slot, FREE))
+}
+
+fn no_free_entry(tables: &Tables) -> bool {
+    (0..OPENS).all(|entry| tables.open_file(entry, REFERENCES) > 0)
+}
+
+fn no_free_process(tables: &Tables) -> bool {
+    (0..PROCESSES).all(|process| tables.process(process, USED) == 1)
+}
+
+fn shared_entry(tables: &Tables) -> bool {
+    (0..OPENS).any(|entry| tables.open_file(entry, REFERENCES) > 1)
+}
+
+fn unnamed(tables: &Tables) -> bool {
+    (0..SLOTS).any(|slot| tables.is_kind(slot, PLAIN) && tables.file(slot, LINKS) == 0)
+}
+
+fn at_wrap(tables: &Tables) -> bool {
+    (0..SLOTS).any(|slot| tables.file(slot, VERSION) == u32::MAX)
+}
+
+fn has_transition(tables: &Tables) -> bool {
+    tables.policy[RIGHTS..]
+        .iter()
+        .any(|&label| label != NO_TRANSITION)
+}

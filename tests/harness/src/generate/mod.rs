@@ -1,0 +1,11 @@
+//! Stores, paths and calls by chance.
+
+pub mod calls;
+pub mod names;
+pub mod opens;
+pub mod paths;
+pub mod shape;
+pub mod store;
+
+pub use calls::CallMaker;
+pub use store::random_store;

@@ -1,0 +1,86 @@
+//! Open files for a store by chance: shared ones, and ones without a name.
+
+use super::shape::Shape;
+use crate::chance::Chance;
+use crate::layout::*;
+use crate::tables::Tables;
+
+/// Opens files in any entries and descriptors; takes free slots for files
+/// without a name.
+pub fn add_open_files(
+    chance: &mut Chance,
+    shape: &Shape,
+    tables: &mut Tables,
+    mut free_slots: Vec<usize>,
+) {
+    let mut places = free_descriptors(tables);
+    if !shape.packed {
+        chance.shuffle(&mut places);
+    }
+    let mut entries: Vec<usize> = (0..OPENS).collect();
+    if chance.percent(70) {
+        chance.shuffle(&mut entries);
+    }
+    for (count, &entry) in entries[..shape.opens].iter().enumerate() {
+        let to_come = shape.opens - count - 1;
+        let Some(sharers) = sharers(chance, places.len(), to_come) else {
+            return;
+        };
+        let unnamed = (count < shape.unnamed).then(|| free_slots.pop()).flatten();
+        let Some(slot) = unnamed
+            .map(|slot| make_unnamed(chance, tables, slot))
+            .or_else(|| chance.pick_where(SLOTS, |slot| tables.is_kind(slot, PLAIN)))
+        else {
+            continue;
+        };
+        open(chance, tables, entry, slot, sharers);
+        for (process, descriptor) in places.drain(..sharers) {
+            tables.set_descriptor(process, descriptor, entry as u32 + 1);
+        }
+    }
+}
+
+/// How many descriptors are to hold an entry: often one, and never so many
+/// that none is left for an entry to come.
+fn sharers(chance: &mut Chance, free: usize, to_come: usize) -> Option<usize> {
+    let spare = free.checked_sub(1)?.saturating_sub(to_come);
+    if spare > 0 && chance.one_in(3) {
+        Some(1 + chance.between(1, spare.min(4)))
+    } else {
+        Some(1)
+    }
+}
+
+/// All descriptors of the processes in use.
+fn free_descriptors(tables: &Tables) -> Vec<(usize, usize)> {
+    (0..PROCESSES)
+        .filter(|&process| tables.process(process, USED) == 1)
+        .flat_map(|process| (0..DESCRIPTORS).map(move |descriptor| (process, descriptor)))
+        .collect()
+}
+
+/// A plain file that only its open files keep.
+fn make_unnamed(chance: &mut Chance, tables: &mut Tables, slot: usize) -> usize {
+    let length = chance.below(BLOCK + 1);
+    let version = tables.file(slot, VERSION);
+    let label = chance.below(LABELS) as u32;
+    tables.set_record(slot, [PLAIN, 10, 7, label, length as u32, 0, version]);
+    let bytes = chance.bytes(length);
+    tables.block_mut(slot)[..length].copy_from_slice(&bytes);
+    slot
+}
+
+fn open(chance: &mut Chance, tables: &mut Tables, entry: usize, slot: usize, sharers: usize) {
+    let length = tables.file(slot, LENGTH);
+    let offset = match chance.below(6) {
+        0 => length,
+        1 => BLOCK as u32,
+        2 => chance.below(BLOCK + 1) as u32,
+        3 => chance.below(length as usize + 1) as u32,
+        _ => 0,
+    };
+    tables.set_open_file(entry, SLOT, slot as u32);
+    tables.set_open_file(entry, MODE, chance.pick(&[1, 2, 3, 3, 4]));
+    tables.set_open_file(entry, OFFSET, offset);
+    tables.set_open_file(entry, REFERENCES, sharers as u32);
+}

@@ -1,0 +1,90 @@
+//! What kind of store is to be made: how full, how deep, how strict.
+
+use crate::chance::Chance;
+use crate::layout::{DESCRIPTORS, LABELS, OPENS, PROCESSES, SLOTS};
+
+/// Where new names go.
+#[derive(Clone, Copy, PartialEq, Eq)]
+pub enum Spread {
+    /// Into the newest directory, so that chains get long.
+    Deep,
+    /// Into the oldest directory with room, so that directories get full.
+    Wide,
+    Even,
+}
+
+#[derive(Clone, Copy, PartialEq, Eq)]
+pub enum Strictness {
+    /// Nearly every right.
+    Generous,
+    /// More than half of the rights.
+    Mixed,
+    /// Rights by chance.
+    Strict,
+}
+
+pub struct Shape {
+    /// Named files, the root not counted.
+    pub files: usize,
+    /// How many in a hundred of them are directories.
+    pub directories: usize,
+    pub spread: Spread,
+    pub processes: usize,
+    pub opens: usize,
+    /// Open files without a name among the open ones, at most.
+    pub unnamed: usize,
+    /// Descriptors are given out process by process, so that some have all.
+    pub packed: bool,
+    /// Users and labels are drawn from this many.
+    pub users: usize,
+    pub labels: usize,
+    pub strictness: Strictness,
+    /// How many in a hundred transitions lead somewhere.
+    pub transitions: usize,
+    /// How many in a hundred versions stand at the wrap.
+    pub wrapping: usize,
+}
+
+impl Shape {
+    pub fn random(chance: &mut Chance) -> Shape {
+        let processes = chance.pick(&[1, 2, 3, 4, 4, 5, 6, 7, 8]);
+        let most_open = (processes * DESCRIPTORS).min(OPENS);
+        let opens = match chance.below(5) {
+            0 => 0,
+            1 => most_open,
+            _ => chance.below(most_open + 1),
+        };
+        Shape {
+            files: Shape::files(chance),
+            directories: chance.pick(&[10, 25, 40, 60]),
+            spread: chance.pick(&[Spread::Deep, Spread::Wide, Spread::Even]),
+            processes: processes.min(PROCESSES),
+            opens,
+            unnamed: chance.pick(&[0, 1, 2, 5]),
+            packed: chance.one_in(3),
+            users: chance.pick(&[1, 2, 3, 4]),
+            labels: chance.pick(&[1, 2, 4, LABELS]),
+            strictness: Shape::strictness(chance),
+            transitions: chance.pick(&[0, 5, 30, 100]),
+            wrapping: chance.pick(&[0, 20, 100]),
+        }
+    }
+
+    /// Few, some or all slots.
+    fn files(chance: &mut Chance) -> usize {
+        match chance.below(6) {
+            0 => chance.below(5),
+            1 => SLOTS - 1,
+            2 => chance.between(SLOTS - 8, SLOTS - 1),
+            _ => chance.between(5, SLOTS - 12),
+        }
+    }
+
+    fn strictness(chance: &mut Chance) -> Strictness {
+        match chance.below(8) {
+            0 => Strictness::Strict,
+            1 | 2 => Strictness::Mixed,
+            _ => Strictness::Generous,
+        }
+    }
+}

@@ -1,0 +1,202 @@
+//! Sound stores by chance, written straight into the tables.
+
+use super::names::name;
+use super::opens::add_open_files;
+use super::shape::{Shape, Spread, Strictness};
+use crate::chance::Chance;
+use crate::layout::*;
+use crate::tables::Tables;
+
+const USERS: [u32; 4] = [0, 10, 20, 65_535];
+
+struct Maker<'a> {
+    chance: &'a mut Chance,
+    shape: Shape,
+    tables: Tables,
+    /// Directories with the number of names in their paths.
+    directories: Vec<(usize, usize)>,
+    free_slots: Vec<usize>,
+}
+
+/// A sound store: any tree, any open files, any policy.
+pub fn random_store(chance: &mut Chance) -> Tables {
+    let shape = Shape::random(chance);
+    store_of(chance, shape)
+}
+
+pub fn store_of(chance: &mut Chance, shape: Shape) -> Tables {
+    let mut free_slots: Vec<usize> = (1..SLOTS).collect();
+    if chance.percent(70) {
+        chance.shuffle(&mut free_slots);
+    } else {
+        free_slots.reverse();
+    }
+    let mut maker = Maker {
+        chance,
+        shape,
+        tables: Tables::blank(),
+        directories: vec![(0, 0)],
+        free_slots,
+    };
+    maker.set_policy();
+    maker.set_versions();
+    maker.set_root();
+    maker.grow();
+    maker.add_links();
+    maker.add_processes();
+    let Maker {
+        chance,
+        shape,
+        mut tables,
+        free_slots,
+        ..
+    } = maker;
+    add_open_files(chance, &shape, &mut tables, free_slots);
+    tables
+}
+
+impl Maker<'_> {
+    fn set_policy(&mut self) {
+        for cell in 0..RIGHTS {
+            let all = match self.shape.strictness {
+                Strictness::Generous => 97,
+                Strictness::Mixed => 60,
+                Strictness::Strict => 10,
+            };
+            let any = self.chance.below(8) as u8;
+            self.tables.policy[cell] = if self.chance.percent(all) { 7 } else { any };
+            if self.chance.percent(self.shape.transitions) {
+                self.tables.policy[RIGHTS + cell] = self.label() as u8;
+            }
+        }
+    }
+
+    /// Free slots have versions too.
+    fn set_versions(&mut self) {
+        for slot in 0..SLOTS {
+            let version = if self.chance.percent(self.shape.wrapping) {
+                u32::MAX - self.chance.pick(&[0, 0, 0, 1, 2])
+            } else {
+                self.chance.word() as u32 >> self.chance.below(32)
+            };
+            self.tables.set_file(slot, VERSION, version);
+        }
+    }
+
+    fn set_root(&mut self) {
+        let (owner, bits, label) = (self.user(), self.bits(), self.label());
+        self.tables.set_file(0, OWNER, owner);
+        self.tables.set_file(0, BITS, bits | SEARCH);
+        self.tables.set_file(0, LABEL, label);
+    }
+
+    fn grow(&mut self) {
+        for _ in 0..self.shape.files {
+            let Some((parent, depth)) = self.parent() else {
+                return;
+            };
+            let Some(slot) = self.free_slots.pop() else {
+                return;
+            };
+            let directory = depth < DEEPEST && self.chance.percent(self.shape.directories);
+            if directory {
+                self.directories.push((slot, depth + 1));
+            }
+            self.set_file(slot, if directory { DIRECTORY } else { PLAIN });
+            self.name(parent, slot);
+        }
+    }
+
+    /// A directory with an empty place, and its depth.
+    fn parent(&mut self) -> Option<(usize, usize)> {
+        let tables = &self.tables;
+        let roomy = |&(slot, _): &(usize, usize)| tables.file(slot, LENGTH) < DIRENTS as u32;
+        let fit: Vec<(usize, usize)> = self.directories.iter().copied().filter(roomy).collect();
+        if fit.is_empty() {
+            return None;
+        }
+        Some(match self.shape.spread {
+            Spread::Deep if self.chance.percent(60) => fit[fit.len() - 1],
+            Spread::Wide if self.chance.percent(80) => fit[0],
+            _ => self.chance.pick(&fit),
+        })
+    }
+
+    fn set_file(&mut self, slot: usize, kind: u32) {
+        let (owner, bits, label) = (self.user(), self.bits(), self.label());
+        let version = self.tables.file(slot, VERSION);
+        let length = if kind == PLAIN { self.length() } else { 0 };
+        let record = [kind, owner, bits, label, length as u32, 0, version];
+        self.tables.set_record(slot, record);
+        let bytes = self.chance.bytes(length);
+        self.tables.block_mut(slot)[..length].copy_from_slice(&bytes);
+    }
+
+    fn length(&mut self) -> usize {
+        match self.chance.below(6) {
+            0 => 0,
+            1 => BLOCK,
+            2 => BLOCK - self.chance.below(20),
+            _ => self.chance.below(60),
+        }
+    }
+
+    /// Gives the slot a name that is new in the directory, in any empty place.
+    fn name(&mut self, directory: usize, slot: usize) {
+        let tables = &self.tables;
+        let empty = |place| tables.dirent_slot(directory, place) == 0;
+        let Some(place) = self.chance.pick_where(DIRENTS, empty) else {
+            return;
+        };
+        let short = self.shape.spread == Spread::Deep || self.chance.percent(60);
+        let mut fresh = name(self.chance, short);
+        while self.tables.has_name(directory, &fresh) {
+            fresh = name(self.chance, short);
+        }
+        self.tables.add_name(directory, place, &fresh, slot);
+    }
+
+    /// Further names for some plain files.
+    fn add_links(&mut self) {
+        for _ in 0..self.chance.below(12) {
+            let tables = &self.tables;
+            let plain = |slot| tables.is_kind(slot, PLAIN);
+            let Some(slot) = self.chance.pick_where(SLOTS, plain) else {
+                return;
+            };
+            if let Some((parent, _)) = self.parent() {
+                self.name(parent, slot);
+            }
+        }
+    }
+
+    fn add_processes(&mut self) {
+        let mut numbers: Vec<usize> = (0..PROCESSES).collect();
+        self.chance.shuffle(&mut numbers);
+        for &process in &numbers[..self.shape.processes] {
+            let (user, label) = (self.user(), self.label());
+            self.tables.set_process(process, USED, 1);
+            self.tables.set_process(process, USER, user);
+            self.tables.set_process(process, DOMAIN, label);
+        }
+    }
+
+    fn user(&mut self) -> u32 {
+        match self.chance.below(20) {
+            0 => self.chance.below(65_536) as u32,
+            _ => self.chance.pick(&USERS[..self.shape.users]),
+        }
+    }
+
+    fn bits(&mut self) -> u32 {
+        match self.chance.below(8) {
+            0 => self.chance.below(8) as u32,
+            1 => 5,
+            _ => 7,
+        }
+    }
+
+    fn label(&mut self) -> u32 {
+        self.chance.below(self.shape.labels) as u32
+    }
+}

@@ -1,0 +1,122 @@
+//! Pairs of stores that differ in a secret: the bytes of a plain file that no
+//! label may read. The same calls on both must not tell them apart.
+
+use crate::call::Call;
+use crate::chance::Chance;
+use crate::generate::{random_store, CallMaker};
+use crate::layout::*;
+use crate::programs::{store_call, store_sound};
+use crate::tables::Tables;
+
+pub struct Pair {
+    pub one: Tables,
+    pub other: Tables,
+    /// The slot with the secret.
+    pub slot: usize,
+    pub freed: bool,
+    maker: CallMaker,
+}
+
+impl Pair {
+    /// A pair from a store by chance, if it has a file that can be a secret.
+    pub fn random(chance: &mut Chance) -> Option<Pair> {
+        let mut one = random_store(chance);
+        let slot = chance.pick_where(SLOTS, |slot| {
+            one.is_kind(slot, PLAIN) && one.file(slot, LENGTH) > 0
+        })?;
+        hide(&mut one, slot, chance);
+        let mut other = one.clone();
+        let length = one.file(slot, LENGTH) as usize;
+        let bytes = chance.bytes(length);
+        other.block_mut(slot)[..length].copy_from_slice(&bytes);
+        let mut maker = CallMaker::new(&one);
+        maker.favourite = Some(slot);
+        let sound = store_sound(&one) && store_sound(&other);
+        sound.then_some(Pair {
+            one,
+            other,
+            slot,
+            freed: false,
+            maker,
+        })
+    }
+
+    /// One call on both stores; an error says what told them apart.
+    pub fn step(&mut self, chance: &mut Chance) -> Result<(), (&'static str, Call)> {
+        let call = self.maker.call(chance, &self.one);
+        let (mut ours, mut theirs) = (call.buffer.clone(), call.buffer.clone());
+        let answer = store_call(&mut self.one, &call, &mut ours);
+        let other = store_call(&mut self.other, &call, &mut theirs);
+        if answer != other {
+            return Err(("the answers differ", call));
+        }
+        if ours != theirs {
+            return Err(("the buffers differ", call));
+        }
+        // A slot that is given out again is no secret any more.
+        self.freed |= self.one.is_kind(self.slot, FREE);
+        if !self.alike() {
+            return Err(("the stores differ in more than the secret", call));
+        }
+        if call.changes_names() {
+            self.maker.refresh(&self.one);
+        }
+        Ok(())
+    }
+
+    /// Equal but for the secret; once freed, equal altogether.
+    fn alike(&self) -> bool {
+        let secret = if self.freed {
+            0..0
+        } else {
+            let start = BLOCK * self.slot;
+            start..start + self.one.file(self.slot, LENGTH) as usize
+        };
+        let (one, other) = (&self.one, &self.other);
+        one.files == other.files
+            && one.open_files == other.open_files
+            && one.processes == other.processes
+            && one.policy == other.policy
+            && one.contents[..secret.start] == other.contents[..secret.start]
+            && one.contents[secret.end..] == other.contents[secret.end..]
+    }
+}
+
+/// Takes the right to read the slot from every label that is held or can be
+/// reached, and has nobody hold it open for reading.
+fn hide(tables: &mut Tables, slot: usize, chance: &mut Chance) {
+    if chance.one_in(2) {
+        tables.set_file(slot, LABEL, LABELS as u32 - 1);
+    }
+    let file_label = tables.file(slot, LABEL) as usize;
+    for (label, reached) in reachable(tables).into_iter().enumerate() {
+        if reached {
+            tables.policy[LABELS * label + file_label] &= !(READ as u8);
+        }
+    }
+    for entry in 0..OPENS {
+        let on_slot = tables.open_file(entry, REFERENCES) > 0
+            && tables.open_file(entry, SLOT) as usize == slot;
+        if on_slot && matches!(tables.open_file(entry, MODE), 1 | 3) {
+            tables.set_open_file(entry, MODE, chance.pick(&[2, 4]));
+        }
+    }
+}
+
+/// Which labels a process holds, or can come to hold by any transitions.
+pub fn reachable(tables: &Tables) -> [bool; LABELS] {
+    let mut reached = [false; LABELS];
+    let mut found: Vec<usize> = (0..PROCESSES)
+        .filter(|&process| tables.process(process, USED) == 1)
+        .map(|process| tables.process(process, DOMAIN) as usize)
+        .collect();
+    while let Some(label) = found.pop() {
+        if std::mem::replace(&mut reached[label], true) {
+            continue;
+        }
+        let transitions = &tables.policy[RIGHTS + LABELS * label..][..LABELS];
+        let to = transitions.iter().filter(|&&to| to != NO_TRANSITION);
+        found.extend(to.map(|&to| usize::from(to)));
+    }
+    reached
+}

@@ -1,0 +1,223 @@
+//! Stores and calls by chance for `crates/replay`, in its records. The second program carries the calls out, so that
+//! later ones fit the store.
+
+// The harness links the proved store, which this program does without: it takes the generator's files alone.
+#[allow(dead_code)]
+#[path = "../../../harness/src/call.rs"]
+mod call;
+#[allow(dead_code)]
+#[path = "../../../harness/src/chance.rs"]
+mod chance;
+#[allow(dead_code)]
+#[path = "../../../harness/src/defects/mod.rs"]
+mod defects;
+#[allow(dead_code)]
+#[path = "../../../harness/src/generate/mod.rs"]
+mod generate;
+#[allow(dead_code)]
+#[path = "../../../harness/src/layout.rs"]
+mod layout;
+#[allow(dead_code)]
+#[path = "../../../harness/src/sizes.rs"]
+mod sizes;
+#[allow(dead_code)]
+#[path = "../../../harness/src/tables.rs"]
+mod tables;
+#[allow(dead_code)]
+#[path = "../../../harness/src/tree.rs"]
+mod tree;
+
+use std::io::Write;
+
+use call::Call;
+use chance::Chance;
+use generate::{random_store, CallMaker};
+use reference::Request;
+use stored::records::{self, BUFFER, ROOM, SIZES};
+use tables::Tables;
+
+const SEED: u64 = 20_261;
+const LINK: u8 = 6;
+const WRITE: u8 = 12;
+const STORES: usize = 60;
+const CALLS: usize = 89;
+/// How many bytes but 0 the contents of a short store have.
+const SHORT: usize = 2_500;
+/// One call in so many is made on a store that is not sound.
+const UNSOUND: usize = 40;
+
+/// The tables as `crates/replay` holds them.
+fn held(tables: &Tables, before: &stored::tables::Tables) -> stored::tables::Tables {
+    stored::tables::Tables {
+        files: over(&tables.files, &before.files),
+        contents: over(&tables.contents, &before.contents),
+        opens: over(&tables.open_files, &before.opens),
+        processes: over(&tables.processes, &before.processes),
+        policy: over(&tables.policy, &before.policy),
+    }
+}
+
+/// A table in its room: what is past its size stays.
+fn over<T: Clone>(table: &[T], before: &[T]) -> Vec<T> {
+    let mut held = before.to_vec();
+    held[..table.len()].clone_from_slice(table);
+    held
+}
+
+fn sizes_of(tables: &Tables) -> [usize; 5] {
+    [
+        tables.files.len(),
+        tables.contents.len(),
+        tables.open_files.len(),
+        tables.processes.len(),
+        tables.policy.len(),
+    ]
+}
+
+fn fits(tables: &Tables) -> bool {
+    sizes_of(tables)
+        .iter()
+        .zip(ROOM)
+        .all(|(&size, room)| size <= room)
+}
+
+/// The tables with a defect, or of another size; none where the choice does not fit.
+fn spoiled(tables: &Tables, chance: &mut Chance) -> Option<Tables> {
+    let mut spoiled = tables.clone();
+    if chance.one_in(4) {
+        sizes::resize(&mut spoiled, chance);
+    } else {
+        let defects = defects::all();
+        let number = chance.below(defects.len());
+        (defects[number].make)(&mut spoiled, chance)?;
+    }
+    fits(&spoiled).then_some(spoiled)
+}
+
+/// A store whose tables are short to write down; one in six may be of any length.
+fn store(chance: &mut Chance, number: usize) -> Tables {
+    loop {
+        let tables = random_store(chance);
+        let length = tables.contents.iter().filter(|&&byte| byte != 0).count();
+        if length < SHORT || number.is_multiple_of(6) {
+            return tables;
+        }
+    }
+}
+
+struct Writer {
+    out: Vec<u8>,
+    held: stored::tables::Tables,
+    sizes: [usize; 5],
+}
+
+fn zero() -> stored::tables::Tables {
+    let [files, contents, opens, processes, policy] = ROOM;
+    stored::tables::Tables::zero(files, contents, opens, processes, policy)
+}
+
+impl Writer {
+    fn clear(&mut self) {
+        self.out.extend(records::clear());
+        self.held = zero();
+        self.sizes = SIZES;
+    }
+
+    /// The records that make the tables these.
+    fn tables(&mut self, tables: &Tables) {
+        let held = held(tables, &self.held);
+        self.out.extend(records::changes(&self.held, &held));
+        self.held = held;
+        if self.sizes != sizes_of(tables) {
+            self.sizes = sizes_of(tables);
+            self.out.extend(records::sizes(self.sizes));
+        }
+    }
+
+    fn call(&mut self, call: &Call) {
+        let numbers = [call.process, call.call, call.descriptor];
+        let buffer = call.buffer.len();
+        self.out.extend(records::call(
+            numbers,
+            call.number,
+            &call.path,
+            &call.data,
+            buffer,
+        ));
+    }
+}
+
+fn make(tables: &mut Tables, call: &Call) -> u32 {
+    let request = Request {
+        process: call.process,
+        call: call.call,
+        descriptor: call.descriptor,
+        number: call.number,
+    };
+    let answer = reference::call(
+        &mut tables.files,
+        &mut tables.contents,
+        &mut tables.open_files,
+        &mut tables.processes,
+        &tables.policy,
+        request,
+        &call.path,
+        &call.data,
+        &mut call.buffer.clone(),
+    );
+    answer.refusal
+}
+
+/// The call with less of what it does not look at.
+fn short(mut call: Call) -> Call {
+    match call.call {
+        LINK | WRITE => {}
+        _ => call.data.truncate(4),
+    }
+    call
+}
+
+/// A call that can be written down, with a buffer that `crates/replay` has.
+fn writable(call: &Call) -> bool {
+    call.path.len() < 256 && call.data.len() < 4096 && call.buffer.len() <= BUFFER
+}
+
+fn run_store(writer: &mut Writer, chance: &mut Chance, number: usize) {
+    let mut tables = store(chance, number);
+    writer.clear();
+    writer.tables(&tables);
+    let mut maker = CallMaker::new(&tables);
+    for _ in 0..CALLS {
+        let call = short(maker.call(chance, &tables));
+        if !writable(&call) {
+            continue;
+        }
+        if chance.one_in(UNSOUND) {
+            if let Some(spoiled) = spoiled(&tables, chance) {
+                writer.tables(&spoiled);
+                writer.call(&call);
+                writer.tables(&tables);
+            }
+            continue;
+        }
+        writer.call(&call);
+        make(&mut tables, &call);
+        writer.held = held(&tables, &writer.held);
+        if call.changes_names() {
+            maker.refresh(&tables);
+        }
+    }
+}
+
+fn main() -> std::io::Result<()> {
+    let mut writer = Writer {
+        out: Vec::new(),
+        held: zero(),
+        sizes: SIZES,
+    };
+    let mut chance = Chance::new(SEED);
+    for number in 0..STORES {
+        run_store(&mut writer, &mut chance, number);
+    }
+    std::io::stdout().lock().write_all(&writer.out)
+}

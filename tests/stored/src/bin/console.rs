@@ -1,0 +1,215 @@
+//! Runs a script of calls on the test console (docs/console.md), by the second program.
+
+use std::io::{Read, Write};
+
+use reference::Request;
+use stored::answers;
+use stored::tables::{Tables, BLOCK, FILE, LABELS, OPEN, PROCESS};
+
+const LONGEST: usize = 512;
+
+/// Each call's name and the parts that follow it: descriptor, number, path, data.
+const CALLS: [(&str, &str); 17] = [
+    ("open", "np"),
+    ("create", "np"),
+    ("mkdir", "np"),
+    ("unlink", "p"),
+    ("rmdir", "p"),
+    ("link", "pd"),
+    ("list", "np"),
+    ("chmod", "np"),
+    ("stat", "p"),
+    ("close", "f"),
+    ("read", "fn"),
+    ("write", "fd"),
+    ("seek", "fn"),
+    ("dup", "f"),
+    ("fork", ""),
+    ("exit", ""),
+    ("exec", "p"),
+];
+const READ: u8 = 11;
+
+/// A line that is not understood.
+struct Broken;
+
+type Line = Result<String, Broken>;
+
+fn number(word: Option<&str>) -> Result<u32, Broken> {
+    word.filter(|word| word.bytes().all(|byte| byte.is_ascii_digit()))
+        .and_then(|word| word.parse().ok())
+        .ok_or(Broken)
+}
+
+fn small<T: TryFrom<u32>>(word: Option<&str>) -> Result<T, Broken> {
+    T::try_from(number(word)?).map_err(|_| Broken)
+}
+
+/// The bytes that a word writes, `\\xNN` being byte NN; none where there is no word.
+fn text(word: Option<&str>) -> Result<Vec<u8>, Broken> {
+    let mut rest = word.unwrap_or("").as_bytes();
+    let mut bytes = Vec::new();
+    while let [first, after @ ..] = rest {
+        if *first == b'\\' {
+            bytes.push(escaped(rest).ok_or(Broken)?);
+            rest = &rest[4..];
+        } else {
+            bytes.push(*first);
+            rest = after;
+        }
+    }
+    if bytes.len() <= LONGEST {
+        Ok(bytes)
+    } else {
+        Err(Broken)
+    }
+}
+
+fn escaped(text: &[u8]) -> Option<u8> {
+    let digits = text.get(..4)?.strip_prefix(b"\\x")?;
+    let digits = std::str::from_utf8(digits).ok()?;
+    let lower = digits
+        .bytes()
+        .all(|byte| matches!(byte, b'0'..=b'9' | b'a'..=b'f'));
+    if lower {
+        u8::from_str_radix(digits, 16).ok()
+    } else {
+        None
+    }
+}
+
+struct Console<'a> {
+    head: Vec<&'a str>,
+    tables: Tables,
+}
+
+impl Console<'_> {
+    /// The tables that the set lines of the head give.
+    fn fresh(&mut self) -> Line {
+        self.tables = Tables::empty();
+        for line in self.head.clone() {
+            let words: Vec<&str> = line.split(' ').filter(|word| !word.is_empty()).collect();
+            if words.first() == Some(&"set") {
+                self.set(&words[1..])?;
+            }
+        }
+        Ok(String::new())
+    }
+
+    fn words(&mut self, table: &str) -> Option<(&mut [u32], usize)> {
+        match table {
+            "files" => Some((&mut self.tables.files, FILE)),
+            "opens" => Some((&mut self.tables.opens, OPEN)),
+            "processes" => Some((&mut self.tables.processes, PROCESS)),
+            _ => None,
+        }
+    }
+
+    fn bytes(&mut self, table: &str) -> Option<(&mut [u8], usize)> {
+        match table {
+            "contents" => Some((&mut self.tables.contents, BLOCK)),
+            "policy" => Some((&mut self.tables.policy, LABELS)),
+            _ => None,
+        }
+    }
+
+    /// Values from a field of a record on; what is past the table's end is not stored.
+    fn set(&mut self, words: &[&str]) -> Line {
+        let mut words = words.iter().copied();
+        let table = words.next().ok_or(Broken)?;
+        let record = number(words.next())? as usize;
+        let field = number(words.next())? as usize;
+        if let Some((table, width)) = self.words(table) {
+            let values: Result<Vec<u32>, Broken> = words.map(|word| number(Some(word))).collect();
+            put(table, width * record + field, &values?);
+        } else {
+            let (table, width) = self.bytes(table).ok_or(Broken)?;
+            put(table, width * record + field, &text(words.next())?);
+        }
+        Ok(String::new())
+    }
+
+    fn show(&mut self, words: &[&str]) -> Line {
+        let (table, width) = self.words(words.first().ok_or(Broken)?).ok_or(Broken)?;
+        let record = number(words.get(1).copied())? as usize;
+        let shown = table.iter().skip(width * record).take(width);
+        Ok(shown.fold(":".to_string(), |line, word| format!("{line} {word}")))
+    }
+
+    fn call(&mut self, words: &[&str]) -> Line {
+        let mut words = words.iter().copied();
+        let process = small(words.next())?;
+        let name = words.next();
+        let known = CALLS.iter().position(|call| Some(call.0) == name);
+        let call = known.map_or_else(|| small(name), |at| Ok(at as u8 + 1))?;
+        let parts = CALLS
+            .get(usize::from(call).wrapping_sub(1))
+            .map_or("", |call| call.1);
+        let mut request = Request {
+            process,
+            call,
+            descriptor: 0,
+            number: 0,
+        };
+        let (mut path, mut data) = (Vec::new(), Vec::new());
+        for part in parts.chars() {
+            match part {
+                'f' => request.descriptor = small(words.next())?,
+                'n' => request.number = small(words.next())?,
+                'p' => path = text(words.next())?,
+                _ => data = text(words.next())?,
+            }
+        }
+        let size = if call == READ {
+            usize::from(request.number)
+        } else {
+            0
+        };
+        if words.next().is_some() || size > LONGEST {
+            return Err(Broken);
+        }
+        let mut buffer = vec![0; size];
+        let answer = self.tables.call(request, &path, &data, &mut buffer);
+        let read = if call == READ {
+            &buffer[..answer.value as usize]
+        } else {
+            &[]
+        };
+        Ok(format!(": {}", answers::answer(&answer, read)))
+    }
+
+    fn line(&mut self, line: &str) -> Line {
+        let words: Vec<&str> = line.split(' ').filter(|word| !word.is_empty()).collect();
+        match words[..] {
+            _ if line.is_empty() || line.starts_with('#') => Ok(String::new()),
+            ["fresh", ..] => self.fresh(),
+            ["set", ..] => self.set(&words[1..]),
+            ["show", ..] => self.show(&words[1..]),
+            _ => self.call(&words),
+        }
+    }
+}
+
+fn put<T: Copy>(table: &mut [T], at: usize, values: &[T]) {
+    for (place, value) in table.iter_mut().skip(at).zip(values) {
+        *place = *value;
+    }
+}
+
+fn main() -> std::io::Result<()> {
+    let mut script = String::new();
+    std::io::stdin().read_to_string(&mut script)?;
+    let head = script.lines().take_while(|line| !line.is_empty()).collect();
+    let mut console = Console {
+        head,
+        tables: Tables::empty(),
+    };
+    let mut out = std::io::stdout().lock();
+    for (at, line) in script.lines().enumerate() {
+        match console.line(line) {
+            Ok(answer) => writeln!(out, "{line}{answer}")?,
+            Err(Broken) => writeln!(out, "{line}: not understood, line {}", at + 1)?,
+        }
+    }
+    Ok(())
+}
