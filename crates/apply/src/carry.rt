@@ -7,7 +7,7 @@ ghost use Rattle.rules.specs.Store.{store, applyAll, Change};
 ghost use Rattle.rules.specs.Store as change;
 ghost use Rattle.rules.specs.Paths.{names, lastName};
 ghost use Rattle.rules.specs.Effects.{shared, sharedAll, released, releasedAll, createChanges, linkChanges, forkChanges, carryOut};
-ghost use Rattle.decision.specs.Lent.{callOf};
+ghost use Rattle.rules.specs.Calls.{callOf};
 use descriptor_calls::fork::share;
 use descriptor_calls::release::release;
 use effect::files::change_bits;

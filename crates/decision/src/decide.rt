@@ -2,25 +2,22 @@
 ghost use mathlib.Core.Path.{_≡_};
 ghost use Rattle.rules.specs.Store.{store, view};
 ghost use Rattle.rules.specs.Decide.{decideOwn, decide};
-ghost use Rattle.decision.specs.Lent.{callOf};
+ghost use Rattle.rules.specs.Calls.{callOf};
 use crate::form::form_ok;
 use crate::form::operation_of;
 use allocation::held::in_use;
+use create_calls::create::decide_create;
+use create_calls::link::decide_link;
 use descriptor_calls::duplicate::decide_duplicate;
 use descriptor_calls::fork::decide_fork;
-use descriptor_calls::read::decide_read;
 use descriptor_calls::release::decide_close;
-use descriptor_calls::seek::decide_seek;
-use descriptor_calls::write::decide_write;
 use file_calls::change_bits::decide_change_bits;
 use file_calls::execute::decide_execute;
 use file_calls::list::decide_list;
 use file_calls::open::decide_open;
 use file_calls::stat::decide_stat;
-use name_calls::create::decide_create;
-use name_calls::link::decide_link;
-use name_calls::remove::decide_remove;
-use name_calls::unlink::decide_unlink;
+use remove_calls::remove::decide_remove;
+use remove_calls::unlink::decide_unlink;
 use rules::decision::Decision;
 use rules::decision::Effect;
 use rules::decision::Output;
@@ -30,6 +27,9 @@ use rules::request::Request;
 use tables::layout::DIRECTORY;
 use tables::layout::PLAIN;
 use tables::processes::subject;
+use transfer_calls::read::decide_read;
+use transfer_calls::seek::decide_seek;
+use transfer_calls::write::decide_write;
 
 // The call's own checks, in the written order.
 fn decide_own(

@@ -1,8 +1,4 @@
-// The calls on descriptors and processes: what they are answered, on the tables as they are. Nothing is written here.
+// The calls that let go of descriptors, double them and hand them on: what they are answered, on the tables as they are. Nothing is written here.
 pub mod duplicate;
 pub mod fork;
-mod open_files;
-pub mod read;
 pub mod release;
-pub mod seek;
-pub mod write;

@@ -9,6 +9,7 @@ use Rattle.rules.specs.Rights.{bitsKnown, modeOf, modeKnown}
 use Rattle.rules.specs.Paths.{pathOk, isRoot}
 use Rattle.rules.specs.declared.ids.Pid.{Pid}
 use Rattle.rules.specs.declared.ids.Fd.{Fd}
+use Rattle.rules.specs.declared.request.Request.{Request}
 use Rattle.rules.specs.declared.request.Operation.{Operation}
 use Rattle.rules.specs.declared.request.Operation.the-variants as op
 
@@ -22,6 +23,10 @@ pub record Call : Type 0 where
   pub path : List ℕ
   pub bytes : List ℕ
   pub buffer : List ℕ
+
+-- a call as it is lent: its numbers, and its path, bytes and buffer beside them
+abbrev pub callOf : Request → (path bytes buffer : List ℕ) → Call
+callOf c path bytes buffer = record { process = c .process; call = c .call; fd = c .fd; number = c .number; path = path; bytes = bytes; buffer = buffer }
 
 -- the calls by their numbers
 unfoldable pub operationOf : ℕ → Operation

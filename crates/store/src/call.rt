@@ -2,7 +2,7 @@
 ghost use mathlib.Core.Path.{_≡_};
 ghost use Rattle.rules.specs.Store.{store};
 ghost use Rattle.rules.specs.Step.{outcomeOf, act, step};
-ghost use Rattle.decision.specs.Lent.{callOf};
+ghost use Rattle.rules.specs.Calls.{callOf};
 ghost use Rattle.store.specs.Lent.{lent, lentOf, granting};
 use apply::carry::carry_out;
 use reply::answer::refused_answer;

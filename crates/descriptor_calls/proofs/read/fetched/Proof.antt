@@ -1,5 +1,0 @@
-use Rattle.descriptor_calls.proofs.read.fetched.Statement.{statement}
-use Rattle.descriptor_calls.proofs.read.fetched.Tie as tie
-
-pub fetched-spec : {M : Type 1} → statement M
-fetched-spec = tie.close (tie.spec (λ c κs. tt) (λ c κs. tt) (λ c κs. tt) (λ c κs. tt) (λ c. cc))

@@ -1,7 +1,0 @@
-use Rattle.rules.specs.DecidePaths.{linkRoom}
-use Rattle.name_calls.proofs.link.link_free.Statement.{statement}
-use Rattle.name_calls.proofs.link.link_free.Tie as tie
-
-pub link-free-spec : {M : Type 1} → statement M
-unfolding linkRoom
-link-free-spec = tie.close (tie.spec (λ c κs. tt) (λ c κs. tt) (λ c. cc))

@@ -1,5 +1,0 @@
-use Rattle.name_calls.proofs.unlink.unnamed_kept.Statement.{statement}
-use Rattle.name_calls.proofs.unlink.unnamed_kept.Tie as tie
-
-pub unnamed-kept-spec : {M : Type 1} → statement M
-unnamed-kept-spec = tie.close (tie.spec (λ c κs. tt) (λ c κs. tt) (λ c. cc))

@@ -1,0 +1,18 @@
+use Rattle.rules.specs.DecidePaths.{removeAt}
+use Rattle.rules.proofs.Choices.{steps}
+use Rattle.remove_calls.proofs.remove.remove_at.Statement.{statement}
+use Rattle.remove_calls.proofs.remove.remove_at.Tie as tie
+
+pub remove-at-spec : {M : Type 1} → statement M
+unfolding removeAt
+remove-at-spec =
+    tie.close
+    (tie.spec
+    (λ c κs. tt)
+    (λ c. search steps)
+    (λ c κs. tt)
+    (λ c. search steps)
+    (λ c κs. tt)
+    (λ c. search steps)
+    (λ c κs. tt)
+    (λ c. search steps))

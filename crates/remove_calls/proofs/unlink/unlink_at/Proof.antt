@@ -1,0 +1,18 @@
+use Rattle.rules.specs.DecidePaths.{unlinkAt}
+use Rattle.rules.proofs.Choices.{steps}
+use Rattle.remove_calls.proofs.unlink.unlink_at.Statement.{statement}
+use Rattle.remove_calls.proofs.unlink.unlink_at.Tie as tie
+
+pub unlink-at-spec : {M : Type 1} → statement M
+unfolding unlinkAt
+unlink-at-spec =
+    tie.close
+    (tie.spec
+    (λ c κs. tt)
+    (λ c. search steps)
+    (λ c κs. tt)
+    (λ c. search steps)
+    (λ c κs. tt)
+    (λ c. search steps)
+    (λ c κs. tt)
+    (λ c. search steps))

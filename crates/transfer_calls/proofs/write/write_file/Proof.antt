@@ -1,0 +1,26 @@
+use Prim.Native.Nat.{ℕ, _+_, _%_, _^_}
+use mathlib.Core.Path.{_≡_, sym, _∙_}
+use mathlib.Core.Bool.{Bool, true, false, not}
+use native.Mathlib.Omega.{arith}
+use borrow.Author.Tests.{leb-true, not-false}
+use lib.Dec.{leb}
+use Rattle.rules.specs.Store.{Table}
+use Rattle.rules.specs.Checks.{need}
+use Rattle.rules.specs.Decide.{writeFile}
+use Rattle.rules.specs.declared.decision.Decision.{Decision}
+use Rattle.rules.proofs.Choices.{steps}
+use Rattle.transfer_calls.specs.Stored.{stored}
+use Rattle.transfer_calls.proofs.write.write_file.Statement.{statement}
+use Rattle.transfer_calls.proofs.write.write_file.Tie as tie
+
+-- what fits is its own word
+stores : (file opened : Table) (e at n : ℕ) (r : Bool) (d : Decision) → r ≡ leb (at + n) 512 → not r ≡ false → d ≡ stored file opened e at (n % 2 ^ 32) n → d ≡ writeFile file opened e at n
+unfolding writeFile need
+stores file opened e at n r d q f g =
+    let fits : leb (at + n) 512 ≡ true = sym q ∙ not-false r f in
+    let w : n % 2 ^ 32 ≡ n = omega (arith, leb-true (at + n) 512 fits) in
+    rw fits (rw w at g)
+
+pub write-file-spec : {M : Type 1} → statement M
+unfolding writeFile
+write-file-spec = tie.close (tie.spec (λ c κs. tt) (λ c. search steps) (λ c κs. tt) (λ c. search stores))

@@ -1,0 +1,134 @@
+// 12. Write.
+ghost use mathlib.Core.Path.{_≡_};
+ghost use mathlib.Core.Bool.{cond};
+ghost use Prim.Native.Nat.{_+_, _%_, _^_};
+ghost use lib.Dec.{eqb, leb};
+ghost use Rattle.rules.specs.Layout.{FILE, OPEN, BLOCK};
+ghost use Rattle.rules.specs.Store.{tab, descOf};
+ghost use Rattle.rules.specs.Checks.{ofdHeld};
+ghost use Rattle.rules.specs.Decide.{writeAt, placement, writeFile, writeSome, writeOpen, decideWrite};
+ghost use Rattle.transfer_calls.specs.Stored.{stored};
+use crate::open_files::open_appends;
+use crate::open_files::open_length;
+use crate::open_files::open_writes;
+use allocation::held::is_held;
+use allocation::held::ofd_held;
+use rules::decision::Decision;
+use rules::decision::Effect;
+use rules::decision::Output;
+use rules::decision::Placement;
+use rules::ids::Fd;
+use rules::ids::Pid;
+use rules::ids::Slot;
+use rules::refusal::Refusal;
+use tables::files::length;
+use tables::files::version;
+use tables::layout::BLOCK;
+use tables::numbers::add_length;
+use tables::numbers::larger;
+use tables::numbers::subtract;
+use tables::numbers::up_one;
+use tables::numbers::word_of;
+use tables::opens::offset;
+use tables::opens::slot_of;
+
+// Where a write through open file e begins.
+fn write_place(files: &[u32], opens: &[u32], e: u32) -> u32
+    ensures { λ r. ⌜ r ≡ writeAt (tab FILE (now (files .entry))) (tab OPEN (now (opens .entry))) e ⌝ }
+{
+    if open_appends(opens, e) {
+        return open_length(files, opens, e);
+    }
+    offset(opens, e)
+}
+
+// n bytes at `at`, through open file e on slot s.
+fn placed(files: &[u32], e: u32, s: Slot, at: u32, n: usize) -> Placement
+    ensures { λ r. ⌜ r ≡ placement (tab FILE (now (files .entry))) e s at n ⌝ }
+{
+    Placement {
+        ofd: e,
+        slot: s,
+        end: length(files, s),
+        gap: subtract(at, length(files, s)),
+        at: at,
+        length: larger(length(files, s), add_length(at, n)),
+        version: up_one(version(files, s)),
+        offset: add_length(at, n),
+    }
+}
+
+fn stored_at(files: &[u32], opens: &[u32], e: u32, at: u32, n: usize) -> Decision
+    ensures { λ r. ⌜ r ≡ stored (tab FILE (now (files .entry))) (tab OPEN (now (opens .entry))) e at (n % 2 ^ 32) n ⌝ }
+{
+    Decision::Granted(
+        word_of(n),
+        Output::Nothing,
+        Effect::Stored(placed(files, e, slot_of(opens, e), at, n)),
+    )
+}
+
+fn fits(at: u32, n: usize) -> bool
+    ensures { λ r. ⌜ r ≡ leb (at + n) BLOCK ⌝ }
+{
+    if BLOCK < n {
+        return false;
+    }
+    (at as usize) + n <= BLOCK
+}
+
+fn write_file(files: &[u32], opens: &[u32], e: u32, at: u32, n: usize) -> Decision
+    ensures { λ r. ⌜ r ≡ writeFile (tab FILE (now (files .entry))) (tab OPEN (now (opens .entry))) e at n ⌝ }
+{
+    if !fits(at, n) {
+        return Decision::Refused(Refusal::TooLong, 0);
+    }
+    stored_at(files, opens, e, at, n)
+}
+
+fn write_placed(files: &[u32], opens: &[u32], e: u32, n: usize) -> Decision
+    ensures { λ r. ⌜ r ≡ writeFile (tab FILE (now (files .entry))) (tab OPEN (now (opens .entry))) e (writeAt (tab FILE (now (files .entry))) (tab OPEN (now (opens .entry))) e) n ⌝ }
+{
+    write_file(files, opens, e, write_place(files, opens, e), n)
+}
+
+fn write_some(files: &[u32], opens: &[u32], e: u32, n: usize) -> Decision
+    ensures { λ r. ⌜ r ≡ writeSome (tab FILE (now (files .entry))) (tab OPEN (now (opens .entry))) e n ⌝ }
+{
+    let none = n == 0;
+    if none {
+        return Decision::Granted(0, Output::Nothing, Effect::Nothing);
+    }
+    write_placed(files, opens, e, n)
+}
+
+fn write_open(files: &[u32], opens: &[u32], e: u32, n: usize) -> Decision
+    ensures { λ r. ⌜ r ≡ writeOpen (tab FILE (now (files .entry))) (tab OPEN (now (opens .entry))) e n ⌝ }
+{
+    if !open_writes(opens, e) {
+        return Decision::Refused(Refusal::NotOpenFor, 0);
+    }
+    write_some(files, opens, e, n)
+}
+
+fn write_held(files: &[u32], opens: &[u32], processes: &[u32], p: Pid, i: Fd, n: usize) -> Decision
+    ensures { λ r. ⌜ r ≡ writeOpen (tab FILE (now (files .entry))) (tab OPEN (now (opens .entry))) (ofdHeld (descOf (now (processes .entry))) p i) n ⌝ }
+{
+    write_open(files, opens, ofd_held(processes, p, i), n)
+}
+
+pub fn decide_write(
+    files: &[u32],
+    opens: &[u32],
+    processes: &[u32],
+    p: Pid,
+    i: Fd,
+    n: usize,
+) -> Decision
+    ensures { λ r. ⌜ r ≡ decideWrite (tab FILE (now (files .entry))) (tab OPEN (now (opens .entry))) (descOf (now (processes .entry))) p i n ⌝ }
+{
+    if !is_held(processes, p, i) {
+        return Decision::Refused(Refusal::NotHeld, 0);
+    }
+    write_held(files, opens, processes, p, i, n)
+}
