@@ -5,7 +5,7 @@ ghost use lib.Dec.{eqb, ltb};
 ghost use lib.ListN.{getD};
 ghost use Prim.Native.Nat.{_+_};
 ghost use Rattle.rules.specs.Scan.{all};
-ghost use Rattle.rules.specs.Layout.{OPEN, SLOT, REFERENCES, SLOTS, PLAIN, FILE, KIND};
+ghost use Rattle.rules.specs.Layout.{OPEN, OPENS, SLOT, REFERENCES, SLOTS, PLAIN, FILE, KIND};
 ghost use Rattle.rules.specs.Store.{tab, view, store};
 ghost use Rattle.rules.specs.Sound.{isOn, openBut, isOpen, openFree, openUsed, openSound};
 ghost use Rattle.soundness.specs.Counted.{openSoundBy};
@@ -15,7 +15,9 @@ use crate::fields::at_most;
 use crate::fields::is_word;
 use tables::layout::FILE;
 use tables::layout::KIND;
+use tables::layout::LENGTH_MAX;
 use tables::layout::MODE;
+use tables::layout::MODE_MAX;
 use tables::layout::OFFSET;
 use tables::layout::OPEN;
 use tables::layout::OPENS;
@@ -26,6 +28,9 @@ use tables::layout::SLOTS;
 use tables::opens::references;
 use tables::opens::slot_word;
 use tables::words::get;
+
+// Of descriptors: what holds nothing is 0, what holds open file e is e + 1.
+const HELD: usize = (OPENS as usize) + 1;
 
 fn other(e: u32, x: u32) -> bool
     ensures { λ r. ⌜ r ≡ not (eqb e x) ⌝ }
@@ -116,10 +121,10 @@ fn open_used(files: &[u32], contents: &[u8], opens: &[u32], processes: &[u32], e
     if !at_least(opens, OPEN * (e as usize) + MODE, 1) {
         return false;
     }
-    if !at_most(opens, OPEN * (e as usize) + MODE, 4) {
+    if !at_most(opens, OPEN * (e as usize) + MODE, MODE_MAX) {
         return false;
     }
-    at_most(opens, OPEN * (e as usize) + OFFSET, 512)
+    at_most(opens, OPEN * (e as usize) + OFFSET, LENGTH_MAX)
 }
 
 fn unreferred(opens: &[u32], e: u32) -> bool
@@ -161,7 +166,7 @@ fn all_opens_sound(
     processes: &[u32],
     held: &[u32],
 ) -> bool
-    ensures { λ r. ⌜ r ≡ all (openSoundBy (view (store (now (files .entry)) (now (contents .entry)) (now (opens .entry)) (now (processes .entry)))) (now (held .entry))) 0 32 ⌝ }
+    ensures { λ r. ⌜ r ≡ all (openSoundBy (view (store (now (files .entry)) (now (contents .entry)) (now (opens .entry)) (now (processes .entry)))) (now (held .entry))) 0 OPENS ⌝ }
 {
     let mut e = 0;
     while e < OPENS {
@@ -175,9 +180,9 @@ fn all_opens_sound(
 }
 
 pub fn opens_sound(files: &[u32], contents: &[u8], opens: &[u32], processes: &[u32]) -> bool
-    ensures { λ r. ⌜ r ≡ all (openSound (view (store (now (files .entry)) (now (contents .entry)) (now (opens .entry)) (now (processes .entry))))) 0 32 ⌝ }
+    ensures { λ r. ⌜ r ≡ all (openSound (view (store (now (files .entry)) (now (contents .entry)) (now (opens .entry)) (now (processes .entry))))) 0 OPENS ⌝ }
 {
-    let mut held = [0; 33];
+    let mut held = [0; HELD];
     count_held(processes, &mut held);
     all_opens_sound(files, contents, opens, processes, &held)
 }

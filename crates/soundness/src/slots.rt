@@ -4,7 +4,7 @@ ghost use mathlib.Core.List.{[], _∷_};
 ghost use lib.Dec.{eqb, ltb};
 ghost use Rattle.rules.specs.Choice.{some};
 ghost use Rattle.rules.specs.Scan.{all};
-ghost use Rattle.rules.specs.Layout.{FILE, OPEN, LINKS};
+ghost use Rattle.rules.specs.Layout.{SLOTS, FILE, OPEN, LINKS};
 ghost use Rattle.rules.specs.Store.{tab, tree, shownOf, view, store};
 ghost use Rattle.rules.specs.Sound.{allZero, isOpen, plainSound, slotSound};
 ghost use Rattle.soundness.specs.Counted.{kindSoundBy, slotSoundBy};
@@ -22,7 +22,11 @@ use tables::files::links;
 use tables::files::shown;
 use tables::layout::FILE;
 use tables::layout::LENGTH;
+use tables::layout::LENGTH_MAX;
 use tables::layout::SLOTS;
+
+// The slots, and one place past the last: the parent of what nothing names.
+const PLACES: usize = (SLOTS as usize) + 1;
 
 fn shown_zero(files: &[u32], contents: &[u8], s: u32) -> bool
     ensures { λ r. ⌜ r ≡ allZero (shownOf (now (files .entry)) (now (contents .entry)) s) ⌝ }
@@ -48,7 +52,7 @@ fn named_or_open(files: &[u32], opens: &[u32], s: u32) -> bool
 fn plain_sound(files: &[u32], contents: &[u8], opens: &[u32], processes: &[u32], s: u32) -> bool
     ensures { λ r. ⌜ r ≡ plainSound (view (store (now (files .entry)) (now (contents .entry)) (now (opens .entry)) (now (processes .entry)))) s ⌝ }
 {
-    if !at_most(files, FILE * (s as usize) + LENGTH, 512) {
+    if !at_most(files, FILE * (s as usize) + LENGTH, LENGTH_MAX) {
         return false;
     }
     if !named_or_open(files, opens, s) {
@@ -104,7 +108,7 @@ fn all_slots_sound(
     links: &[u32],
     parents: &[u32],
 ) -> bool
-    ensures { λ r. ⌜ r ≡ all (slotSoundBy (view (store (now (files .entry)) (now (contents .entry)) (now (opens .entry)) (now (processes .entry)))) (now (links .entry)) (now (parents .entry))) 0 64 ⌝ }
+    ensures { λ r. ⌜ r ≡ all (slotSoundBy (view (store (now (files .entry)) (now (contents .entry)) (now (opens .entry)) (now (processes .entry)))) (now (links .entry)) (now (parents .entry))) 0 SLOTS ⌝ }
 {
     let mut s = 0;
     while s < SLOTS {
@@ -118,10 +122,10 @@ fn all_slots_sound(
 }
 
 pub fn slots_sound(files: &[u32], contents: &[u8], opens: &[u32], processes: &[u32]) -> bool
-    ensures { λ r. ⌜ r ≡ all (slotSound (view (store (now (files .entry)) (now (contents .entry)) (now (opens .entry)) (now (processes .entry))))) 0 64 ⌝ }
+    ensures { λ r. ⌜ r ≡ all (slotSound (view (store (now (files .entry)) (now (contents .entry)) (now (opens .entry)) (now (processes .entry))))) 0 SLOTS ⌝ }
 {
-    let mut links = [0; 65];
-    let mut parents = [64; 65];
+    let mut links = [0; PLACES];
+    let mut parents = [SLOTS; PLACES];
     count_links(files, contents, &mut links, &mut parents);
     all_slots_sound(files, contents, opens, processes, &links, &parents)
 }

@@ -10,24 +10,28 @@ use crate::processes::processes_sound;
 use crate::slots::slots_sound;
 use rules::ids::Slot;
 use tables::files::is_directory;
+use tables::layout::CONTENTS_SIZE;
+use tables::layout::FILES_SIZE;
+use tables::layout::OPENS_SIZE;
+use tables::layout::PROCESSES_SIZE;
 
 // "Lent tables of another size are 1".
 fn sizes_sound(files: &[u32], contents: &[u8], opens: &[u32], processes: &[u32]) -> bool
     ensures { λ r. ⌜ r ≡ sizesSound (store (now (files .entry)) (now (contents .entry)) (now (opens .entry)) (now (processes .entry))) ⌝ }
 {
-    let files_sized = files.len() == 448;
+    let files_sized = files.len() == FILES_SIZE;
     if !files_sized {
         return false;
     }
-    let contents_sized = contents.len() == 32768;
+    let contents_sized = contents.len() == CONTENTS_SIZE;
     if !contents_sized {
         return false;
     }
-    let opens_sized = opens.len() == 128;
+    let opens_sized = opens.len() == OPENS_SIZE;
     if !opens_sized {
         return false;
     }
-    processes.len() == 88
+    processes.len() == PROCESSES_SIZE
 }
 
 fn root_directory(files: &[u32]) -> bool
