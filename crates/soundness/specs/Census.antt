@@ -32,12 +32,15 @@ entryClaimed D d i P = claimed (direntSlot D i) d P
 unfoldable pub slotClaimed : Tree → ℕ → List ℕ → List ℕ
 slotClaimed t d P = cond (isDirectory t (slot d)) (fold (entryClaimed (t .shown d) d) 0 DIRENTS P) P
 
--- Slots 0 to 64: the way up from a directory that nothing names leads to 64.
+-- The slots, and one place past the last: the way up from a directory that nothing names leads there.
+abbrev pub PLACES : ℕ
+PLACES = SLOTS + 1
+
 abbrev pub noLinks : List ℕ
-noLinks = replicate 65 0
+noLinks = replicate PLACES 0
 
 abbrev pub noParents : List ℕ
-noParents = replicate 65 64
+noParents = replicate PLACES SLOTS
 
 abbrev pub links : Tree → List ℕ
 links t = fold (slotCounted t) 0 SLOTS noLinks
@@ -52,8 +55,12 @@ descCounted desc p i H = counted (desc p i) H
 unfoldable pub procCounted : (ℕ → ℕ → ℕ) → ℕ → List ℕ → List ℕ
 procCounted desc p H = fold (descCounted desc p) 0 DESCRIPTORS H
 
+-- what descriptors hold: nothing, or one of the open files
+abbrev pub HELD : ℕ
+HELD = OPENS + 1
+
 abbrev pub noHolders : List ℕ
-noHolders = replicate 33 0
+noHolders = replicate HELD 0
 
 abbrev pub held : (ℕ → ℕ → ℕ) → List ℕ
 held desc = fold (procCounted desc) 0 PROCESSES noHolders

@@ -1,6 +1,7 @@
 use mathlib.Core.Path.{_≡_, refl}
 use Prim.Native.Nat.{_-_}
 use borrow.Author.Needs.{needs}
+use Rattle.rules.specs.Layout.{NAME}
 use Rattle.rules.specs.Scan.{all}
 use Rattle.rules.proofs.Scans.{all-yes, all-no, all-done}
 use Rattle.rules.specs.Directories.{isPadding}
@@ -8,10 +9,10 @@ use Rattle.soundness.proofs.directories.all_padding.Statement.{statemen
 use Rattle.soundness.proofs.directories.all_padding.Tie as tie
 
 abbrev Inv-loop : tie.InvT-loop
-Inv-loop name k₀ k = all (isPadding name) k 14 ≡ all (isPadding name) 0 14
+Inv-loop name k₀ k = all (isPadding name) k NAME ≡ all (isPadding name) 0 NAME
 
 abbrev μ-loop : tie.MeasureT-loop
-μ-loop name k₀ k = 14 - k
+μ-loop name k₀ k = NAME - k
 
 pub all-padding-spec : {M : Type 1} → statement M
 all-padding-spec =
