@@ -9,9 +9,10 @@ use lib.Dec.{eqb}
 use lib.ListN.{getD}
 use Rattle.rules.specs.Choice.{every, some}
 use Rattle.rules.specs.Scan.{all}
-use Rattle.rules.specs.Layout.{SLOTS, NAMES, OPENS, LINKS}
+use Rattle.rules.specs.Layout.{SLOTS, NAME, NAMES, OPENS, LINKS}
 use Rattle.rules.specs.Store.{Tree, View, slot}
-use Rattle.rules.specs.Directories.{isEmpty}
+use Rattle.rules.specs.Paths.{sameAt, sameName}
+use Rattle.rules.specs.Directories.{isEmpty, isPadding}
 use Rattle.rules.specs.Sound.{differs, isNew, linksTo, linksSound, isParent, parentOf, climbs, directorySound, kindSound, slotSound, holders, openSound}
 use Rattle.rules.proofs.Scans.{all-yes, all-no, all-done, all-of}
 use Rattle.soundness.specs.Census.{PLACES, links, parents, held}
@@ -77,6 +78,11 @@ pub opens-by : (v : View) (H : List ℕ) (r : Bool) → H ≡ held (v .desc) →
 opens-by v H r a e = rw a at e ∙ all-same (openSoundBy v (held (v .desc))) (openSound v) OPENS (open-by v)
 
 -- ---- an entry with no name, and one that has a name
+
+-- a name that is the empty one is all padding
+pub no-name : (name : List ℕ) (r : Bool) → r ≡ sameName name [] → r ≡ all (isPadding name) 0 NAME
+unfolding sameName sameAt isPadding
+no-name name r q = q ∙ all-same (sameAt name []) (isPadding name) NAME (λ j a. refl)
 
 pub empty-new : (D : List ℕ) (i : ℕ) (r : Bool) → r ≡ isEmpty D i → r ≡ true → true ≡ isNew D i
 unfolding isNew differs some

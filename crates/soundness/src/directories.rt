@@ -87,34 +87,17 @@ fn name_bytes_sound(name: &[u8]) -> bool
     true
 }
 
-fn no_padding(name: &[u8]) -> bool
-    ensures { λ r. ⌜ r ≡ not (isPadding (now (name .entry)) 0) ⌝ }
-{
-    !is_padding(name, 0)
-}
-
-fn no_dots(name: &[u8]) -> bool
-    ensures { λ r. ⌜ r ≡ not (isDots (now (name .entry))) ⌝ }
-{
-    !is_dots(name)
-}
-
 fn name_sound(name: &[u8]) -> bool
     ensures { λ r. ⌜ r ≡ nameSound (now (name .entry)) ⌝ }
 {
-    if !no_padding(name) {
+    let started = !is_padding(name, 0);
+    if !started {
         return false;
     }
     if !name_bytes_sound(name) {
         return false;
     }
-    no_dots(name)
-}
-
-fn not_free(files: &[u32], s: u32) -> bool
-    ensures { λ r. ⌜ r ≡ not (eqb (tab FILE (now (files .entry)) s KIND) FREE) ⌝ }
-{
-    !is_free(files, Slot(s))
+    !is_dots(name)
 }
 
 // A name, and a slot in use.
@@ -128,27 +111,13 @@ fn used_sound(files: &[u32], contents: &[u8], name: &[u8], target: u32) -> bool
     if !inside {
         return false;
     }
-    not_free(files, target)
-}
-
-fn all_padding(name: &[u8]) -> bool
-    ensures { λ r. ⌜ r ≡ all (isPadding (now (name .entry))) 0 NAME ⌝ }
-{
-    let mut k = 0;
-    while k < NAME {
-        if is_padding(name, k) {
-            k += 1;
-        } else {
-            return false;
-        }
-    }
-    true
+    !is_free(files, Slot(target))
 }
 
 fn padding_at(dir: &[u8], i: u32) -> bool
     ensures { λ r. ⌜ r ≡ all (isPadding (direntAt (now (dir .entry)) i)) 0 NAME ⌝ }
 {
-    all_padding(dirent_at(dir, i))
+    same_name(dirent_at(dir, i), b"")
 }
 
 fn used_at(files: &[u32], contents: &[u8], dir: &[u8], i: u32) -> bool

@@ -1,13 +1,13 @@
 // The open files. Each function takes the four tables, as the rules' view does.
 ghost use mathlib.Core.Path.{_≡_};
-ghost use mathlib.Core.Bool.{not, cond};
+ghost use mathlib.Core.Bool.{cond};
 ghost use lib.Dec.{eqb, ltb};
 ghost use lib.ListN.{getD};
 ghost use Prim.Native.Nat.{_+_};
 ghost use Rattle.rules.specs.Scan.{all};
 ghost use Rattle.rules.specs.Layout.{OPEN, OPENS, SLOT, REFERENCES, SLOTS, PLAIN, FILE, KIND};
 ghost use Rattle.rules.specs.Store.{tab, view, store};
-ghost use Rattle.rules.specs.Sound.{isOn, openBut, isOpen, openFree, openUsed, openSound};
+ghost use Rattle.rules.specs.Sound.{openFree, openUsed, openSound};
 ghost use Rattle.soundness.specs.Counted.{openSoundBy};
 use crate::census::count_held;
 use crate::fields::at_least;
@@ -25,55 +25,11 @@ use tables::layout::PLAIN;
 use tables::layout::REFERENCES;
 use tables::layout::SLOT;
 use tables::layout::SLOTS;
-use tables::opens::references;
 use tables::opens::slot_word;
 use tables::words::get;
 
 // Of descriptors: what holds nothing is 0, what holds open file e is e + 1.
 const HELD: usize = (OPENS as usize) + 1;
-
-fn other(e: u32, x: u32) -> bool
-    ensures { λ r. ⌜ r ≡ not (eqb e x) ⌝ }
-{
-    e != x
-}
-
-fn referred(opens: &[u32], e: u32) -> bool
-    ensures { λ r. ⌜ r ≡ not (eqb (tab OPEN (now (opens .entry)) e REFERENCES) 0) ⌝ }
-{
-    references(opens, e) != 0
-}
-
-fn is_on(opens: &[u32], x: u32, s: u32, e: u32) -> bool
-    ensures { λ r. ⌜ r ≡ isOn (tab OPEN (now (opens .entry))) x s e ⌝ }
-{
-    if !other(e, x) {
-        return false;
-    }
-    if !referred(opens, e) {
-        return false;
-    }
-    is_word(opens, OPEN * (e as usize) + SLOT, s)
-}
-
-fn open_but(opens: &[u32], x: u32, s: u32) -> bool
-    ensures { λ r. ⌜ r ≡ openBut (tab OPEN (now (opens .entry))) x s ⌝ }
-{
-    let mut e = 0;
-    while e < OPENS {
-        if is_on(opens, x, s, e) {
-            return true;
-        }
-        e += 1;
-    }
-    false
-}
-
-pub fn is_open(opens: &[u32], s: u32) -> bool
-    ensures { λ r. ⌜ r ≡ isOpen (tab OPEN (now (opens .entry))) s ⌝ }
-{
-    open_but(opens, OPENS, s)
-}
 
 fn references_right(opens: &[u32], held: &[u32], e: u32) -> bool
     ensures { λ r. ⌜ r ≡ eqb (tab OPEN (now (opens .entry)) e REFERENCES) (getD (now (held .entry)) (e + 1) 0) ⌝ }
@@ -127,17 +83,11 @@ fn open_used(files: &[u32], contents: &[u8], opens: &[u32], processes: &[u32], e
     at_most(opens, OPEN * (e as usize) + OFFSET, LENGTH_MAX)
 }
 
-fn unreferred(opens: &[u32], e: u32) -> bool
-    ensures { λ r. ⌜ r ≡ eqb (tab OPEN (now (opens .entry)) e REFERENCES) 0 ⌝ }
-{
-    references(opens, e) == 0
-}
-
 // A free open file is all zero, any other is on a plain file.
 fn referred_sound(files: &[u32], contents: &[u8], opens: &[u32], processes: &[u32], e: u32) -> bool
     ensures { λ r. ⌜ r ≡ cond (eqb (tab OPEN (now (opens .entry)) e REFERENCES) 0) (openFree (tab OPEN (now (opens .entry))) e) (openUsed (view (store (now (files .entry)) (now (contents .entry)) (now (opens .entry)) (now (processes .entry)))) e) ⌝ }
 {
-    if unreferred(opens, e) {
+    if is_word(opens, OPEN * (e as usize) + REFERENCES, 0) {
         return open_free(opens, e);
     }
     open_used(files, contents, opens, processes, e)

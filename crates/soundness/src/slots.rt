@@ -12,7 +12,6 @@ use crate::bytes::all_zero;
 use crate::census::count_links;
 use crate::fields::at_most;
 use crate::files::record_sound;
-use crate::opens::is_open;
 use crate::tree::directory_sound;
 use crate::tree::links_sound;
 use rules::ids::Slot;
@@ -23,7 +22,9 @@ use tables::files::shown;
 use tables::layout::FILE;
 use tables::layout::LENGTH;
 use tables::layout::LENGTH_MAX;
+use tables::layout::OPENS;
 use tables::layout::SLOTS;
+use tables::opens::open_but;
 
 // The slots, and one place past the last: the parent of what nothing names.
 const PLACES: usize = (SLOTS as usize) + 1;
@@ -46,7 +47,7 @@ fn named_or_open(files: &[u32], opens: &[u32], s: u32) -> bool
     if is_named(files, s) {
         return true;
     }
-    is_open(opens, s)
+    open_but(opens, OPENS, s)
 }
 
 fn plain_sound(files: &[u32], contents: &[u8], opens: &[u32], processes: &[u32], s: u32) -> bool

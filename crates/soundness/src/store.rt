@@ -1,8 +1,6 @@
 // The whole test.
 ghost use mathlib.Core.Path.{_≡_};
-ghost use lib.Dec.{eqb};
-ghost use Rattle.rules.specs.Layout.{FILE, KIND, DIRECTORY};
-ghost use Rattle.rules.specs.Store.{tab, view, store};
+ghost use Rattle.rules.specs.Store.{view, store};
 ghost use Rattle.rules.specs.Sound.{sizesSound, tablesSound, storeSound, sound};
 use crate::opens::opens_sound;
 use crate::policy::policy_sound;
@@ -34,16 +32,10 @@ fn sizes_sound(files: &[u32], contents: &[u8], opens: &[u32], processes: &[u32])
     processes.len() == PROCESSES_SIZE
 }
 
-fn root_directory(files: &[u32]) -> bool
-    ensures { λ r. ⌜ r ≡ eqb (tab FILE (now (files .entry)) 0 KIND) DIRECTORY ⌝ }
-{
-    is_directory(files, Slot(0))
-}
-
 fn tables_sound(files: &[u32], contents: &[u8], opens: &[u32], processes: &[u32]) -> bool
     ensures { λ r. ⌜ r ≡ tablesSound (view (store (now (files .entry)) (now (contents .entry)) (now (opens .entry)) (now (processes .entry)))) ⌝ }
 {
-    if !root_directory(files) {
+    if !is_directory(files, Slot(0)) {
         return false;
     }
     if !slots_sound(files, contents, opens, processes) {
