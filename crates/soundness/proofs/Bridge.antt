@@ -1,16 +1,16 @@
 -- The tests with what was counted are the rules' tests.
-use mathlib.Core.Path.{_≡_, refl, _∙_, sym, ap}
+use mathlib.Core.Path.{_≡_, refl, _∙_, sym}
 use mathlib.Core.Bool.{Bool, true, false, cond}
-use mathlib.Core.List.{List, [], _∷_}
+use mathlib.Core.List.{List, []}
 use Prim.Native.Nat.{ℕ, zero, suc, _+_, _-_, _≤_, _<_}
 use native.Mathlib.Omega.{arith}
 use borrow.Author.Tests.{eqb-false}
 use lib.Dec.{eqb}
 use lib.ListN.{getD}
-use Rattle.rules.specs.Choice.{every, some}
+use Rattle.rules.specs.Choice.{some}
 use Rattle.rules.specs.Scan.{all}
 use Rattle.rules.specs.Layout.{SLOTS, NAME, NAMES, OPENS, LINKS}
-use Rattle.rules.specs.Store.{Tree, View, slot}
+use Rattle.rules.specs.Store.{Tree, View}
 use Rattle.rules.specs.Paths.{sameAt, sameName}
 use Rattle.rules.specs.Directories.{isEmpty, isPadding}
 use Rattle.rules.specs.Sound.{differs, isNew, linksTo, linksSound, isParent, parentOf, climbs, directorySound, kindSound, slotSound, holders, openSound}

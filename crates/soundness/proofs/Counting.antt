@@ -1,18 +1,18 @@
 -- What a pass leaves at place s is what the rules count: the links of slot s, its parent, the holders of an open file.
-use mathlib.Core.Path.{_≡_, refl, _∙_, sym, ap}
+use mathlib.Core.Path.{_≡_, refl, _∙_, sym}
 use mathlib.Core.Bool.{Bool, true, false, cond}
-use mathlib.Core.List.{List, [], _∷_}
-use Prim.Native.Nat.{ℕ, zero, suc, _+_, _-_, _*_, _%_, _^_, _≤_, _<_}
+use mathlib.Core.List.{List}
+use Prim.Native.Nat.{ℕ, zero, suc, _+_, _-_, _*_, _^_, _≤_, _<_}
 use native.Mathlib.Nat.{mod-eq-of-lt}
 use native.Mathlib.Omega.{arith}
 use borrow.Author.Tests.{eqb-true, eqb-false, ne-eqb}
 use lib.Dec.{eqb}
 use lib.ListN.{length, getD, set, length-set}
 use lib.Seq.{getD-set-same, getD-set-other}
-use Rattle.rules.specs.Scan.{fold, any, count, total, first}
+use Rattle.rules.specs.Scan.{fold, count, total, first}
 use Rattle.rules.specs.Layout.{DIRENTS}
 use Rattle.rules.specs.Store.{up}
-use Rattle.rules.proofs.Scans.{any-yes, any-no, any-done, count-yes, count-no, count-done, total-next, total-done, first-yes, first-no, first-done}
+use Rattle.rules.proofs.Scans.{count-yes, count-no, count-done, total-next, total-done, first-yes, first-no, first-done}
 use Rattle.soundness.specs.Census.{counted}
 use Rattle.soundness.proofs.Folds.{fold-in, fold-out}
 

@@ -1,25 +1,25 @@
 -- The passes count what the rules count.
-use mathlib.Core.Path.{_≡_, refl, _∙_, sym, ap}
+use mathlib.Core.Path.{_≡_, refl, _∙_, sym}
 use mathlib.Core.Bool.{Bool, true, false, cond}
-use mathlib.Core.List.{List, [], _∷_}
-use Prim.Native.Nat.{ℕ, zero, suc, _+_, _-_, _*_, _^_, _≤_, _<_}
+use mathlib.Core.List.{List}
+use Prim.Native.Nat.{ℕ, zero, suc, _+_, _-_, _^_, _≤_, _<_}
 use native.Mathlib.Omega.{arith}
 use native.Mathlib.Nat.{add-zero}
 use borrow.Author.Tests.{eqb-true, eqb-false, ne-eqb}
 use lib.Dec.{eqb}
-use lib.ListN.{length, getD, set, replicate, length-set, length-replicate, getD-replicate}
+use lib.ListN.{length, getD, set, length-set, length-replicate, getD-replicate}
 use lib.Seq.{getD-set-same, getD-set-other}
 use Rattle.rules.specs.Choice.{every}
 use Rattle.rules.specs.Scan.{fold, any, count, total, first}
 use Rattle.rules.specs.Layout.{DIRENTS, DESCRIPTORS, PROCESSES, SLOTS}
-use Rattle.rules.specs.Store.{Tree, slot, up}
+use Rattle.rules.specs.Store.{Tree, slot}
 use Rattle.rules.specs.Directories.{direntSlot}
 use Rattle.rules.specs.Walk.{isDirectory}
 use Rattle.rules.specs.Sound.{linksAt, linksFrom, linksTo, isParent, parentOf, holdsAt, holdersIn, holders}
 use Rattle.rules.proofs.Scans.{any-yes, any-no, any-done, first-yes, first-no, first-done}
 use Rattle.soundness.specs.Census.{counted, claimed, entryCounted, slotCounted, entryClaimed, slotClaimed, descCounted, procCounted, PLACES, HELD, noLinks, noParents, noHolders, links, parents, held}
 use Rattle.soundness.proofs.Folds.{fold-in, fold-out}
-use Rattle.soundness.proofs.Counting.{count-le, first-le, length-fold, counts, counts-keep, totals}
+use Rattle.soundness.proofs.Counting.{count-le, length-fold, counts, counts-keep, totals}
 
 -- ---- links
 

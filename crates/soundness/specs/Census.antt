@@ -1,8 +1,8 @@
 -- One pass over the entries of all directories counts the links of every slot and finds its parent; one over the descriptors counts the holders of
 -- every open file. A pass goes from the last to the first, so that the lowest directory is the last to claim a slot.
-use Prim.Native.Nat.{ℕ, zero, suc, _+_}
-use mathlib.Core.Bool.{Bool, true, false, cond}
-use mathlib.Core.List.{List, [], _∷_}
+use Prim.Native.Nat.{ℕ, _+_}
+use mathlib.Core.Bool.{cond}
+use mathlib.Core.List.{List}
 use lib.Dec.{eqb}
 use lib.ListN.{getD, set, replicate}
 use Rattle.rules.specs.Scan.{fold}

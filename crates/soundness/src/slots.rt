@@ -1,11 +1,11 @@
 // What is owed of a slot, by its kind. Each function takes the tables that its rule looks at.
 ghost use mathlib.Core.Path.{_≡_};
 ghost use mathlib.Core.List.{[], _∷_};
-ghost use lib.Dec.{eqb, ltb};
+ghost use lib.Dec.{ltb};
 ghost use Rattle.rules.specs.Choice.{some};
 ghost use Rattle.rules.specs.Scan.{all};
 ghost use Rattle.rules.specs.Layout.{SLOTS, FILE, OPEN, LINKS};
-ghost use Rattle.rules.specs.Store.{tab, tree, shownOf, view, store};
+ghost use Rattle.rules.specs.Store.{tab, shownOf, view, store};
 ghost use Rattle.rules.specs.Sound.{allZero, isOpen, plainSound, slotSound};
 ghost use Rattle.soundness.specs.Counted.{kindSoundBy, slotSoundBy};
 use crate::bytes::all_zero;
