@@ -80,11 +80,11 @@ fn lose_name(files: &mut [u32], contents: &mut [u8], u: Unnamed)
     ensures { λ _. ⌜ ((E P : List ℕ) → store (now (files .exit)) (now (contents .exit)) E P ≡ applyAll (unnamedChanges u) (store (now (files .entry)) (now (contents .entry)) E P)) ⌝ }
 {
     match u {
-        Unnamed::Kept(s, links) => {
-            put(files, FILE * (s.0 as usize) + LINKS, links);
+        Unnamed::Kept(s, left) => {
+            put(files, FILE * (s.0 as usize) + LINKS, left);
         }
-        Unnamed::Freed(s, r) => {
-            clear_slot(files, contents, s, r);
+        Unnamed::Freed(s, freed) => {
+            clear_slot(files, contents, s, freed);
         }
     }
 }

@@ -89,6 +89,7 @@ pub fn close_descriptor(
     release_open(files, contents, opens, r);
 }
 
+// One descriptor more for an open file: its offset is shared.
 pub fn duplicate_descriptor(
     files: &mut [u32],
     contents: &mut [u8],
@@ -122,8 +123,7 @@ pub fn share_descriptor(
             put_descriptor(processes, child, i, 0);
         }
         Share::Held(e, references) => {
-            put_descriptor(processes, child, i, up_one(e));
-            put(opens, OPEN * (e as usize) + REFERENCES, references);
+            duplicate_descriptor(files, contents, opens, processes, child, i, e, references);
         }
     }
 }

@@ -37,6 +37,9 @@ use tables::words::put;
 use tables::words::put_byte;
 use tables::words::zero_bytes;
 
+// How many values a byte has.
+const BYTE: u32 = 256;
+
 // A slot's record.
 pub fn put_record(files: &mut [u32], s: Slot, r: Record)
     ensures { λ _. ⌜ now (files .exit) ≡ puts FILE (now (files .entry)) (s .0) 0 (words r) ⌝ }
@@ -107,7 +110,7 @@ fn put_name(contents: &mut [u8], d: Slot, i: u32, name: &[u8])
 fn slot_byte(s: Slot) -> u8
     ensures { λ r. ⌜ r ≡ s .0 % 256 ⌝ }
 {
-    (s.0 % 256) as u8
+    (s.0 % BYTE) as u8
 }
 
 // Entry i of directory d: the name, the slot, 0.

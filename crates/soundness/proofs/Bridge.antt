@@ -1,20 +1,21 @@
 -- The tests with what was counted are the rules' tests.
-use mathlib.Core.Path.{_≡_, refl, _∙_, sym, ap}
+use mathlib.Core.Path.{_≡_, refl, _∙_, sym}
 use mathlib.Core.Bool.{Bool, true, false, cond}
-use mathlib.Core.List.{List, [], _∷_}
+use mathlib.Core.List.{List, []}
 use Prim.Native.Nat.{ℕ, zero, suc, _+_, _-_, _≤_, _<_}
 use native.Mathlib.Omega.{arith}
 use borrow.Author.Tests.{eqb-false}
 use lib.Dec.{eqb}
 use lib.ListN.{getD}
-use Rattle.rules.specs.Choice.{every, some}
+use Rattle.rules.specs.Choice.{some}
 use Rattle.rules.specs.Scan.{all}
-use Rattle.rules.specs.Layout.{SLOTS, NAMES, OPENS, LINKS}
-use Rattle.rules.specs.Store.{Tree, View, slot}
-use Rattle.rules.specs.Directories.{isEmpty}
+use Rattle.rules.specs.Layout.{SLOTS, NAME, NAMES, OPENS, LINKS}
+use Rattle.rules.specs.Store.{Tree, View}
+use Rattle.rules.specs.Paths.{sameAt, sameName}
+use Rattle.rules.specs.Directories.{isEmpty, isPadding}
 use Rattle.rules.specs.Sound.{differs, isNew, linksTo, linksSound, isParent, parentOf, climbs, directorySound, kindSound, slotSound, holders, openSound}
 use Rattle.rules.proofs.Scans.{all-yes, all-no, all-done, all-of}
-use Rattle.soundness.specs.Census.{links, parents, held}
+use Rattle.soundness.specs.Census.{PLACES, links, parents, held}
 use Rattle.soundness.specs.Counted.{otherThan, linksSoundBy, climbsBy, directorySoundBy, kindSoundBy, slotSoundBy, openSoundBy}
 use Rattle.soundness.proofs.Counting.{first-le}
 use Rattle.soundness.proofs.Counts.{links-at, parents-at, held-at}
@@ -36,20 +37,20 @@ all-same-from p q (suc k) i n e h = by (q i) refl (all-same-from p q k (i + 1) n
 pub all-same : (p q : ℕ → Bool) (n : ℕ) → ((j : ℕ) → j < n → p j ≡ q j) → all p 0 n ≡ all q 0 n
 all-same p q n h = all-same-from p q (n - 0) 0 n refl h
 
-climbs-by : (t : Tree) (n d : ℕ) → d < 65 → climbsBy (parents t) n d ≡ climbs t n d
+climbs-by : (t : Tree) (n d : ℕ) → d < PLACES → climbsBy (parents t) n d ≡ climbs t n d
 unfolding climbsBy climbs
 climbs-by t zero d h = refl
 climbs-by t (suc n) d h = by (eqb d 0) refl (λ o. rw (parents-at t d o h) (climbs-by t n (parentOf t d) below))
   where
-    below : parentOf t d < 65
-    below = let b : parentOf t d ≤ 64 = first-le (isParent t d) SLOTS in omega arith
+    below : parentOf t d < PLACES
+    below = let b : parentOf t d ≤ SLOTS = first-le (isParent t d) SLOTS in omega arith
 
     by : (b : Bool) → eqb d 0 ≡ b → ((d ≡ 0 → ⊥) → climbsBy (parents t) n (getD (parents t) d 0) ≡ climbs t n (parentOf t d))
         → cond b true (climbsBy (parents t) n (getD (parents t) d 0)) ≡ cond b true (climbs t n (parentOf t d))
     by true q up = refl
     by false q up = up (eqb-false d 0 q)
 
-links-by : (t : Tree) (s : ℕ) → s < 64 → linksSoundBy t (links t) s ≡ linksSound t s
+links-by : (t : Tree) (s : ℕ) → s < SLOTS → linksSoundBy t (links t) s ≡ linksSound t s
 unfolding linksSoundBy linksSound
 links-by t s h = by (eqb s 0) refl
   where
@@ -57,7 +58,7 @@ links-by t s h = by (eqb s 0) refl
     by true q = refl
     by false q = rw (links-at t s (eqb-false s 0 q) (omega arith))
 
-slot-by : (v : View) (s : ℕ) → s < 64 → slotSoundBy v (links (v .tree)) (parents (v .tree)) s ≡ slotSound v s
+slot-by : (v : View) (s : ℕ) → s < SLOTS → slotSoundBy v (links (v .tree)) (parents (v .tree)) s ≡ slotSound v s
 unfolding slotSoundBy slotSound kindSoundBy kindSound directorySoundBy directorySound
 slot-by v s h =
     let c : climbsBy (parents (v .tree)) NAMES s ≡ climbs (v .tree) NAMES s = climbs-by (v .tree) NAMES s (omega arith) in
@@ -67,7 +68,7 @@ pub slots-by : (v : View) (L P : List ℕ) (r : Bool) → L ≡ links (v .tree) 
 slots-by v L P r a b e =
     rw (a, b) at e ∙ all-same (slotSoundBy v (links (v .tree)) (parents (v .tree))) (slotSound v) SLOTS (slot-by v)
 
-open-by : (v : View) (e : ℕ) → e < 32 → openSoundBy v (held (v .desc)) e ≡ openSound v e
+open-by : (v : View) (e : ℕ) → e < OPENS → openSoundBy v (held (v .desc)) e ≡ openSound v e
 unfolding openSoundBy openSound
 open-by v e h =
     let l : getD (held (v .desc)) (e + 1) 0 ≡ holders (v .desc) e = held-at (v .desc) e (omega arith) in
@@ -77,6 +78,11 @@ pub opens-by : (v : View) (H : List ℕ) (r : Bool) → H ≡ held (v .desc) →
 opens-by v H r a e = rw a at e ∙ all-same (openSoundBy v (held (v .desc))) (openSound v) OPENS (open-by v)
 
 -- ---- an entry with no name, and one that has a name
+
+-- a name that is the empty one is all padding
+pub no-name : (name : List ℕ) (r : Bool) → r ≡ sameName name [] → r ≡ all (isPadding name) 0 NAME
+unfolding sameName sameAt isPadding
+no-name name r q = q ∙ all-same (sameAt name []) (isPadding name) NAME (λ j a. refl)
 
 pub empty-new : (D : List ℕ) (i : ℕ) (r : Bool) → r ≡ isEmpty D i → r ≡ true → true ≡ isNew D i
 unfolding isNew differs some

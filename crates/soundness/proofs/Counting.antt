@@ -1,17 +1,18 @@
 -- What a pass leaves at place s is what the rules count: the links of slot s, its parent, the holders of an open file.
-use mathlib.Core.Path.{_≡_, refl, _∙_, sym, ap}
+use mathlib.Core.Path.{_≡_, refl, _∙_, sym}
 use mathlib.Core.Bool.{Bool, true, false, cond}
-use mathlib.Core.List.{List, [], _∷_}
-use Prim.Native.Nat.{ℕ, zero, suc, _+_, _-_, _*_, _%_, _^_, _≤_, _<_}
+use mathlib.Core.List.{List}
+use Prim.Native.Nat.{ℕ, zero, suc, _+_, _-_, _*_, _^_, _≤_, _<_}
 use native.Mathlib.Nat.{mod-eq-of-lt}
 use native.Mathlib.Omega.{arith}
 use borrow.Author.Tests.{eqb-true, eqb-false, ne-eqb}
 use lib.Dec.{eqb}
 use lib.ListN.{length, getD, set, length-set}
 use lib.Seq.{getD-set-same, getD-set-other}
-use Rattle.rules.specs.Scan.{fold, any, count, total, first}
+use Rattle.rules.specs.Scan.{fold, count, total, first}
+use Rattle.rules.specs.Layout.{DIRENTS}
 use Rattle.rules.specs.Store.{up}
-use Rattle.rules.proofs.Scans.{any-yes, any-no, any-done, count-yes, count-no, count-done, total-next, total-done, first-yes, first-no, first-done}
+use Rattle.rules.proofs.Scans.{count-yes, count-no, count-done, total-next, total-done, first-yes, first-no, first-done}
 use Rattle.soundness.specs.Census.{counted}
 use Rattle.rules.proofs.Scans.{fold-step, fold-done}
 
@@ -39,7 +40,7 @@ count-le-from p (suc k) i n e = by (p i) refl (count-le-from p k (i + 1) n (omeg
 pub count-le : (p : ℕ → Bool) (i n : ℕ) → count p i n ≤ n - i
 count-le p i n = count-le-from p (n - i) i n refl
 
-total-le-from : (h : ℕ → ℕ) → ((i : ℕ) → h i ≤ 16) → (k i n : ℕ) → n - i ≡ k → total h i n ≤ 16 * (n - i)
+total-le-from : (h : ℕ → ℕ) → ((i : ℕ) → h i ≤ DIRENTS) → (k i n : ℕ) → n - i ≡ k → total h i n ≤ DIRENTS * (n - i)
 total-le-from h small zero i n e =
     let a : n ≤ i = omega arith in
     let c : 0 ≡ 0 + total h i n = total-done (λ j. true) i n h 0 refl a in
@@ -47,8 +48,8 @@ total-le-from h small zero i n e =
 total-le-from h small (suc k) i n e =
     let inside : i < n = omega arith in
     let c : 0 + h i + total h (i + 1) n ≡ 0 + total h i n = total-next (λ j. true) i n h 0 refl inside refl in
-    let rest : total h (i + 1) n ≤ 16 * (n - (i + 1)) = total-le-from h small k (i + 1) n (omega arith) in
-    let b : h i ≤ 16 = small i in
+    let rest : total h (i + 1) n ≤ DIRENTS * (n - (i + 1)) = total-le-from h small k (i + 1) n (omega arith) in
+    let b : h i ≤ DIRENTS = small i in
     omega arith
 
 first-le-from : (p : ℕ → Bool) (k i n : ℕ) → n - i ≡ k → i ≤ n → first p i n ≤ n
@@ -141,10 +142,10 @@ module _ (f : ℕ → List ℕ → List ℕ) (key : ℕ → ℕ) (does : (i : �
   pub counts : (n : ℕ) (L : List ℕ) → s < length L → getD L s 0 + n < 2 ^ 32 → getD (fold f 0 n L) s 0 ≡ count p 0 n + getD L s 0
   counts n L h b = counts-from (n - 0) 0 n refl L h (omega arith)
 
--- each step adds h i at s, at most 16
+-- each step adds h i at s, at most as many as a directory has entries
 module _ (g : ℕ → List ℕ → List ℕ) (h : ℕ → ℕ) (s : ℕ) (keeps : (i : ℕ) (L : List ℕ) → length (g i L) ≡ length L)
-    (adds : (i : ℕ) (L : List ℕ) → s < length L → getD L s 0 + 16 < 2 ^ 32 → getD (g i L) s 0 ≡ h i + getD L s 0) (small : (i : ℕ) → h i ≤ 16) where
-  totals-from : (k i n : ℕ) → n - i ≡ k → (L : List ℕ) → s < length L → getD L s 0 + 16 * (n - i) < 2 ^ 32 → getD (fold g i n L) s 0 ≡ total h i n + getD L s 0
+    (adds : (i : ℕ) (L : List ℕ) → s < length L → getD L s 0 + DIRENTS < 2 ^ 32 → getD (g i L) s 0 ≡ h i + getD L s 0) (small : (i : ℕ) → h i ≤ DIRENTS) where
+  totals-from : (k i n : ℕ) → n - i ≡ k → (L : List ℕ) → s < length L → getD L s 0 + DIRENTS * (n - i) < 2 ^ 32 → getD (fold g i n L) s 0 ≡ total h i n + getD L s 0
   totals-from zero i n e L a b =
       let o : n ≤ i = omega arith in
       let c : 0 ≡ 0 + total h i n = total-done (λ j. true) i n h 0 refl o in
@@ -153,11 +154,11 @@ module _ (g : ℕ → List ℕ → List ℕ) (h : ℕ → ℕ) (s : ℕ) (keeps 
   totals-from (suc k) i n e L a b =
       let inside : i < n = omega arith in
       let ih : getD (fold g (i + 1) n L) s 0 ≡ total h (i + 1) n + getD L s 0 = totals-from k (i + 1) n (omega arith) L a (omega arith) in
-      let le : total h (i + 1) n ≤ 16 * (n - (i + 1)) = total-le-from h small (n - (i + 1)) (i + 1) n refl in
+      let le : total h (i + 1) n ≤ DIRENTS * (n - (i + 1)) = total-le-from h small (n - (i + 1)) (i + 1) n refl in
       let long : s < length (fold g (i + 1) n L) = rw (length-fold g keeps (i + 1) n L) a in
       let c : 0 + h i + total h (i + 1) n ≡ 0 + total h i n = total-next (λ j. true) i n h 0 refl inside refl in
       let one : getD (g i (fold g (i + 1) n L)) s 0 ≡ h i + getD (fold g (i + 1) n L) s 0 = adds i (fold g (i + 1) n L) long (omega arith) in
       rw (fold-step g i n L inside) (omega arith)
 
-  pub totals : (n : ℕ) (L : List ℕ) → s < length L → getD L s 0 + 16 * n < 2 ^ 32 → getD (fold g 0 n L) s 0 ≡ total h 0 n + getD L s 0
+  pub totals : (n : ℕ) (L : List ℕ) → s < length L → getD L s 0 + DIRENTS * n < 2 ^ 32 → getD (fold g 0 n L) s 0 ≡ total h 0 n + getD L s 0
   totals n L a b = totals-from (n - 0) 0 n refl L a (omega arith)

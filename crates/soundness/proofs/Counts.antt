@@ -1,25 +1,25 @@
 -- The passes count what the rules count.
-use mathlib.Core.Path.{_≡_, refl, _∙_, sym, ap}
+use mathlib.Core.Path.{_≡_, refl, _∙_, sym}
 use mathlib.Core.Bool.{Bool, true, false, cond}
-use mathlib.Core.List.{List, [], _∷_}
-use Prim.Native.Nat.{ℕ, zero, suc, _+_, _-_, _*_, _^_, _≤_, _<_}
+use mathlib.Core.List.{List}
+use Prim.Native.Nat.{ℕ, zero, suc, _+_, _-_, _^_, _≤_, _<_}
 use native.Mathlib.Omega.{arith}
 use native.Mathlib.Nat.{add-zero}
 use borrow.Author.Tests.{eqb-true, eqb-false, ne-eqb}
 use lib.Dec.{eqb}
-use lib.ListN.{length, getD, set, replicate, length-set, length-replicate, getD-replicate}
+use lib.ListN.{length, getD, set, length-set, length-replicate, getD-replicate}
 use lib.Seq.{getD-set-same, getD-set-other}
 use Rattle.rules.specs.Choice.{every}
 use Rattle.rules.specs.Scan.{fold, any, count, total, first}
 use Rattle.rules.specs.Layout.{DIRENTS, DESCRIPTORS, PROCESSES, SLOTS}
-use Rattle.rules.specs.Store.{Tree, slot, up}
+use Rattle.rules.specs.Store.{Tree, slot}
 use Rattle.rules.specs.Directories.{direntSlot}
 use Rattle.rules.specs.Walk.{isDirectory}
 use Rattle.rules.specs.Sound.{linksAt, linksFrom, linksTo, isParent, parentOf, holdsAt, holdersIn, holders}
 use Rattle.rules.proofs.Scans.{any-yes, any-no, any-done, first-yes, first-no, first-done}
-use Rattle.soundness.specs.Census.{counted, claimed, entryCounted, slotCounted, entryClaimed, slotClaimed, descCounted, procCounted, noLinks, noParents, noHolders, links, parents, held}
+use Rattle.soundness.specs.Census.{counted, claimed, entryCounted, slotCounted, entryClaimed, slotClaimed, descCounted, procCounted, PLACES, HELD, noLinks, noParents, noHolders, links, parents, held}
 use Rattle.rules.proofs.Scans.{fold-step, fold-done}
-use Rattle.soundness.proofs.Counting.{count-le, first-le, length-fold, counts, counts-keep, totals}
+use Rattle.soundness.proofs.Counting.{count-le, length-fold, counts, counts-keep, totals}
 
 -- ---- links
 
@@ -40,7 +40,7 @@ module _ (t : Tree) (s : ℕ) (some : s ≡ 0 → ⊥) where
       by true = counts-keep (entryCounted (t .shown d)) (direntSlot (t .shown d)) (entry-does (t .shown d)) (linksAt (t .shown d) s) s some (entry-tells (t .shown d)) 0 DIRENTS L
       by false = refl
 
-  slot-adds : (d : ℕ) (L : List ℕ) → s < length L → getD L s 0 + 16 < 2 ^ 32 → getD (slotCounted t d L) s 0 ≡ linksFrom t s d + getD L s 0
+  slot-adds : (d : ℕ) (L : List ℕ) → s < length L → getD L s 0 + DIRENTS < 2 ^ 32 → getD (slotCounted t d L) s 0 ≡ linksFrom t s d + getD L s 0
   unfolding slotCounted linksFrom
   slot-adds d L h b = by (isDirectory (t .file) (slot d))
     where
@@ -48,19 +48,19 @@ module _ (t : Tree) (s : ℕ) (some : s ≡ 0 → ⊥) where
       by true = counts (entryCounted (t .shown d)) (direntSlot (t .shown d)) (entry-does (t .shown d)) (linksAt (t .shown d) s) s some (entry-tells (t .shown d)) DIRENTS L h b
       by false = omega arith
 
-  slot-small : (d : ℕ) → linksFrom t s d ≤ 16
+  slot-small : (d : ℕ) → linksFrom t s d ≤ DIRENTS
   unfolding linksFrom
   slot-small d = by (isDirectory (t .file) (slot d))
     where
-      by : (q : Bool) → cond q (count (linksAt (t .shown d) s) 0 DIRENTS) 0 ≤ 16
+      by : (q : Bool) → cond q (count (linksAt (t .shown d) s) 0 DIRENTS) 0 ≤ DIRENTS
       by true = count-le (linksAt (t .shown d) s) 0 DIRENTS
       by false = omega arith
 
-  pub links-at : s < 65 → getD (links t) s 0 ≡ linksTo t s
+  pub links-at : s < PLACES → getD (links t) s 0 ≡ linksTo t s
   unfolding linksTo
   links-at h =
-      let z : getD noLinks s 0 ≡ 0 = getD-replicate 65 s 0 0 h in
-      let a : s < length noLinks = rw (length-replicate {A = ℕ} 65 0) h in
+      let z : getD noLinks s 0 ≡ 0 = getD-replicate PLACES s 0 0 h in
+      let a : s < length noLinks = rw (length-replicate {A = ℕ} PLACES 0) h in
       let e : getD (links t) s 0 ≡ total (linksFrom t s) 0 SLOTS + getD noLinks s 0 =
       totals (slotCounted t) (linksFrom t s) s slot-keeps slot-adds slot-small SLOTS noLinks a (rw z (omega arith)) in
       e ∙ rw z (add-zero (total (linksFrom t s) 0 SLOTS))
@@ -155,10 +155,10 @@ module _ (t : Tree) (s : ℕ) (some : s ≡ 0 → ⊥) where
       by true q ih = first-yes (isParent t s) i n refl inside q refl
       by false q ih = ih ∙ first-no (isParent t s) i n refl inside q refl
 
-  pub parents-at : s < 65 → getD (parents t) s 0 ≡ parentOf t s
+  pub parents-at : s < PLACES → getD (parents t) s 0 ≡ parentOf t s
   parents-at h =
-      let a : s < length noParents = rw (length-replicate {A = ℕ} 65 64) h in
-      parents-from (SLOTS - 0) 0 SLOTS refl noParents a (getD-replicate 65 s 64 0 h)
+      let a : s < length noParents = rw (length-replicate {A = ℕ} PLACES SLOTS) h in
+      parents-from (SLOTS - 0) 0 SLOTS refl noParents a (getD-replicate PLACES s SLOTS 0 h)
 
 -- ---- holders
 
@@ -175,19 +175,19 @@ module _ (desc : ℕ → ℕ → ℕ) (e : ℕ) where
   unfolding procCounted
   proc-keeps p H = counts-keep (descCounted desc p) (desc p) (desc-does p) (holdsAt desc e p) (e + 1) (λ x. omega arith) (desc-tells p) 0 DESCRIPTORS H
 
-  proc-adds : (p : ℕ) (H : List ℕ) → e + 1 < length H → getD H (e + 1) 0 + 16 < 2 ^ 32 → getD (procCounted desc p H) (e + 1) 0 ≡ holdersIn desc e p + getD H (e + 1) 0
+  proc-adds : (p : ℕ) (H : List ℕ) → e + 1 < length H → getD H (e + 1) 0 + DIRENTS < 2 ^ 32 → getD (procCounted desc p H) (e + 1) 0 ≡ holdersIn desc e p + getD H (e + 1) 0
   unfolding procCounted holdersIn
   proc-adds p H h b = counts (descCounted desc p) (desc p) (desc-does p) (holdsAt desc e p) (e + 1) (λ x. omega arith) (desc-tells p) DESCRIPTORS H h (omega arith)
 
-  proc-small : (p : ℕ) → holdersIn desc e p ≤ 16
+  proc-small : (p : ℕ) → holdersIn desc e p ≤ DIRENTS
   unfolding holdersIn
-  proc-small p = let c : count (holdsAt desc e p) 0 DESCRIPTORS ≤ 8 - 0 = count-le (holdsAt desc e p) 0 DESCRIPTORS in omega arith
+  proc-small p = let c : count (holdsAt desc e p) 0 DESCRIPTORS ≤ DESCRIPTORS - 0 = count-le (holdsAt desc e p) 0 DESCRIPTORS in omega arith
 
-  pub held-at : e + 1 < 33 → getD (held desc) (e + 1) 0 ≡ holders desc e
+  pub held-at : e + 1 < HELD → getD (held desc) (e + 1) 0 ≡ holders desc e
   unfolding holders
   held-at h =
-      let z : getD noHolders (e + 1) 0 ≡ 0 = getD-replicate 33 (e + 1) 0 0 h in
-      let a : e + 1 < length noHolders = rw (length-replicate {A = ℕ} 33 0) h in
+      let z : getD noHolders (e + 1) 0 ≡ 0 = getD-replicate HELD (e + 1) 0 0 h in
+      let a : e + 1 < length noHolders = rw (length-replicate {A = ℕ} HELD 0) h in
       let c : getD (held desc) (e + 1) 0 ≡ total (holdersIn desc e) 0 PROCESSES + getD noHolders (e + 1) 0 =
       totals (procCounted desc) (holdersIn desc e) (e + 1) proc-keeps proc-adds proc-small PROCESSES noHolders a (rw z (omega arith)) in
       c ∙ rw z (add-zero (total (holdersIn desc e) 0 PROCESSES))

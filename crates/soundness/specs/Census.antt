@@ -1,8 +1,8 @@
 -- One pass over the entries of all directories counts the links of every slot and finds its parent; one over the descriptors counts the holders of
 -- every open file. A pass goes from the last to the first, so that the lowest directory is the last to claim a slot.
-use Prim.Native.Nat.{ℕ, zero, suc, _+_}
-use mathlib.Core.Bool.{Bool, true, false, cond}
-use mathlib.Core.List.{List, [], _∷_}
+use Prim.Native.Nat.{ℕ, _+_}
+use mathlib.Core.Bool.{cond}
+use mathlib.Core.List.{List}
 use lib.Dec.{eqb}
 use lib.ListN.{getD, set, replicate}
 use Rattle.rules.specs.Scan.{fold}
@@ -32,12 +32,15 @@ entryClaimed D d i P = claimed (direntSlot D i) d P
 unfoldable pub slotClaimed : Tree → ℕ → List ℕ → List ℕ
 slotClaimed t d P = cond (isDirectory (t .file) (slot d)) (fold (entryClaimed (t .shown d) d) 0 DIRENTS P) P
 
--- Slots 0 to 64: the way up from a directory that nothing names leads to 64.
+-- The slots, and one place past the last: the way up from a directory that nothing names leads there.
+abbrev pub PLACES : ℕ
+PLACES = SLOTS + 1
+
 abbrev pub noLinks : List ℕ
-noLinks = replicate 65 0
+noLinks = replicate PLACES 0
 
 abbrev pub noParents : List ℕ
-noParents = replicate 65 64
+noParents = replicate PLACES SLOTS
 
 abbrev pub links : Tree → List ℕ
 links t = fold (slotCounted t) 0 SLOTS noLinks
@@ -52,8 +55,12 @@ descCounted desc p i H = counted (desc p i) H
 unfoldable pub procCounted : (ℕ → ℕ → ℕ) → ℕ → List ℕ → List ℕ
 procCounted desc p H = fold (descCounted desc p) 0 DESCRIPTORS H
 
+-- what descriptors hold: nothing, or one of the open files
+abbrev pub HELD : ℕ
+HELD = OPENS + 1
+
 abbrev pub noHolders : List ℕ
-noHolders = replicate 33 0
+noHolders = replicate HELD 0
 
 abbrev pub held : (ℕ → ℕ → ℕ) → List ℕ
 held desc = fold (procCounted desc) 0 PROCESSES noHolders

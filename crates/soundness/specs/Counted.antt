@@ -1,6 +1,6 @@
 -- The rules' tests of a slot and of an open file, with the counted links L, parents P and holders H; and of an entry whose name is looked for.
 use Prim.Native.Nat.{ℕ, zero, suc, _+_}
-use mathlib.Core.Bool.{Bool, true, false, cond, not}
+use mathlib.Core.Bool.{Bool, true, cond, not}
 use mathlib.Core.List.{List, [], _∷_}
 use lib.Dec.{eqb}
 use lib.ListN.{getD}

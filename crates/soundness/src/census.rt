@@ -2,6 +2,7 @@
 ghost use mathlib.Core.Path.{_≡_};
 ghost use lib.ListN.{getD, set};
 ghost use Rattle.rules.specs.Scan.{fold};
+ghost use Rattle.rules.specs.Layout.{SLOTS, DIRENTS, PROCESSES};
 ghost use Rattle.rules.specs.Store.{tree, shownOf, descOf, up};
 ghost use Rattle.soundness.specs.Census.{counted, claimed, entryCounted, slotCounted, entryClaimed, slotClaimed, descCounted, procCounted};
 use rules::ids::Fd;
@@ -57,7 +58,7 @@ fn count_entry(links: &mut [u32], parents: &mut [u32], dir: &[u8], d: u32, i: u3
 }
 
 fn count_directory(links: &mut [u32], parents: &mut [u32], dir: &[u8], d: u32)
-    ensures { λ _. ⌜ (now (links .exit) ≡ fold (entryCounted (now (dir .entry))) 0 16 (now (links .entry))) × (now (parents .exit) ≡ fold (entryClaimed (now (dir .entry)) d) 0 16 (now (parents .entry))) ⌝ }
+    ensures { λ _. ⌜ (now (links .exit) ≡ fold (entryCounted (now (dir .entry))) 0 DIRENTS (now (links .entry))) × (now (parents .exit) ≡ fold (entryClaimed (now (dir .entry)) d) 0 DIRENTS (now (parents .entry))) ⌝ }
 {
     let mut i = DIRENTS;
     while 0 < i {
@@ -67,7 +68,7 @@ fn count_directory(links: &mut [u32], parents: &mut [u32], dir: &[u8], d: u32)
 }
 
 fn count_shown(files: &[u32], contents: &[u8], links: &mut [u32], parents: &mut [u32], d: u32)
-    ensures { λ _. ⌜ (now (links .exit) ≡ fold (entryCounted (shownOf (now (files .entry)) (now (contents .entry)) d)) 0 16 (now (links .entry))) × (now (parents .exit) ≡ fold (entryClaimed (shownOf (now (files .entry)) (now (contents .entry)) d) d) 0 16 (now (parents .entry))) ⌝ }
+    ensures { λ _. ⌜ (now (links .exit) ≡ fold (entryCounted (shownOf (now (files .entry)) (now (contents .entry)) d)) 0 DIRENTS (now (links .entry))) × (now (parents .exit) ≡ fold (entryClaimed (shownOf (now (files .entry)) (now (contents .entry)) d) d) 0 DIRENTS (now (parents .entry))) ⌝ }
 {
     count_directory(links, parents, shown(files, contents, Slot(d)), d);
 }
@@ -83,7 +84,7 @@ fn count_slot(files: &[u32], contents: &[u8], links: &mut [u32], parents: &mut [
 
 // From the last directory to the first: the lowest is the last to claim a slot.
 pub fn count_links(files: &[u32], contents: &[u8], links: &mut [u32], parents: &mut [u32])
-    ensures { λ _. ⌜ (now (links .exit) ≡ fold (slotCounted (tree (now (files .entry)) (now (contents .entry)))) 0 64 (now (links .entry))) × (now (parents .exit) ≡ fold (slotClaimed (tree (now (files .entry)) (now (contents .entry)))) 0 64 (now (parents .entry))) ⌝ }
+    ensures { λ _. ⌜ (now (links .exit) ≡ fold (slotCounted (tree (now (files .entry)) (now (contents .entry)))) 0 SLOTS (now (links .entry))) × (now (parents .exit) ≡ fold (slotClaimed (tree (now (files .entry)) (now (contents .entry)))) 0 SLOTS (now (parents .entry))) ⌝ }
 {
     let mut d = SLOTS;
     while 0 < d {
@@ -109,7 +110,7 @@ fn count_process(processes: &[u32], held: &mut [u32], p: u8)
 }
 
 pub fn count_held(processes: &[u32], held: &mut [u32])
-    ensures { λ _. ⌜ now (held .exit) ≡ fold (procCounted (descOf (now (processes .entry)))) 0 8 (now (held .entry)) ⌝ }
+    ensures { λ _. ⌜ now (held .exit) ≡ fold (procCounted (descOf (now (processes .entry)))) 0 PROCESSES (now (held .entry)) ⌝ }
 {
     let mut p = PROCESSES;
     while 0 < p {

@@ -4,12 +4,12 @@ ghost use mathlib.Core.Bool.{not, cond};
 ghost use mathlib.Core.List.{[], _∷_};
 ghost use lib.Dec.{eqb};
 ghost use lib.ListN.{getD, drop};
-ghost use Prim.Native.Nat.{_+_};
+ghost use Prim.Native.Nat.{_+_, _*_};
 ghost use Rattle.rules.specs.Choice.{some, implies};
 ghost use Rattle.rules.specs.Scan.{all, count};
-ghost use Rattle.rules.specs.Layout.{NAME, SLASH, FILE, KIND, FREE};
-ghost use Rattle.rules.specs.Store.{tab, tree};
-ghost use Rattle.rules.specs.Paths.{sameName, isDots};
+ghost use Rattle.rules.specs.Layout.{DIRENTS, DIRENT, NAME, SLASH};
+ghost use Rattle.rules.specs.Store.{tree};
+ghost use Rattle.rules.specs.Paths.{sameName};
 ghost use Rattle.rules.specs.Directories.{direntAt, direntSlot, isEmpty, isPadding};
 ghost use Rattle.rules.specs.Sound.{allZero, nameByteSound, nameSound, usedSound, direntSound, isNew, isUsed, direntsSound};
 ghost use Rattle.soundness.specs.Counted.{otherThan};
@@ -21,6 +21,7 @@ use tables::directories::dirent_slot;
 use tables::directories::is_empty;
 use tables::directories::is_padding;
 use tables::files::is_free;
+use tables::layout::DIRENT;
 use tables::layout::DIRENTS;
 use tables::layout::NAME;
 use tables::layout::SLOTS;
@@ -28,10 +29,13 @@ use tables::names::is_dots;
 use tables::names::same_name;
 use tables::parts::after;
 
-const SLASH: u8 = 47;
+const SLASH: u8 = b'/';
+
+// How many bytes a name has, as a place in it.
+const NAME_BYTES: u32 = NAME as u32;
 
 // The bytes of all entries.
-const ENTRIES: usize = 256;
+const ENTRIES: usize = (DIRENTS as usize) * DIRENT;
 
 // Byte k is the last of a name, or 0 follows it.
 fn ends(name: &[u8], k: u32) -> bool
@@ -73,7 +77,7 @@ fn name_bytes_sound(name: &[u8]) -> bool
     ensures { λ r. ⌜ r ≡ all (nameByteSound (now (name .entry))) 0 NAME ⌝ }
 {
     let mut k: u32 = 0;
-    while k < 14 {
+    while k < NAME_BYTES {
         if name_byte_sound(name, k) {
             k += 1;
         } else {
@@ -83,34 +87,17 @@ fn name_bytes_sound(name: &[u8]) -> bool
     true
 }
 
-fn no_padding(name: &[u8]) -> bool
-    ensures { λ r. ⌜ r ≡ not (isPadding (now (name .entry)) 0) ⌝ }
-{
-    !is_padding(name, 0)
-}
-
-fn no_dots(name: &[u8]) -> bool
-    ensures { λ r. ⌜ r ≡ not (isDots (now (name .entry))) ⌝ }
-{
-    !is_dots(name)
-}
-
 fn name_sound(name: &[u8]) -> bool
     ensures { λ r. ⌜ r ≡ nameSound (now (name .entry)) ⌝ }
 {
-    if !no_padding(name) {
+    let started = !is_padding(name, 0);
+    if !started {
         return false;
     }
     if !name_bytes_sound(name) {
         return false;
     }
-    no_dots(name)
-}
-
-fn not_free(files: &[u32], s: u32) -> bool
-    ensures { λ r. ⌜ r ≡ not (eqb (tab FILE (now (files .entry)) s KIND) FREE) ⌝ }
-{
-    !is_free(files, Slot(s))
+    !is_dots(name)
 }
 
 // A name, and a slot in use.
@@ -124,27 +111,13 @@ fn used_sound(files: &[u32], contents: &[u8], name: &[u8], target: u32) -> bool
     if !inside {
         return false;
     }
-    not_free(files, target)
-}
-
-fn all_padding(name: &[u8]) -> bool
-    ensures { λ r. ⌜ r ≡ all (isPadding (now (name .entry))) 0 NAME ⌝ }
-{
-    let mut k = 0;
-    while k < NAME {
-        if is_padding(name, k) {
-            k += 1;
-        } else {
-            return false;
-        }
-    }
-    true
+    !is_free(files, Slot(target))
 }
 
 fn padding_at(dir: &[u8], i: u32) -> bool
     ensures { λ r. ⌜ r ≡ all (isPadding (direntAt (now (dir .entry)) i)) 0 NAME ⌝ }
 {
-    all_padding(dirent_at(dir, i))
+    same_name(dirent_at(dir, i), b"")
 }
 
 fn used_at(files: &[u32], contents: &[u8], dir: &[u8], i: u32) -> bool
@@ -164,7 +137,7 @@ fn entry_sound(files: &[u32], contents: &[u8], dir: &[u8], i: u32) -> bool
 }
 
 fn last_zero(dir: &[u8], i: u32) -> bool
-    ensures { λ r. ⌜ r ≡ eqb (getD (direntAt (now (dir .entry)) i) 15 0) 0 ⌝ }
+    ensures { λ r. ⌜ r ≡ eqb (getD (direntAt (now (dir .entry)) i) (NAME + 1) 0) 0 ⌝ }
 {
     is_byte(dirent_at(dir, i), NAME + 1, 0)
 }
@@ -179,7 +152,7 @@ fn dirent_sound(files: &[u32], contents: &[u8], dir: &[u8], i: u32) -> bool
 }
 
 fn all_dirents_sound(files: &[u32], contents: &[u8], dir: &[u8]) -> bool
-    ensures { λ r. ⌜ r ≡ all (direntSound (tree (now (files .entry)) (now (contents .entry))) (now (dir .entry))) 0 16 ⌝ }
+    ensures { λ r. ⌜ r ≡ all (direntSound (tree (now (files .entry)) (now (contents .entry))) (now (dir .entry))) 0 DIRENTS ⌝ }
 {
     let mut i = 0;
     while i < DIRENTS {
@@ -233,7 +206,7 @@ fn is_new(dir: &[u8], i: u32) -> bool
 }
 
 fn all_new(dir: &[u8]) -> bool
-    ensures { λ r. ⌜ r ≡ all (isNew (now (dir .entry))) 0 16 ⌝ }
+    ensures { λ r. ⌜ r ≡ all (isNew (now (dir .entry))) 0 DIRENTS ⌝ }
 {
     let mut i = 0;
     while i < DIRENTS {
@@ -253,7 +226,7 @@ fn is_used(dir: &[u8], i: u32) -> bool
 }
 
 fn used_count(dir: &[u8]) -> u32
-    ensures { λ r. ⌜ r ≡ count (isUsed (now (dir .entry))) 0 16 ⌝ }
+    ensures { λ r. ⌜ r ≡ count (isUsed (now (dir .entry))) 0 DIRENTS ⌝ }
 {
     let mut n = 0;
     let mut i = 0;
@@ -267,14 +240,14 @@ fn used_count(dir: &[u8]) -> u32
 }
 
 fn counts_right(dir: &[u8], n: u32) -> bool
-    ensures { λ r. ⌜ r ≡ eqb n (count (isUsed (now (dir .entry))) 0 16) ⌝ }
+    ensures { λ r. ⌜ r ≡ eqb n (count (isUsed (now (dir .entry))) 0 DIRENTS) ⌝ }
 {
     n == used_count(dir)
 }
 
 // What is past the entries is 0.
 fn rest_zero(dir: &[u8]) -> bool
-    ensures { λ r. ⌜ r ≡ allZero (drop 256 (now (dir .entry))) ⌝ }
+    ensures { λ r. ⌜ r ≡ allZero (drop (DIRENTS * DIRENT) (now (dir .entry))) ⌝ }
 {
     all_zero(after(dir, ENTRIES))
 }

@@ -10,13 +10,18 @@ use crate::fields::is_word;
 use rules::ids::Slot;
 use tables::files::is_free;
 use tables::layout::BITS;
+use tables::layout::BITS_MAX;
 use tables::layout::FILE;
 use tables::layout::KIND;
+use tables::layout::KIND_MAX;
 use tables::layout::LABEL;
+use tables::layout::LABEL_MAX;
 use tables::layout::LENGTH;
 use tables::layout::LINKS;
 use tables::layout::OWNER;
+use tables::layout::USER_MAX;
 use tables::layout::VERSION;
+use tables::layout::WORD_MAX;
 
 fn record_free(files: &[u32], contents: &[u8], s: u32) -> bool
     ensures { λ r. ⌜ r ≡ recordFree (tree (now (files .entry)) (now (contents .entry))) s ⌝ }
@@ -50,19 +55,19 @@ fn free_sound(files: &[u32], contents: &[u8], s: u32) -> bool
 pub fn record_sound(files: &[u32], contents: &[u8], s: u32) -> bool
     ensures { λ r. ⌜ r ≡ recordSound (tree (now (files .entry)) (now (contents .entry))) s ⌝ }
 {
-    if !at_most(files, FILE * (s as usize) + KIND, 2) {
+    if !at_most(files, FILE * (s as usize) + KIND, KIND_MAX) {
         return false;
     }
-    if !at_most(files, FILE * (s as usize) + OWNER, 65535) {
+    if !at_most(files, FILE * (s as usize) + OWNER, USER_MAX) {
         return false;
     }
-    if !at_most(files, FILE * (s as usize) + BITS, 7) {
+    if !at_most(files, FILE * (s as usize) + BITS, BITS_MAX) {
         return false;
     }
-    if !at_most(files, FILE * (s as usize) + LABEL, 15) {
+    if !at_most(files, FILE * (s as usize) + LABEL, LABEL_MAX) {
         return false;
     }
-    if !at_most(files, FILE * (s as usize) + VERSION, 4294967295) {
+    if !at_most(files, FILE * (s as usize) + VERSION, WORD_MAX) {
         return false;
     }
     free_sound(files, contents, s)

@@ -1,13 +1,13 @@
 // The open files. Each function takes the four tables, as the rules' view does.
 ghost use mathlib.Core.Path.{_≡_};
-ghost use mathlib.Core.Bool.{not, cond};
+ghost use mathlib.Core.Bool.{cond};
 ghost use lib.Dec.{eqb, ltb};
 ghost use lib.ListN.{getD};
 ghost use Prim.Native.Nat.{_+_};
 ghost use Rattle.rules.specs.Scan.{all};
-ghost use Rattle.rules.specs.Layout.{OPEN, SLOT, REFERENCES, SLOTS, PLAIN, FILE, KIND};
+ghost use Rattle.rules.specs.Layout.{OPEN, OPENS, SLOT, REFERENCES, SLOTS, PLAIN, FILE, KIND};
 ghost use Rattle.rules.specs.Store.{tab, view, store};
-ghost use Rattle.rules.specs.Sound.{isOn, openBut, isOpen, openFree, openUsed, openSound};
+ghost use Rattle.rules.specs.Sound.{openFree, openUsed, openSound};
 ghost use Rattle.soundness.specs.Counted.{openSoundBy};
 use crate::census::count_held;
 use crate::fields::at_least;
@@ -15,7 +15,9 @@ use crate::fields::at_most;
 use crate::fields::is_word;
 use tables::layout::FILE;
 use tables::layout::KIND;
+use tables::layout::LENGTH_MAX;
 use tables::layout::MODE;
+use tables::layout::MODE_MAX;
 use tables::layout::OFFSET;
 use tables::layout::OPEN;
 use tables::layout::OPENS;
@@ -23,52 +25,11 @@ use tables::layout::PLAIN;
 use tables::layout::REFERENCES;
 use tables::layout::SLOT;
 use tables::layout::SLOTS;
-use tables::opens::references;
 use tables::opens::slot_word;
 use tables::words::get;
 
-fn other(e: u32, x: u32) -> bool
-    ensures { λ r. ⌜ r ≡ not (eqb e x) ⌝ }
-{
-    e != x
-}
-
-fn referred(opens: &[u32], e: u32) -> bool
-    ensures { λ r. ⌜ r ≡ not (eqb (tab OPEN (now (opens .entry)) e REFERENCES) 0) ⌝ }
-{
-    references(opens, e) != 0
-}
-
-fn is_on(opens: &[u32], x: u32, s: u32, e: u32) -> bool
-    ensures { λ r. ⌜ r ≡ isOn (tab OPEN (now (opens .entry))) x s e ⌝ }
-{
-    if !other(e, x) {
-        return false;
-    }
-    if !referred(opens, e) {
-        return false;
-    }
-    is_word(opens, OPEN * (e as usize) + SLOT, s)
-}
-
-fn open_but(opens: &[u32], x: u32, s: u32) -> bool
-    ensures { λ r. ⌜ r ≡ openBut (tab OPEN (now (opens .entry))) x s ⌝ }
-{
-    let mut e = 0;
-    while e < OPENS {
-        if is_on(opens, x, s, e) {
-            return true;
-        }
-        e += 1;
-    }
-    false
-}
-
-pub fn is_open(opens: &[u32], s: u32) -> bool
-    ensures { λ r. ⌜ r ≡ isOpen (tab OPEN (now (opens .entry))) s ⌝ }
-{
-    open_but(opens, OPENS, s)
-}
+// Of descriptors: what holds nothing is 0, what holds open file e is e + 1.
+const HELD: usize = (OPENS as usize) + 1;
 
 fn references_right(opens: &[u32], held: &[u32], e: u32) -> bool
     ensures { λ r. ⌜ r ≡ eqb (tab OPEN (now (opens .entry)) e REFERENCES) (getD (now (held .entry)) (e + 1) 0) ⌝ }
@@ -116,23 +77,17 @@ fn open_used(files: &[u32], contents: &[u8], opens: &[u32], processes: &[u32], e
     if !at_least(opens, OPEN * (e as usize) + MODE, 1) {
         return false;
     }
-    if !at_most(opens, OPEN * (e as usize) + MODE, 4) {
+    if !at_most(opens, OPEN * (e as usize) + MODE, MODE_MAX) {
         return false;
     }
-    at_most(opens, OPEN * (e as usize) + OFFSET, 512)
-}
-
-fn unreferred(opens: &[u32], e: u32) -> bool
-    ensures { λ r. ⌜ r ≡ eqb (tab OPEN (now (opens .entry)) e REFERENCES) 0 ⌝ }
-{
-    references(opens, e) == 0
+    at_most(opens, OPEN * (e as usize) + OFFSET, LENGTH_MAX)
 }
 
 // A free open file is all zero, any other is on a plain file.
 fn referred_sound(files: &[u32], contents: &[u8], opens: &[u32], processes: &[u32], e: u32) -> bool
     ensures { λ r. ⌜ r ≡ cond (eqb (tab OPEN (now (opens .entry)) e REFERENCES) 0) (openFree (tab OPEN (now (opens .entry))) e) (openUsed (view (store (now (files .entry)) (now (contents .entry)) (now (opens .entry)) (now (processes .entry)))) e) ⌝ }
 {
-    if unreferred(opens, e) {
+    if is_word(opens, OPEN * (e as usize) + REFERENCES, 0) {
         return open_free(opens, e);
     }
     open_used(files, contents, opens, processes, e)
@@ -161,7 +116,7 @@ fn all_opens_sound(
     processes: &[u32],
     held: &[u32],
 ) -> bool
-    ensures { λ r. ⌜ r ≡ all (openSoundBy (view (store (now (files .entry)) (now (contents .entry)) (now (opens .entry)) (now (processes .entry)))) (now (held .entry))) 0 32 ⌝ }
+    ensures { λ r. ⌜ r ≡ all (openSoundBy (view (store (now (files .entry)) (now (contents .entry)) (now (opens .entry)) (now (processes .entry)))) (now (held .entry))) 0 OPENS ⌝ }
 {
     let mut e = 0;
     while e < OPENS {
@@ -175,9 +130,9 @@ fn all_opens_sound(
 }
 
 pub fn opens_sound(files: &[u32], contents: &[u8], opens: &[u32], processes: &[u32]) -> bool
-    ensures { λ r. ⌜ r ≡ all (openSound (view (store (now (files .entry)) (now (contents .entry)) (now (opens .entry)) (now (processes .entry))))) 0 32 ⌝ }
+    ensures { λ r. ⌜ r ≡ all (openSound (view (store (now (files .entry)) (now (contents .entry)) (now (opens .entry)) (now (processes .entry))))) 0 OPENS ⌝ }
 {
-    let mut held = [0; 33];
+    let mut held = [0; HELD];
     count_held(processes, &mut held);
     all_opens_sound(files, contents, opens, processes, &held)
 }

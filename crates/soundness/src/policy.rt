@@ -1,28 +1,38 @@
 // "Policy": rights 0 to 7; a transition to a label, or 255.
 ghost use mathlib.Core.Path.{_≡_};
 ghost use mathlib.Core.Bool.{cond, false};
+ghost use Prim.Native.Nat.{_+_};
 ghost use Rattle.rules.specs.Scan.{all};
 ghost use Rattle.rules.specs.Layout.{RIGHTS};
 ghost use Rattle.rules.specs.Sound.{rightSound, transitionSound, policySound};
 use crate::fields::byte_at_most;
 use crate::fields::is_byte;
+use tables::layout::BITS_MAX;
+use tables::layout::LABEL_MAX;
+use tables::layout::NONE;
+use tables::layout::POLICY_SIZE;
 use tables::layout::RIGHTS;
 
-const POLICY: usize = 512;
+// As bytes of a policy.
+const RIGHT_MAX: u8 = BITS_MAX as u8;
+
+const MOVE_MAX: u8 = LABEL_MAX as u8;
+
+const NO_MOVE: u8 = NONE as u8;
 
 fn right_sound(policy: &[u8], i: usize) -> bool
     ensures { λ r. ⌜ r ≡ rightSound (now (policy .entry)) i ⌝ }
 {
-    byte_at_most(policy, i, 7)
+    byte_at_most(policy, i, RIGHT_MAX)
 }
 
 fn transition_sound(policy: &[u8], i: usize) -> bool
     ensures { λ r. ⌜ r ≡ transitionSound (now (policy .entry)) i ⌝ }
 {
-    if byte_at_most(policy, i, 15) {
+    if byte_at_most(policy, i, MOVE_MAX) {
         return true;
     }
-    is_byte(policy, i, 255)
+    is_byte(policy, i, NO_MOVE)
 }
 
 // Both tests, with no exit between them: a loop over them looks at many bytes at once.
@@ -33,7 +43,7 @@ fn both(a: bool, b: bool) -> bool
 }
 
 fn rights_sound(policy: &[u8]) -> bool
-    ensures { λ r. ⌜ r ≡ all (rightSound (now (policy .entry))) 0 256 ⌝ }
+    ensures { λ r. ⌜ r ≡ all (rightSound (now (policy .entry))) 0 RIGHTS ⌝ }
 {
     let mut fine = true;
     let mut i = 0;
@@ -45,11 +55,11 @@ fn rights_sound(policy: &[u8]) -> bool
 }
 
 fn transitions_sound(policy: &[u8]) -> bool
-    ensures { λ r. ⌜ r ≡ all (transitionSound (now (policy .entry))) 256 512 ⌝ }
+    ensures { λ r. ⌜ r ≡ all (transitionSound (now (policy .entry))) RIGHTS (RIGHTS + RIGHTS) ⌝ }
 {
     let mut fine = true;
     let mut i = RIGHTS;
-    while i < POLICY {
+    while i < POLICY_SIZE {
         fine = both(fine, transition_sound(policy, i));
         i += 1;
     }
@@ -59,7 +69,7 @@ fn transitions_sound(policy: &[u8]) -> bool
 pub fn policy_sound(policy: &[u8]) -> bool
     ensures { λ r. ⌜ r ≡ policySound (now (policy .entry)) ⌝ }
 {
-    let sized = policy.len() == POLICY;
+    let sized = policy.len() == POLICY_SIZE;
     if !sized {
         return false;
     }

@@ -3,7 +3,7 @@ ghost use mathlib.Core.Path.{_≡_};
 ghost use lib.Dec.{eqb};
 ghost use Rattle.rules.specs.Scan.{all};
 ghost use Rattle.rules.specs.Store.{descOf, procOf, view, store};
-ghost use Rattle.rules.specs.Layout.{USED};
+ghost use Rattle.rules.specs.Layout.{PROCESSES, DESCRIPTORS, USED};
 ghost use Rattle.rules.specs.Sound.{descSound, descFree, procFree, procUsed, procSound};
 use crate::fields::at_most;
 use crate::fields::is_word;
@@ -11,11 +11,13 @@ use rules::ids::Fd;
 use rules::ids::Pid;
 use tables::layout::DESCRIPTORS;
 use tables::layout::DOMAIN;
+use tables::layout::LABEL_MAX;
 use tables::layout::OPENS;
 use tables::layout::PROCESS;
 use tables::layout::PROCESSES;
 use tables::layout::USED;
 use tables::layout::USER;
+use tables::layout::USER_MAX;
 use tables::processes::descriptor;
 
 fn desc_sound(processes: &[u32], p: u8, i: u8) -> bool
@@ -25,7 +27,7 @@ fn desc_sound(processes: &[u32], p: u8, i: u8) -> bool
 }
 
 fn all_desc_sound(processes: &[u32], p: u8) -> bool
-    ensures { λ r. ⌜ r ≡ all (descSound (descOf (now (processes .entry))) p) 0 8 ⌝ }
+    ensures { λ r. ⌜ r ≡ all (descSound (descOf (now (processes .entry))) p) 0 DESCRIPTORS ⌝ }
 {
     let mut i = 0;
     while i < DESCRIPTORS {
@@ -45,7 +47,7 @@ fn desc_free(processes: &[u32], p: u8, i: u8) -> bool
 }
 
 fn all_desc_free(processes: &[u32], p: u8) -> bool
-    ensures { λ r. ⌜ r ≡ all (descFree (descOf (now (processes .entry))) p) 0 8 ⌝ }
+    ensures { λ r. ⌜ r ≡ all (descFree (descOf (now (processes .entry))) p) 0 DESCRIPTORS ⌝ }
 {
     let mut i = 0;
     while i < DESCRIPTORS {
@@ -76,10 +78,10 @@ fn proc_used(files: &[u32], contents: &[u8], opens: &[u32], processes: &[u32], p
     if !is_word(processes, PROCESS * (p as usize) + USED, 1) {
         return false;
     }
-    if !at_most(processes, PROCESS * (p as usize) + USER, 65535) {
+    if !at_most(processes, PROCESS * (p as usize) + USER, USER_MAX) {
         return false;
     }
-    if !at_most(processes, PROCESS * (p as usize) + DOMAIN, 15) {
+    if !at_most(processes, PROCESS * (p as usize) + DOMAIN, LABEL_MAX) {
         return false;
     }
     all_desc_sound(processes, p)
@@ -101,7 +103,7 @@ fn proc_sound(files: &[u32], contents: &[u8], opens: &[u32], processes: &[u32], 
 }
 
 pub fn processes_sound(files: &[u32], contents: &[u8], opens: &[u32], processes: &[u32]) -> bool
-    ensures { λ r. ⌜ r ≡ all (procSound (view (store (now (files .entry)) (now (contents .entry)) (now (opens .entry)) (now (processes .entry))))) 0 8 ⌝ }
+    ensures { λ r. ⌜ r ≡ all (procSound (view (store (now (files .entry)) (now (contents .entry)) (now (opens .entry)) (now (processes .entry))))) 0 PROCESSES ⌝ }
 {
     let mut p = 0;
     while p < PROCESSES {

@@ -1,18 +1,17 @@
 // What is owed of a slot, by its kind. Each function takes the tables that its rule looks at.
 ghost use mathlib.Core.Path.{_≡_};
 ghost use mathlib.Core.List.{[], _∷_};
-ghost use lib.Dec.{eqb, ltb};
+ghost use lib.Dec.{ltb};
 ghost use Rattle.rules.specs.Choice.{some};
 ghost use Rattle.rules.specs.Scan.{all};
-ghost use Rattle.rules.specs.Layout.{FILE, OPEN, LINKS};
-ghost use Rattle.rules.specs.Store.{tab, tree, shownOf, view, store};
+ghost use Rattle.rules.specs.Layout.{SLOTS, FILE, OPEN, LINKS};
+ghost use Rattle.rules.specs.Store.{tab, shownOf, view, store};
 ghost use Rattle.rules.specs.Sound.{allZero, isOpen, plainSound, slotSound};
 ghost use Rattle.soundness.specs.Counted.{kindSoundBy, slotSoundBy};
 use crate::bytes::all_zero;
 use crate::census::count_links;
 use crate::fields::at_most;
 use crate::files::record_sound;
-use crate::opens::is_open;
 use crate::tree::directory_sound;
 use crate::tree::links_sound;
 use rules::ids::Slot;
@@ -22,7 +21,13 @@ use tables::files::links;
 use tables::files::shown;
 use tables::layout::FILE;
 use tables::layout::LENGTH;
+use tables::layout::LENGTH_MAX;
+use tables::layout::OPENS;
 use tables::layout::SLOTS;
+use tables::opens::open_but;
+
+// The slots, and one place past the last: the parent of what nothing names.
+const PLACES: usize = (SLOTS as usize) + 1;
 
 fn shown_zero(files: &[u32], contents: &[u8], s: u32) -> bool
     ensures { λ r. ⌜ r ≡ allZero (shownOf (now (files .entry)) (now (contents .entry)) s) ⌝ }
@@ -42,13 +47,13 @@ fn named_or_open(files: &[u32], opens: &[u32], s: u32) -> bool
     if is_named(files, s) {
         return true;
     }
-    is_open(opens, s)
+    open_but(opens, OPENS, s)
 }
 
 fn plain_sound(files: &[u32], contents: &[u8], opens: &[u32], processes: &[u32], s: u32) -> bool
     ensures { λ r. ⌜ r ≡ plainSound (view (store (now (files .entry)) (now (contents .entry)) (now (opens .entry)) (now (processes .entry)))) s ⌝ }
 {
-    if !at_most(files, FILE * (s as usize) + LENGTH, 512) {
+    if !at_most(files, FILE * (s as usize) + LENGTH, LENGTH_MAX) {
         return false;
     }
     if !named_or_open(files, opens, s) {
@@ -104,7 +109,7 @@ fn all_slots_sound(
     links: &[u32],
     parents: &[u32],
 ) -> bool
-    ensures { λ r. ⌜ r ≡ all (slotSoundBy (view (store (now (files .entry)) (now (contents .entry)) (now (opens .entry)) (now (processes .entry)))) (now (links .entry)) (now (parents .entry))) 0 64 ⌝ }
+    ensures { λ r. ⌜ r ≡ all (slotSoundBy (view (store (now (files .entry)) (now (contents .entry)) (now (opens .entry)) (now (processes .entry)))) (now (links .entry)) (now (parents .entry))) 0 SLOTS ⌝ }
 {
     let mut s = 0;
     while s < SLOTS {
@@ -118,10 +123,10 @@ fn all_slots_sound(
 }
 
 pub fn slots_sound(files: &[u32], contents: &[u8], opens: &[u32], processes: &[u32]) -> bool
-    ensures { λ r. ⌜ r ≡ all (slotSound (view (store (now (files .entry)) (now (contents .entry)) (now (opens .entry)) (now (processes .entry))))) 0 64 ⌝ }
+    ensures { λ r. ⌜ r ≡ all (slotSound (view (store (now (files .entry)) (now (contents .entry)) (now (opens .entry)) (now (processes .entry))))) 0 SLOTS ⌝ }
 {
-    let mut links = [0; 65];
-    let mut parents = [64; 65];
+    let mut links = [0; PLACES];
+    let mut parents = [SLOTS; PLACES];
     count_links(files, contents, &mut links, &mut parents);
     all_slots_sound(files, contents, opens, processes, &links, &parents)
 }

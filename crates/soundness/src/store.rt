@@ -1,8 +1,6 @@
 // The whole test.
 ghost use mathlib.Core.Path.{_≡_};
-ghost use lib.Dec.{eqb};
-ghost use Rattle.rules.specs.Layout.{FILE, KIND, DIRECTORY};
-ghost use Rattle.rules.specs.Store.{tab, view, store};
+ghost use Rattle.rules.specs.Store.{view, store};
 ghost use Rattle.rules.specs.Sound.{sizesSound, tablesSound, storeSound, sound};
 use crate::opens::opens_sound;
 use crate::policy::policy_sound;
@@ -10,36 +8,34 @@ use crate::processes::processes_sound;
 use crate::slots::slots_sound;
 use rules::ids::Slot;
 use tables::files::is_directory;
+use tables::layout::CONTENTS_SIZE;
+use tables::layout::FILES_SIZE;
+use tables::layout::OPENS_SIZE;
+use tables::layout::PROCESSES_SIZE;
 
 // "Lent tables of another size are 1".
 fn sizes_sound(files: &[u32], contents: &[u8], opens: &[u32], processes: &[u32]) -> bool
     ensures { λ r. ⌜ r ≡ sizesSound (store (now (files .entry)) (now (contents .entry)) (now (opens .entry)) (now (processes .entry))) ⌝ }
 {
-    let files_sized = files.len() == 448;
+    let files_sized = files.len() == FILES_SIZE;
     if !files_sized {
         return false;
     }
-    let contents_sized = contents.len() == 32768;
+    let contents_sized = contents.len() == CONTENTS_SIZE;
     if !contents_sized {
         return false;
     }
-    let opens_sized = opens.len() == 128;
+    let opens_sized = opens.len() == OPENS_SIZE;
     if !opens_sized {
         return false;
     }
-    processes.len() == 88
-}
-
-fn root_directory(files: &[u32]) -> bool
-    ensures { λ r. ⌜ r ≡ eqb (tab FILE (now (files .entry)) 0 KIND) DIRECTORY ⌝ }
-{
-    is_directory(files, Slot(0))
+    processes.len() == PROCESSES_SIZE
 }
 
 fn tables_sound(files: &[u32], contents: &[u8], opens: &[u32], processes: &[u32]) -> bool
     ensures { λ r. ⌜ r ≡ tablesSound (view (store (now (files .entry)) (now (contents .entry)) (now (opens .entry)) (now (processes .entry)))) ⌝ }
 {
-    if !root_directory(files) {
+    if !is_directory(files, Slot(0)) {
         return false;
     }
     if !slots_sound(files, contents, opens, processes) {

@@ -1,7 +1,5 @@
 // A directory's entries, 16 of 16 bytes: the name, the slot, 0. `dir` is what the view shows of its slot.
 ghost use mathlib.Core.Path.{_≡_};
-ghost use mathlib.Core.Bool.{not};
-ghost use lib.Dec.{eqb};
 ghost use Rattle.rules.specs.Directories.{direntAt, direntSlot, isEmpty, isPadding};
 use crate::layout::DIRENT;
 use crate::layout::NAME;

@@ -15,7 +15,8 @@ pub const DESCRIPTORS: u8 = 8;
 
 pub const LABELS: usize = 16;
 
-pub const RIGHTS: usize = 256;
+// Of a policy's two parts: the rights, then as many transitions.
+pub const RIGHTS: usize = LABELS * LABELS;
 
 pub const NAME: usize = 14;
 
@@ -70,3 +71,30 @@ pub const DOMAIN: usize = 2;
 
 // No transition.
 pub const NONE: u32 = 255;
+
+// Largest values.
+pub const KIND_MAX: u32 = 2;
+
+pub const USER_MAX: u32 = 65535;
+
+pub const BITS_MAX: u32 = 7;
+
+pub const LABEL_MAX: u32 = 15;
+
+pub const MODE_MAX: u32 = 4;
+
+pub const WORD_MAX: u32 = 4294967295;
+
+// Of a file's length, and of an offset.
+pub const LENGTH_MAX: u32 = BLOCK as u32;
+
+// The sizes of the lent tables.
+pub const FILES_SIZE: usize = (SLOTS as usize) * FILE;
+
+pub const CONTENTS_SIZE: usize = (SLOTS as usize) * BLOCK;
+
+pub const OPENS_SIZE: usize = (OPENS as usize) * OPEN;
+
+pub const PROCESSES_SIZE: usize = (PROCESSES as usize) * PROCESS;
+
+pub const POLICY_SIZE: usize = RIGHTS + RIGHTS;

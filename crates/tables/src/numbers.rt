@@ -2,6 +2,10 @@
 ghost use mathlib.Core.Path.{_≡_};
 ghost use Prim.Native.Nat.{_-_, _%_, _^_, min, max};
 ghost use Rattle.rules.specs.Store.{up, plus};
+use crate::layout::WORD_MAX;
+
+// How many values a word has.
+const WORDS: usize = (WORD_MAX as usize) + 1;
 
 pub fn up_one(n: u32) -> u32
     ensures { λ r. ⌜ r ≡ up n ⌝ }
@@ -47,7 +51,7 @@ pub fn smaller(n: usize, m: u32) -> u32
 pub fn word_of(n: usize) -> u32
     ensures { λ r. ⌜ r ≡ n % 2 ^ 32 ⌝ }
 {
-    (n % 4294967296) as u32
+    (n % WORDS) as u32
 }
 
 // A word and a length in memory.

@@ -12,10 +12,10 @@ pub fn get(xs: &[u32], i: usize) -> u32
 }
 
 // The byte at i.
-pub fn byte(xs: &[u8], i: usize) -> u8
-    ensures { λ r. ⌜ r ≡ getD (now (xs .entry)) i 0 ⌝ }
+pub fn byte(bytes: &[u8], i: usize) -> u8
+    ensures { λ r. ⌜ r ≡ getD (now (bytes .entry)) i 0 ⌝ }
 {
-    if i < xs.len() { xs[i] } else { 0 }
+    if i < bytes.len() { bytes[i] } else { 0 }
 }
 
 // The word at i becomes v.
@@ -28,11 +28,11 @@ pub fn put(xs: &mut [u32], i: usize, v: u32)
 }
 
 // The byte at i becomes v.
-pub fn put_byte(xs: &mut [u8], i: usize, v: u8)
-    ensures { λ _. ⌜ now (xs .exit) ≡ set (now (xs .entry)) i v ⌝ }
+pub fn put_byte(bytes: &mut [u8], i: usize, v: u8)
+    ensures { λ _. ⌜ now (bytes .exit) ≡ set (now (bytes .entry)) i v ⌝ }
 {
-    if i < xs.len() {
-        xs[i] = v;
+    if i < bytes.len() {
+        bytes[i] = v;
     }
 }
 

@@ -2,6 +2,7 @@ use mathlib.Core.Path.{_≡_, refl}
 use Prim.Native.Nat.{_≤_}
 use borrow.Author.Needs.{needs}
 use lib.ListN.{length}
+use Rattle.rules.specs.Layout.{DIRENTS}
 use Rattle.rules.specs.Scan.{fold}
 use Rattle.soundness.specs.Census.{entryCounted, entryClaimed}
 use Rattle.soundness.proofs.Folds.{fold-start, fold-down, fold-ends}
@@ -10,8 +11,8 @@ use Rattle.soundness.proofs.census.count_directory.Tie as tie
 
 abbrev Inv-loop : tie.InvT-loop
 Inv-loop links₀ parents₀ dir d i₀ links parents i =
-    (length links ≡ length links₀) × (length parents ≡ length parents₀) × (i ≤ 16) × (links ≡ fold (entryCounted dir) i 16 links₀)
-    × (parents ≡ fold (entryClaimed dir d) i 16 parents₀)
+    (length links ≡ length links₀) × (length parents ≡ length parents₀) × (i ≤ DIRENTS) × (links ≡ fold (entryCounted dir) i DIRENTS links₀)
+    × (parents ≡ fold (entryClaimed dir d) i DIRENTS parents₀)
 
 abbrev μ-loop : tie.MeasureT-loop
 μ-loop links₀ parents₀ dir d i₀ links parents i = i

@@ -13,4 +13,4 @@ count-entry-spec =
     (λ c κs. tt)
     (λ c. search needs)
     (λ c. search needs)
-    (λ c. (cc, cc)))
+    (λ c. rw (← c .before .before .before .before .before .before .before .before .dirent-slot .ensures) (c .before .before .before .before .before .before .count-one .ensures, c .before .before .claim .ensures)))

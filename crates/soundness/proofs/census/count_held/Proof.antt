@@ -2,6 +2,7 @@ use mathlib.Core.Path.{_≡_, refl}
 use Prim.Native.Nat.{_≤_}
 use borrow.Author.Needs.{needs}
 use lib.ListN.{length}
+use Rattle.rules.specs.Layout.{PROCESSES}
 use Rattle.rules.specs.Scan.{fold}
 use Rattle.rules.specs.Store.{descOf}
 use Rattle.soundness.specs.Census.{procCounted}
@@ -10,7 +11,7 @@ use Rattle.soundness.proofs.census.count_held.Statement.{statement}
 use Rattle.soundness.proofs.census.count_held.Tie as tie
 
 abbrev Inv-loop : tie.InvT-loop
-Inv-loop processes held₀ p₀ held p = (length held ≡ length held₀) × (p ≤ 8) × (held ≡ fold (procCounted (descOf processes)) p 8 held₀)
+Inv-loop processes held₀ p₀ held p = (length held ≡ length held₀) × (p ≤ PROCESSES) × (held ≡ fold (procCounted (descOf processes)) p PROCESSES held₀)
 
 abbrev μ-loop : tie.MeasureT-loop
 μ-loop processes held₀ p₀ held p = p

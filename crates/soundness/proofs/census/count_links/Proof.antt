@@ -2,6 +2,7 @@ use mathlib.Core.Path.{_≡_, refl}
 use Prim.Native.Nat.{_≤_}
 use borrow.Author.Needs.{needs}
 use lib.ListN.{length}
+use Rattle.rules.specs.Layout.{SLOTS}
 use Rattle.rules.specs.Scan.{fold}
 use Rattle.rules.specs.Store.{tree}
 use Rattle.soundness.specs.Census.{slotCounted, slotClaimed}
@@ -11,8 +12,8 @@ use Rattle.soundness.proofs.census.count_links.Tie as tie
 
 abbrev Inv-loop : tie.InvT-loop
 Inv-loop files contents links₀ parents₀ d₀ links parents d =
-    (length links ≡ length links₀) × (length parents ≡ length parents₀) × (d ≤ 64) × (links ≡ fold (slotCounted (tree files contents)) d 64 links₀)
-    × (parents ≡ fold (slotClaimed (tree files contents)) d 64 parents₀)
+    (length links ≡ length links₀) × (length parents ≡ length parents₀) × (d ≤ SLOTS) × (links ≡ fold (slotCounted (tree files contents)) d SLOTS links₀)
+    × (parents ≡ fold (slotClaimed (tree files contents)) d SLOTS parents₀)
 
 abbrev μ-loop : tie.MeasureT-loop
 μ-loop files contents links₀ parents₀ d₀ links parents d = d

@@ -2,6 +2,7 @@ use mathlib.Core.Path.{_≡_, refl}
 use Prim.Native.Nat.{_≤_}
 use borrow.Author.Needs.{needs}
 use lib.ListN.{length}
+use Rattle.rules.specs.Layout.{DESCRIPTORS}
 use Rattle.rules.specs.Scan.{fold}
 use Rattle.rules.specs.Store.{descOf}
 use Rattle.soundness.specs.Census.{descCounted, procCounted}
@@ -10,7 +11,7 @@ use Rattle.soundness.proofs.census.count_process.Statement.{statement}
 use Rattle.soundness.proofs.census.count_process.Tie as tie
 
 abbrev Inv-loop : tie.InvT-loop
-Inv-loop processes held₀ p i₀ held i = (length held ≡ length held₀) × (i ≤ 8) × (held ≡ fold (descCounted (descOf processes) p) i 8 held₀)
+Inv-loop processes held₀ p i₀ held i = (length held ≡ length held₀) × (i ≤ DESCRIPTORS) × (held ≡ fold (descCounted (descOf processes) p) i DESCRIPTORS held₀)
 
 abbrev μ-loop : tie.MeasureT-loop
 μ-loop processes held₀ p i₀ held i = i

@@ -1,6 +1,7 @@
 use mathlib.Core.Path.{_≡_, refl}
 use Prim.Native.Nat.{_-_}
 use borrow.Author.Needs.{needs}
+use Rattle.rules.specs.Layout.{DIRENTS}
 use Rattle.rules.specs.Scan.{all}
 use Rattle.rules.proofs.Scans.{all-yes, all-no, all-done}
 use Rattle.rules.specs.Store.{tree}
@@ -9,10 +10,10 @@ use Rattle.soundness.proofs.directories.all_dirents_sound.Statement.{st
 use Rattle.soundness.proofs.directories.all_dirents_sound.Tie as tie
 
 abbrev Inv-loop : tie.InvT-loop
-Inv-loop files contents dir i₀ i = all (direntSound (tree files contents) dir) i 16 ≡ all (direntSound (tree files contents) dir) 0 16
+Inv-loop files contents dir i₀ i = all (direntSound (tree files contents) dir) i DIRENTS ≡ all (direntSound (tree files contents) dir) 0 DIRENTS
 
 abbrev μ-loop : tie.MeasureT-loop
-μ-loop files contents dir i₀ i = 16 - i
+μ-loop files contents dir i₀ i = DIRENTS - i
 
 pub all-dirents-sound-spec : {M : Type 1} → statement M
 all-dirents-sound-spec =

@@ -1,6 +1,7 @@
 use mathlib.Core.Path.{_≡_, refl}
 use Prim.Native.Nat.{_-_}
 use borrow.Author.Needs.{needs}
+use Rattle.rules.specs.Layout.{NAME}
 use Rattle.rules.specs.Scan.{all}
 use Rattle.rules.proofs.Scans.{all-yes, all-no, all-done}
 use Rattle.rules.specs.Sound.{nameByteSound}
@@ -8,10 +9,10 @@ use Rattle.soundness.proofs.directories.name_bytes_sound.Statement.{sta
 use Rattle.soundness.proofs.directories.name_bytes_sound.Tie as tie
 
 abbrev Inv-loop : tie.InvT-loop
-Inv-loop name k₀ k = all (nameByteSound name) k 14 ≡ all (nameByteSound name) 0 14
+Inv-loop name k₀ k = all (nameByteSound name) k NAME ≡ all (nameByteSound name) 0 NAME
 
 abbrev μ-loop : tie.MeasureT-loop
-μ-loop name k₀ k = 14 - k
+μ-loop name k₀ k = NAME - k
 
 pub name-bytes-sound-spec : {M : Type 1} → statement M
 name-bytes-sound-spec =

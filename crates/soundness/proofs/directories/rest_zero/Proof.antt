@@ -4,4 +4,4 @@ use Rattle.soundness.proofs.directories.rest_zero.Tie as tie
 
 pub rest-zero-spec : {M : Type 1} → statement M
 unfolding allZero
-rest-zero-spec = tie.close (tie.spec (λ c κs. tt) (λ c κs. tt) (λ c. cc))
+rest-zero-spec = tie.close (tie.spec (λ c κs. tt) (λ c κs. tt) (λ c. rw (← c .before .after .ensures) (c .all-zero .ensures)))

@@ -1,8 +1,9 @@
-use mathlib.Core.Path.{_≡_, refl}
+use mathlib.Core.Path.{_≡_}
 use mathlib.Core.Logic.{⊎-elim}
 use Prim.Native.Nat.{_+_, _-_, _≤_}
 use native.Mathlib.Omega.{arith}
 use borrow.Author.Needs.{needs}
+use Rattle.rules.specs.Layout.{DIRENTS}
 use Rattle.rules.specs.Scan.{count}
 use Rattle.rules.proofs.Scans.{count-yes, count-no, count-done}
 use Rattle.rules.specs.Sound.{isUsed}
@@ -10,10 +11,10 @@ use Rattle.soundness.proofs.directories.used_count.Statement.{statement
 use Rattle.soundness.proofs.directories.used_count.Tie as tie
 
 abbrev Inv-loop : tie.InvT-loop
-Inv-loop dir n₀ i₀ n i = (n ≤ i) × (n + count (isUsed dir) i 16 ≡ count (isUsed dir) 0 16)
+Inv-loop dir n₀ i₀ n i = (n ≤ i) × (n + count (isUsed dir) i DIRENTS ≡ count (isUsed dir) 0 DIRENTS)
 
 abbrev μ-loop : tie.MeasureT-loop
-μ-loop dir n₀ i₀ n i = 16 - i
+μ-loop dir n₀ i₀ n i = DIRENTS - i
 
 pub used-count-spec : {M : Type 1} → statement M
 used-count-spec =

@@ -11,4 +11,4 @@ on-plain-spec =
     (λ c. search needs)
     (λ c. search needs)
     (λ c κs. tt)
-    (λ c. cc))
+    (λ c. rw (← c .before .slot-word .ensures) (c .is-word .ensures)))

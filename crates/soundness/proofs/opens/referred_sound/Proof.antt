@@ -1,3 +1,4 @@
+use borrow.Author.Needs.{needs}
 use Rattle.rules.proofs.Choices.{steps}
 use Rattle.soundness.proofs.opens.referred_sound.Statement.{statement}
 use Rattle.soundness.proofs.opens.referred_sound.Tie as tie
@@ -6,6 +7,8 @@ pub referred-sound-spec : {M : Type 1} → statement M
 referred-sound-spec =
     tie.close
     (tie.spec
+    (λ c. search needs)
+    (λ c. search needs)
     (λ c κs. tt)
     (λ c κs. tt)
     (λ c. search steps)

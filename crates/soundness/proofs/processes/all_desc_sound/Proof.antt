@@ -1,6 +1,7 @@
 use mathlib.Core.Path.{_≡_, refl}
 use Prim.Native.Nat.{_-_}
 use borrow.Author.Needs.{needs}
+use Rattle.rules.specs.Layout.{DESCRIPTORS}
 use Rattle.rules.specs.Scan.{all}
 use Rattle.rules.proofs.Scans.{all-yes, all-no, all-done}
 use Rattle.rules.specs.Store.{descOf}
@@ -9,10 +10,10 @@ use Rattle.soundness.proofs.processes.all_desc_sound.Statement.{stateme
 use Rattle.soundness.proofs.processes.all_desc_sound.Tie as tie
 
 abbrev Inv-loop : tie.InvT-loop
-Inv-loop processes p i₀ i = all (descSound (descOf processes) p) i 8 ≡ all (descSound (descOf processes) p) 0 8
+Inv-loop processes p i₀ i = all (descSound (descOf processes) p) i DESCRIPTORS ≡ all (descSound (descOf processes) p) 0 DESCRIPTORS
 
 abbrev μ-loop : tie.MeasureT-loop
-μ-loop processes p i₀ i = 8 - i
+μ-loop processes p i₀ i = DESCRIPTORS - i
 
 pub all-desc-sound-spec : {M : Type 1} → statement M
 all-desc-sound-spec =

@@ -1,6 +1,7 @@
 use mathlib.Core.Path.{_≡_, refl}
 use Prim.Native.Nat.{_-_}
 use borrow.Author.Needs.{needs}
+use Rattle.rules.specs.Layout.{PROCESSES}
 use Rattle.rules.specs.Scan.{all}
 use Rattle.rules.proofs.Scans.{all-yes, all-no, all-done}
 use Rattle.rules.specs.Store.{view, store}
@@ -9,10 +10,10 @@ use Rattle.soundness.proofs.processes.processes_sound.Statement.{statem
 use Rattle.soundness.proofs.processes.processes_sound.Tie as tie
 
 abbrev Inv-loop : tie.InvT-loop
-Inv-loop files contents opens processes p₀ p = all (procSound (view (store files contents opens processes))) p 8 ≡ all (procSound (view (store files contents opens processes))) 0 8
+Inv-loop files contents opens processes p₀ p = all (procSound (view (store files contents opens processes))) p PROCESSES ≡ all (procSound (view (store files contents opens processes))) 0 PROCESSES
 
 abbrev μ-loop : tie.MeasureT-loop
-μ-loop files contents opens processes p₀ p = 8 - p
+μ-loop files contents opens processes p₀ p = PROCESSES - p
 
 pub processes-sound-spec : {M : Type 1} → statement M
 processes-sound-spec =

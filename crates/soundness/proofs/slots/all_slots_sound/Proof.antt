@@ -1,6 +1,7 @@
 use mathlib.Core.Path.{_≡_, refl}
 use Prim.Native.Nat.{_-_}
 use borrow.Author.Needs.{needs}
+use Rattle.rules.specs.Layout.{SLOTS}
 use Rattle.rules.specs.Scan.{all}
 use Rattle.rules.proofs.Scans.{all-yes, all-no, all-done}
 use Rattle.rules.specs.Store.{view, store}
@@ -9,10 +10,10 @@ use Rattle.soundness.proofs.slots.all_slots_sound.Statement.{statement}
 use Rattle.soundness.proofs.slots.all_slots_sound.Tie as tie
 
 abbrev Inv-loop : tie.InvT-loop
-Inv-loop files contents opens processes links parents s₀ s = all (slotSoundBy (view (store files contents opens processes)) links parents) s 64 ≡ all (slotSoundBy (view (store files contents opens processes)) links parents) 0 64
+Inv-loop files contents opens processes links parents s₀ s = all (slotSoundBy (view (store files contents opens processes)) links parents) s SLOTS ≡ all (slotSoundBy (view (store files contents opens processes)) links parents) 0 SLOTS
 
 abbrev μ-loop : tie.MeasureT-loop
-μ-loop files contents opens processes links parents s₀ s = 64 - s
+μ-loop files contents opens processes links parents s₀ s = SLOTS - s
 
 pub all-slots-sound-spec : {M : Type 1} → statement M
 all-slots-sound-spec =

@@ -10,4 +10,4 @@ byte-spec =
     (tie.spec
     (λ c. search needs)
     (λ c. search needs)
-    (λ c. sym (List·getD-eq-default (c .before .args .xs .now) 0 (c .if1 .left))))
+    (λ c. sym (List·getD-eq-default (c .before .args .bytes .now) 0 (c .if1 .left))))

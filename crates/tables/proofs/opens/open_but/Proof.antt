@@ -1,19 +1,19 @@
 use mathlib.Core.Path.{_≡_, refl}
 use Prim.Native.Nat.{_-_}
 use borrow.Author.Needs.{needs}
+use Rattle.rules.specs.Layout.{OPEN, OPENS}
 use Rattle.rules.specs.Scan.{any}
 use Rattle.rules.proofs.Scans.{any-yes, any-no, any-done}
-use Rattle.rules.specs.Layout.{OPEN}
-use Rattle.rules.specs.Store.{tab}
 use Rattle.rules.specs.Sound.{isOn, openBut}
-use Rattle.soundness.proofs.opens.open_but.Statement.{statement}
-use Rattle.soundness.proofs.opens.open_but.Tie as tie
+use Rattle.rules.specs.Store.{tab}
+use Rattle.tables.proofs.opens.open_but.Statement.{statement}
+use Rattle.tables.proofs.opens.open_but.Tie as tie
 
 abbrev Inv-loop : tie.InvT-loop
-Inv-loop opens x s e₀ e = any (isOn (tab OPEN opens) x s) e 32 ≡ any (isOn (tab OPEN opens) x s) 0 32
+Inv-loop opens x s e₀ e = any (isOn (tab OPEN opens) x s) e OPENS ≡ any (isOn (tab OPEN opens) x s) 0 OPENS
 
 abbrev μ-loop : tie.MeasureT-loop
-μ-loop opens x s e₀ e = 32 - e
+μ-loop opens x s e₀ e = OPENS - e
 
 pub open-but-spec : {M : Type 1} → statement M
 unfolding openBut
