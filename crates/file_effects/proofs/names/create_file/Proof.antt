@@ -1,0 +1,16 @@
+use Rattle.rules.specs.Effects.{createChanges}
+use Rattle.rows.proofs.Changes.{after-change}
+use borrow.Author.Needs.{needs}
+use Rattle.file_effects.proofs.names.create_file.Statement.{statement}
+use Rattle.file_effects.proofs.names.create_file.Tie as tie
+
+pub create-file-spec : {M : Type 1} → statement M
+unfolding createChanges
+create-file-spec =
+    tie.close
+    (tie.spec
+    (λ c κs. tt)
+    (λ c κs. tt)
+    (λ c. search needs)
+    (λ c. search needs)
+    (λ c. after-change _ _ _ (c .before .before .before .before .add-name .ensures _ _) (rw (c .before .before .before .before .before .before .before .before .before .put-record .ensures))))

@@ -1,0 +1,119 @@
+// Names: the entries of directories, and what becomes of a file whose names change.
+ghost use mathlib.Core.Path.{_≡_};
+ghost use mathlib.Core.List.{List};
+ghost use Prim.Native.Nat.{ℕ};
+ghost use Rattle.rules.specs.Store.{store, applyAll};
+ghost use Rattle.rules.specs.Effects.{nameChanges, unnameChanges, createChanges, linkChanges, unnamedChanges, unlinkChanges, removeChanges};
+use rows::rows::clear_slot;
+use rows::rows::put_directory;
+use rows::rows::put_dirent;
+use rows::rows::put_record;
+use rules::decision::DirChange;
+use rules::decision::Record;
+use rules::decision::Unnamed;
+use rules::ids::Slot;
+use tables::layout::BLOCK;
+use tables::layout::DIRENT;
+use tables::layout::FILE;
+use tables::layout::LINKS;
+use tables::words::put;
+use tables::words::zero_bytes;
+
+// A directory gains a name.
+fn add_name(files: &mut [u32], contents: &mut [u8], name: &[u8], s: Slot, d: DirChange)
+    ensures { λ _. ⌜ ((E P : List ℕ) → store (now (files .exit)) (now (contents .exit)) E P ≡ applyAll (nameChanges (now (name .entry)) s d) (store (now (files .entry)) (now (contents .entry)) E P)) ⌝ }
+{
+    let dir = d.dir;
+    put_dirent(contents, dir, d.dirent, name, s);
+    put_directory(files, d);
+}
+
+// A directory loses a name.
+fn remove_name(files: &mut [u32], contents: &mut [u8], d: DirChange)
+    ensures { λ _. ⌜ ((E P : List ℕ) → store (now (files .exit)) (now (contents .exit)) E P ≡ applyAll (unnameChanges d) (store (now (files .entry)) (now (contents .entry)) E P)) ⌝ }
+{
+    let dir = d.dir;
+    zero_bytes(
+        contents,
+        BLOCK * (dir.0 as usize) + DIRENT * (d.dirent as usize),
+        DIRENT,
+    );
+    put_directory(files, d);
+}
+
+// A new file or directory.
+pub fn create_file(
+    files: &mut [u32],
+    contents: &mut [u8],
+    opens: &mut [u32],
+    processes: &mut [u32],
+    name: &[u8],
+    d: DirChange,
+    s: Slot,
+    r: Record,
+)
+    ensures { λ _. ⌜ store (now (files .exit)) (now (contents .exit)) (now (opens .exit)) (now (processes .exit)) ≡ applyAll (createChanges (now (name .entry)) d s r) (store (now (files .entry)) (now (contents .entry)) (now (opens .entry)) (now (processes .entry))) ⌝ }
+{
+    put_record(files, s, r);
+    add_name(files, contents, name, s, d);
+}
+
+// One name more for a file.
+pub fn link_file(
+    files: &mut [u32],
+    contents: &mut [u8],
+    opens: &mut [u32],
+    processes: &mut [u32],
+    name: &[u8],
+    d: DirChange,
+    s: Slot,
+    links: u32,
+)
+    ensures { λ _. ⌜ store (now (files .exit)) (now (contents .exit)) (now (opens .exit)) (now (processes .exit)) ≡ applyAll (linkChanges (now (name .entry)) d s links) (store (now (files .entry)) (now (contents .entry)) (now (opens .entry)) (now (processes .entry))) ⌝ }
+{
+    put(files, FILE * (s.0 as usize) + LINKS, links);
+    add_name(files, contents, name, s, d);
+}
+
+// A plain file has one name less, or is freed.
+fn lose_name(files: &mut [u32], contents: &mut [u8], u: Unnamed)
+    ensures { λ _. ⌜ ((E P : List ℕ) → store (now (files .exit)) (now (contents .exit)) E P ≡ applyAll (unnamedChanges u) (store (now (files .entry)) (now (contents .entry)) E P)) ⌝ }
+{
+    match u {
+        Unnamed::Kept(s, left) => {
+            put(files, FILE * (s.0 as usize) + LINKS, left);
+        }
+        Unnamed::Freed(s, freed) => {
+            clear_slot(files, contents, s, freed);
+        }
+    }
+}
+
+pub fn unlink_file(
+    files: &mut [u32],
+    contents: &mut [u8],
+    opens: &mut [u32],
+    processes: &mut [u32],
+    d: DirChange,
+    u: Unnamed,
+)
+    ensures { λ _. ⌜ store (now (files .exit)) (now (contents .exit)) (now (opens .exit)) (now (processes .exit)) ≡ applyAll (unlinkChanges d u) (store (now (files .entry)) (now (contents .entry)) (now (opens .entry)) (now (processes .entry))) ⌝ }
+{
+    remove_name(files, contents, d);
+    lose_name(files, contents, u);
+}
+
+pub fn remove_directory(
+    files: &mut [u32],
+    contents: &mut [u8],
+    opens: &mut [u32],
+    processes: &mut [u32],
+    d: DirChange,
+    s: Slot,
+    r: Record,
+)
+    ensures { λ _. ⌜ store (now (files .exit)) (now (contents .exit)) (now (opens .exit)) (now (processes .exit)) ≡ applyAll (removeChanges d s r) (store (now (files .entry)) (now (contents .entry)) (now (opens .entry)) (now (processes .entry))) ⌝ }
+{
+    remove_name(files, contents, d);
+    clear_slot(files, contents, s, r);
+}

@@ -1,0 +1,2 @@
+// Whole rows and entries stored in the tables.
+pub mod rows;
