@@ -2,6 +2,10 @@
 """Write crates/rules/specs/Computing.antt anew: one definition whose `unfolding` line names every shut definition of the rules, so that a
 proof by computation says `unfolding computing` and no more. Run it in the repository's root when a definition comes or goes."""
 import re
+import os, sys
+if len(sys.argv) > 1 or not os.path.isdir('crates/rules'):
+    sys.stderr.write('usage, in the repository\'s root: tools/computing.py\n')
+    sys.exit(2)
 
 lib = open('crates/rules/specs/Lib.antt').read()
 modules = [m for m in re.findall(r'^pub mod (\S+)$', lib, re.M) if m != 'Computing']

@@ -7,6 +7,9 @@ check leaves open `search steps` where the function's body has an `if`, else `cc
 function's `ensures { λ r. ⌜ r ≡ SPEC .. ⌝ }`. Where it has a `match` or more than three `if`s: `simp` with the facts on the way (paths.py).
 Other holes stay `?`, as declarations of their own."""
 import subprocess, sys, os, re, glob
+if len(sys.argv) < 2 or not os.path.isdir(f'crates/{sys.argv[1]}'):
+    sys.stderr.write('usage, in the repository\'s root: tools/scaffold.py CRATE [--auto] [--log=FILE] [--no-simp]\n')
+    sys.exit(2)
 name = sys.argv[1]
 auto = '--auto' in sys.argv
 root = os.getcwd()

@@ -7,6 +7,9 @@ KIND count: while i < n { if p(..) { k += 1; } i += 1; } k       (COUNTER is `k 
 FN is the folder under proofs/; PREDICATE the partly applied definition in terms of PARAMS, the parameters as the printed Inv-loop names them
 before COUNTER₀ COUNTER; USES is `MODULE.{a, b}; ..`; UNFOLD the definition of the contract where it is shut."""
 import os, sys
+if len(sys.argv) < 9 or not os.path.isdir(f'crates/{sys.argv[1]}'):
+    sys.stderr.write('usage, in the repository\'s root: tools/scanloop.py CRATE FUNCTION KIND TEST PARAMS INDEX END USES [UNFOLD]\n')
+    sys.exit(2)
 
 crate, fn, kind, pred, params, i, end, uses = sys.argv[1:9]
 unfold = sys.argv[9] if len(sys.argv) > 9 else ''

@@ -1,6 +1,9 @@
 #!/usr/bin/env python3
 """simp.py CRATE FN: put the answers of `paths.py CRATE FN --simp` in the place of `search steps`, `search flags` or `cc` at the returns, in order"""
 import subprocess, sys, re, os
+if len(sys.argv) < 3 or not os.path.isdir(f'crates/{sys.argv[1]}'):
+    sys.stderr.write('usage, in the repository\'s root: tools/simp.py CRATE FUNCTION\n')
+    sys.exit(2)
 crate, fn = sys.argv[1:3]
 root = os.getcwd()
 here = os.path.dirname(os.path.abspath(__file__))

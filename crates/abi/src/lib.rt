@@ -64,7 +64,7 @@ pub extern "C" fn mritvelja_act(
 ) -> Answer
     ensures { λ r. ⌜ lent r (now (buffer .exit)) (store (now (files .exit)) (now (contents .exit)) (now («open_files» .exit)) (now (processes .exit))) ≡ lentOf (act (now (policy .entry)) (store (now (files .entry)) (now (contents .entry)) (now («open_files» .entry)) (now (processes .entry))) (numbered process call descriptor number (now (path .entry)) (now («data» .entry)) (now (buffer .entry)))) ⌝ }
 {
-    store::call::act_on(
+    store::call::act(
         files,
         contents,
         open_files,

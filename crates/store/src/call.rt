@@ -66,7 +66,7 @@ fn settle(
 }
 
 // A call on tables that are known to be sound: no test is made.
-pub fn act_on(
+pub fn act(
     files: &mut [u32],
     contents: &mut [u8],
     opens: &mut [u32],
@@ -110,7 +110,7 @@ pub fn call(
     if !soundness::store::sound(files, contents, opens, processes, policy) {
         return refused_answer(Refusal::Unsound, 0);
     }
-    act_on(
+    act(
         files,
         contents,
         opens,

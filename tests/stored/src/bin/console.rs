@@ -170,12 +170,9 @@ impl Console<'_> {
         }
         let mut buffer = vec![0; size];
         let answer = self.tables.call(request, &path, &data, &mut buffer);
-        let read = if call == READ {
-            &buffer[..answer.value as usize]
-        } else {
-            &[]
-        };
-        Ok(format!(": {}", answers::answer(&answer, read)))
+        let read = if call == READ { answer.value } else { 0 };
+        let bytes = &buffer[..read as usize];
+        Ok(format!(": {}", answers::answer(&answer, bytes)))
     }
 
     fn line(&mut self, line: &str) -> Line {
