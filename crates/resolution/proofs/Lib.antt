@@ -1,4 +1,5 @@
 -- Laws of paths.
+pub mod FirstBytes
 pub mod Spans
 pub mod Names
 pub mod Parsing
