@@ -2,4 +2,6 @@
 pub mod FirstBytes
 pub mod Spans
 pub mod Names
+pub mod Words
 pub mod Parsing
+pub mod Parents

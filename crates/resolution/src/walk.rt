@@ -1,16 +1,11 @@
 // A path is resolved one name at a time, from the root.
 ghost use mathlib.Core.Path.{_≡_};
-ghost use mathlib.Core.List.{[]};
-ghost use Prim.Native.Nat.{_+_, _-_, _<_, min};
-ghost use lib.ListN.{length, drop};
 ghost use Rattle.rules.specs.Layout.{FILE};
 ghost use Rattle.rules.specs.Store.{tab, tree};
-ghost use Rattle.rules.specs.Paths.{firstNames, names, parentNames};
 ghost use Rattle.rules.specs.Directories.{direntOf};
-ghost use Rattle.rules.specs.Walk.{reached, entered, found, lookup, walk, ROOT, walkPath, enterParent, onReached, walkParent};
-use crate::paths::name_at;
-use crate::paths::name_count;
-use crate::paths::name_end;
+ghost use Rattle.rules.specs.Walk.{reached, entered, found, lookup, ROOT, walkPath, enterParent, walkParent};
+use crate::paths::ByteClass;
+use crate::paths::span_end;
 use crate::rights::bits_allow;
 use crate::rights::label_allows;
 use rules::decision::Location;
@@ -79,45 +74,6 @@ fn look_up(
     find(files, contents, d, name, k)
 }
 
-// The first `left` names of the path from `pos` on, of which the first is the k-th, are walked from a location.
-fn walk_from(
-    files: &[u32],
-    contents: &[u8],
-    policy: &[u8],
-    who: Subject,
-    path: &[u8],
-    pos: usize,
-    left: u8,
-    k: u32,
-    at: Location,
-) -> Walk
-    requires { ⌜ k + left < 256 ⌝ }
-    ensures { λ r. ⌜ r ≡ walk (tree (now (files .entry)) (now (contents .entry))) (now (policy .entry)) who at k (firstNames left (drop pos (now (path .entry)))) ⌝ }
-{
-    if left == 0 {
-        return Walk::Reached(at);
-    }
-    let name = name_at(path, pos);
-    if name.len() == 0 {
-        return Walk::Reached(at);
-    }
-    let d = at.slot;
-    match look_up(files, contents, policy, who, d, name, k) {
-        Walk::Reached(next) => walk_from(
-            files,
-            contents,
-            policy,
-            who,
-            path,
-            name_end(path, pos),
-            left - 1,
-            k + 1,
-            next,
-        ),
-        Walk::Stopped(r, n) => Walk::Stopped(r, n),
-    }
-}
-
 fn root() -> Location
     ensures { λ r. ⌜ r ≡ ROOT ⌝ }
 {
@@ -132,7 +88,23 @@ fn root() -> Location
 pub fn walk_path(files: &[u32], contents: &[u8], policy: &[u8], who: Subject, path: &[u8]) -> Walk
     ensures { λ r. ⌜ r ≡ walkPath (tree (now (files .entry)) (now (contents .entry))) (now (policy .entry)) who (now (path .entry)) ⌝ }
 {
-    walk_from(files, contents, policy, who, path, 0, NAMES + 1, 1, root())
+    let mut at = root();
+    let mut end = 0;
+    let mut k: u8 = 0;
+    while k < NAMES + 1 {
+        let start = span_end(path, end, ByteClass::Slash);
+        if path.len() <= start {
+            return Walk::Reached(at);
+        }
+        end = span_end(path, start, ByteClass::NotSlash);
+        let d = at.slot;
+        k += 1;
+        match look_up(files, contents, policy, who, d, &path[start..end], k as u32) {
+            Walk::Reached(next) => at = next,
+            Walk::Stopped(r, n) => return Walk::Stopped(r, n),
+        }
+    }
+    Walk::Reached(at)
 }
 
 fn enter_parent(files: &[u32], policy: &[u8], who: Subject, k: u32, at: Location) -> Walk
@@ -151,56 +123,29 @@ fn enter_parent(files: &[u32], policy: &[u8], who: Subject, k: u32, at: Location
     Walk::Reached(at)
 }
 
-fn on_parent(files: &[u32], policy: &[u8], who: Subject, k: u32, w: Walk) -> Walk
-    ensures { λ r. ⌜ r ≡ onReached w (enterParent (tab FILE (now (files .entry))) (now (policy .entry)) who k) ⌝ }
-{
-    match w {
-        Walk::Reached(at) => enter_parent(files, policy, who, k, at),
-        Walk::Stopped(r, n) => Walk::Stopped(r, n),
-    }
-}
-
-// The names before the n-th.
-fn walk_before(
-    files: &[u32],
-    contents: &[u8],
-    policy: &[u8],
-    who: Subject,
-    path: &[u8],
-    n: u8,
-) -> Walk
-    ensures { λ r. ⌜ r ≡ walk (tree (now (files .entry)) (now (contents .entry))) (now (policy .entry)) who ROOT 1 (firstNames (min n 9 - 1) (now (path .entry))) ⌝ }
-{
-    walk_from(
-        files,
-        contents,
-        policy,
-        who,
-        path,
-        0,
-        one_before(n),
-        1,
-        root(),
-    )
-}
-
-fn one_before(n: u8) -> u8
-    ensures { λ r. ⌜ r ≡ min n 9 - 1 ⌝ }
-{
-    if NAMES + 1 < n {
-        return NAMES;
-    }
-    if 0 < n {
-        return n - 1;
-    }
-    0
-}
-
-// The path to the parent of its last name, with the parent's three checks.
+// The path to the parent of its last name, with the parent's three checks. The last name is the one that no other follows.
 pub fn walk_parent(files: &[u32], contents: &[u8], policy: &[u8], who: Subject, path: &[u8]) -> Walk
     ensures { λ r. ⌜ r ≡ walkParent (tree (now (files .entry)) (now (contents .entry))) (now (policy .entry)) who (now (path .entry)) ⌝ }
 {
-    let n = name_count(path);
-    let w = walk_before(files, contents, policy, who, path, n);
-    on_parent(files, policy, who, n as u32, w)
+    let mut at = root();
+    let mut start = span_end(path, 0, ByteClass::Slash);
+    if path.len() <= start {
+        return enter_parent(files, policy, who, 0, at);
+    }
+    let mut k: u8 = 1;
+    while k < NAMES + 1 {
+        let end = span_end(path, start, ByteClass::NotSlash);
+        let next = span_end(path, end, ByteClass::Slash);
+        if path.len() <= next {
+            return enter_parent(files, policy, who, k as u32, at);
+        }
+        let d = at.slot;
+        match look_up(files, contents, policy, who, d, &path[start..end], k as u32) {
+            Walk::Reached(reached) => at = reached,
+            Walk::Stopped(r, n) => return Walk::Stopped(r, n),
+        }
+        start = next;
+        k += 1;
+    }
+    enter_parent(files, policy, who, k as u32, at)
 }
