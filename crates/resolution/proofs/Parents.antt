@@ -8,17 +8,15 @@ use lib.ListN.{length, take}
 use Rattle.rules.specs.Store.{Tree}
 use Rattle.rules.specs.Paths.{Name, parentNames}
 use Rattle.rules.specs.Walk.{lookup, walk, onReached, enterParent}
+use Rattle.resolution.specs.Parents.{toParent}
 use Rattle.rules.specs.declared.request.Subject.{Subject}
 use Rattle.rules.specs.declared.decision.Location.{Location}
 use Rattle.rules.specs.declared.decision.Walk.{Walk}
 use Rattle.rules.specs.declared.decision.Walk.the-variants.{Reached, Stopped}
 
 module _ (t : Tree) (Q : List ℕ) (who : Subject) (at : Location) (k : ℕ) where
-  unfoldable pub toParent : List Name → Walk
-  toParent ns = onReached (walk t Q who at k (parentNames ns)) (enterParent (t .file) Q who (k + length ns - 1))
-
   -- no other name follows
-  pub last : (n : Name) → toParent (n ∷ []) ≡ enterParent (t .file) Q who k at
+  pub last : (n : Name) → toParent t Q who at k (n ∷ []) ≡ enterParent (t .file) Q who k at
   unfolding toParent walk onReached
   last n = let e : k + 1 - 1 ≡ k = omega arith in rw e
 

@@ -1,9 +1,13 @@
 // A path is resolved one name at a time, from the root.
 ghost use mathlib.Core.Path.{_≡_};
+ghost use Prim.Native.Nat.{_+_, _<_};
+ghost use lib.ListN.{drop};
 ghost use Rattle.rules.specs.Layout.{FILE};
 ghost use Rattle.rules.specs.Store.{tab, tree};
+ghost use Rattle.rules.specs.Paths.{firstNames};
 ghost use Rattle.rules.specs.Directories.{direntOf};
-ghost use Rattle.rules.specs.Walk.{reached, entered, found, lookup, ROOT, walkPath, enterParent, walkParent};
+ghost use Rattle.rules.specs.Walk.{reached, entered, found, lookup, walk, ROOT, walkPath, enterParent, walkParent};
+ghost use Rattle.resolution.specs.Parents.{toParent, NameStarts};
 use crate::paths::ByteClass;
 use crate::paths::span_end;
 use crate::rights::bits_allow;
@@ -84,27 +88,51 @@ fn root() -> Location
     }
 }
 
+// The first `left` names of the path from `end` on, of which the first is the k-th, are walked from a location.
+fn walk_from(
+    files: &[u32],
+    contents: &[u8],
+    policy: &[u8],
+    who: Subject,
+    path: &[u8],
+    end: usize,
+    left: u8,
+    k: u32,
+    at: Location,
+) -> Walk
+    requires { ⌜ k + left < 256 ⌝ }
+    ensures { λ r. ⌜ r ≡ walk (tree (now (files .entry)) (now (contents .entry))) (now (policy .entry)) who at k (firstNames left (drop end (now (path .entry)))) ⌝ }
+{
+    if left == 0 {
+        return Walk::Reached(at);
+    }
+    let start = span_end(path, end, ByteClass::Slash);
+    if path.len() <= start {
+        return Walk::Reached(at);
+    }
+    let next = span_end(path, start, ByteClass::NotSlash);
+    let d = at.slot;
+    match look_up(files, contents, policy, who, d, &path[start..next], k) {
+        Walk::Reached(to) => walk_from(
+            files,
+            contents,
+            policy,
+            who,
+            path,
+            next,
+            left - 1,
+            k + 1,
+            to,
+        ),
+        Walk::Stopped(r, n) => Walk::Stopped(r, n),
+    }
+}
+
 // The whole path.
 pub fn walk_path(files: &[u32], contents: &[u8], policy: &[u8], who: Subject, path: &[u8]) -> Walk
     ensures { λ r. ⌜ r ≡ walkPath (tree (now (files .entry)) (now (contents .entry))) (now (policy .entry)) who (now (path .entry)) ⌝ }
 {
-    let mut at = root();
-    let mut end = 0;
-    let mut k: u8 = 0;
-    while k < NAMES + 1 {
-        let start = span_end(path, end, ByteClass::Slash);
-        if path.len() <= start {
-            return Walk::Reached(at);
-        }
-        end = span_end(path, start, ByteClass::NotSlash);
-        let d = at.slot;
-        k += 1;
-        match look_up(files, contents, policy, who, d, &path[start..end], k as u32) {
-            Walk::Reached(next) => at = next,
-            Walk::Stopped(r, n) => return Walk::Stopped(r, n),
-        }
-    }
-    Walk::Reached(at)
+    walk_from(files, contents, policy, who, path, 0, NAMES + 1, 1, root())
 }
 
 fn enter_parent(files: &[u32], policy: &[u8], who: Subject, k: u32, at: Location) -> Walk
@@ -123,29 +151,53 @@ fn enter_parent(files: &[u32], policy: &[u8], who: Subject, k: u32, at: Location
     Walk::Reached(at)
 }
 
+// The k-th name of the path starts at `start`, and at most `left` names follow it: it is looked up where one does, else its parent is entered.
+fn parent_from(
+    files: &[u32],
+    contents: &[u8],
+    policy: &[u8],
+    who: Subject,
+    path: &[u8],
+    start: usize,
+    left: u8,
+    k: u32,
+    at: Location,
+) -> Walk
+    requires { ⌜ NameStarts (now path) start k left ⌝ }
+    ensures { λ r. ⌜ r ≡ toParent (tree (now (files .entry)) (now (contents .entry))) (now (policy .entry)) who at k (firstNames (left + 1) (drop start (now (path .entry)))) ⌝ }
+{
+    if left == 0 {
+        return enter_parent(files, policy, who, k, at);
+    }
+    let end = span_end(path, start, ByteClass::NotSlash);
+    let next = span_end(path, end, ByteClass::Slash);
+    if path.len() <= next {
+        return enter_parent(files, policy, who, k, at);
+    }
+    let d = at.slot;
+    match look_up(files, contents, policy, who, d, &path[start..end], k) {
+        Walk::Reached(to) => parent_from(
+            files,
+            contents,
+            policy,
+            who,
+            path,
+            next,
+            left - 1,
+            k + 1,
+            to,
+        ),
+        Walk::Stopped(r, n) => Walk::Stopped(r, n),
+    }
+}
+
 // The path to the parent of its last name, with the parent's three checks. The last name is the one that no other follows.
 pub fn walk_parent(files: &[u32], contents: &[u8], policy: &[u8], who: Subject, path: &[u8]) -> Walk
     ensures { λ r. ⌜ r ≡ walkParent (tree (now (files .entry)) (now (contents .entry))) (now (policy .entry)) who (now (path .entry)) ⌝ }
 {
-    let mut at = root();
-    let mut start = span_end(path, 0, ByteClass::Slash);
+    let start = span_end(path, 0, ByteClass::Slash);
     if path.len() <= start {
-        return enter_parent(files, policy, who, 0, at);
+        return enter_parent(files, policy, who, 0, root());
     }
-    let mut k: u8 = 1;
-    while k < NAMES + 1 {
-        let end = span_end(path, start, ByteClass::NotSlash);
-        let next = span_end(path, end, ByteClass::Slash);
-        if path.len() <= next {
-            return enter_parent(files, policy, who, k as u32, at);
-        }
-        let d = at.slot;
-        match look_up(files, contents, policy, who, d, &path[start..end], k as u32) {
-            Walk::Reached(reached) => at = reached,
-            Walk::Stopped(r, n) => return Walk::Stopped(r, n),
-        }
-        start = next;
-        k += 1;
-    }
-    enter_parent(files, policy, who, k as u32, at)
+    parent_from(files, contents, policy, who, path, start, NAMES, 1, root())
 }
