@@ -1,4 +1,7 @@
 -- Laws of paths.
+pub mod FirstBytes
 pub mod Spans
 pub mod Names
+pub mod Words
 pub mod Parsing
+pub mod Parents

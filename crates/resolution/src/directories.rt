@@ -7,6 +7,7 @@ ghost use lib.ListN.{getD};
 ghost use Rattle.rules.specs.Choice.{every};
 ghost use Rattle.rules.specs.Scan.{count, first};
 ghost use Rattle.rules.specs.Layout.{NAME, DIRENTS};
+ghost use Rattle.rules.specs.Paths.{sameAt};
 ghost use Rattle.rules.specs.Directories.{direntAt, isEmpty, hasName, direntOf, freeDirent, differsAt, difference, precedes, isBefore, isRanked, direntRanked, isPadding, direntName};
 use tables::directories::dirent_at;
 use tables::directories::is_empty;
@@ -16,9 +17,19 @@ use tables::layout::NAME;
 use tables::parts::upto;
 use tables::words::byte;
 
+fn begins_alike(dir: &[u8], name: &[u8], i: u32) -> bool
+    ensures { λ r. ⌜ r ≡ sameAt (direntAt (now (dir .entry)) i) (now (name .entry)) 0 ⌝ }
+{
+    byte(dirent_at(dir, i), 0) == byte(name, 0)
+}
+
+// Most entries are told apart by their first byte.
 fn has_name(dir: &[u8], name: &[u8], i: u32) -> bool
     ensures { λ r. ⌜ r ≡ hasName (now (dir .entry)) (now (name .entry)) i ⌝ }
 {
+    if !begins_alike(dir, name, i) {
+        return false;
+    }
     tables::names::same_name(dirent_at(dir, i), name)
 }
 

@@ -1,16 +1,15 @@
 // A path is resolved one name at a time, from the root.
 ghost use mathlib.Core.Path.{_≡_};
-ghost use mathlib.Core.List.{[]};
-ghost use Prim.Native.Nat.{_+_, _-_, _<_, min};
-ghost use lib.ListN.{length, drop};
+ghost use Prim.Native.Nat.{_+_, _<_};
+ghost use lib.ListN.{drop};
 ghost use Rattle.rules.specs.Layout.{FILE};
 ghost use Rattle.rules.specs.Store.{tab, tree};
-ghost use Rattle.rules.specs.Paths.{firstNames, names, parentNames};
+ghost use Rattle.rules.specs.Paths.{firstNames};
 ghost use Rattle.rules.specs.Directories.{direntOf};
-ghost use Rattle.rules.specs.Walk.{reached, entered, found, lookup, walk, ROOT, walkPath, enterParent, onReached, walkParent};
-use crate::paths::name_at;
-use crate::paths::name_count;
-use crate::paths::name_end;
+ghost use Rattle.rules.specs.Walk.{reached, entered, found, lookup, walk, ROOT, walkPath, enterParent, walkParent};
+ghost use Rattle.resolution.specs.Parents.{toParent, NameStarts};
+use crate::paths::ByteClass;
+use crate::paths::span_end;
 use crate::rights::bits_allow;
 use crate::rights::label_allows;
 use rules::decision::Location;
@@ -79,45 +78,6 @@ fn look_up(
     find(files, contents, d, name, k)
 }
 
-// The first `left` names of the path from `pos` on, of which the first is the k-th, are walked from a location.
-fn walk_from(
-    files: &[u32],
-    contents: &[u8],
-    policy: &[u8],
-    who: Subject,
-    path: &[u8],
-    pos: usize,
-    left: u8,
-    k: u32,
-    at: Location,
-) -> Walk
-    requires { ⌜ k + left < 256 ⌝ }
-    ensures { λ r. ⌜ r ≡ walk (tree (now (files .entry)) (now (contents .entry))) (now (policy .entry)) who at k (firstNames left (drop pos (now (path .entry)))) ⌝ }
-{
-    if left == 0 {
-        return Walk::Reached(at);
-    }
-    let name = name_at(path, pos);
-    if name.len() == 0 {
-        return Walk::Reached(at);
-    }
-    let d = at.slot;
-    match look_up(files, contents, policy, who, d, name, k) {
-        Walk::Reached(next) => walk_from(
-            files,
-            contents,
-            policy,
-            who,
-            path,
-            name_end(path, pos),
-            left - 1,
-            k + 1,
-            next,
-        ),
-        Walk::Stopped(r, n) => Walk::Stopped(r, n),
-    }
-}
-
 fn root() -> Location
     ensures { λ r. ⌜ r ≡ ROOT ⌝ }
 {
@@ -125,6 +85,46 @@ fn root() -> Location
         dir: Slot(0),
         dirent: 0,
         slot: Slot(0),
+    }
+}
+
+// The first `left` names of the path from `end` on, of which the first is the k-th, are walked from a location.
+fn walk_from(
+    files: &[u32],
+    contents: &[u8],
+    policy: &[u8],
+    who: Subject,
+    path: &[u8],
+    end: usize,
+    left: u8,
+    k: u32,
+    at: Location,
+) -> Walk
+    requires { ⌜ k + left < 256 ⌝ }
+    ensures { λ r. ⌜ r ≡ walk (tree (now (files .entry)) (now (contents .entry))) (now (policy .entry)) who at k (firstNames left (drop end (now (path .entry)))) ⌝ }
+{
+    if left == 0 {
+        return Walk::Reached(at);
+    }
+    let start = span_end(path, end, ByteClass::Slash);
+    if path.len() <= start {
+        return Walk::Reached(at);
+    }
+    let next = span_end(path, start, ByteClass::NotSlash);
+    let d = at.slot;
+    match look_up(files, contents, policy, who, d, &path[start..next], k) {
+        Walk::Reached(to) => walk_from(
+            files,
+            contents,
+            policy,
+            who,
+            path,
+            next,
+            left - 1,
+            k + 1,
+            to,
+        ),
+        Walk::Stopped(r, n) => Walk::Stopped(r, n),
     }
 }
 
@@ -151,56 +151,53 @@ fn enter_parent(files: &[u32], policy: &[u8], who: Subject, k: u32, at: Location
     Walk::Reached(at)
 }
 
-fn on_parent(files: &[u32], policy: &[u8], who: Subject, k: u32, w: Walk) -> Walk
-    ensures { λ r. ⌜ r ≡ onReached w (enterParent (tab FILE (now (files .entry))) (now (policy .entry)) who k) ⌝ }
-{
-    match w {
-        Walk::Reached(at) => enter_parent(files, policy, who, k, at),
-        Walk::Stopped(r, n) => Walk::Stopped(r, n),
-    }
-}
-
-// The names before the n-th.
-fn walk_before(
+// The k-th name of the path starts at `start`, and at most `left` names follow it: it is looked up where one does, else its parent is entered.
+fn parent_from(
     files: &[u32],
     contents: &[u8],
     policy: &[u8],
     who: Subject,
     path: &[u8],
-    n: u8,
+    start: usize,
+    left: u8,
+    k: u32,
+    at: Location,
 ) -> Walk
-    ensures { λ r. ⌜ r ≡ walk (tree (now (files .entry)) (now (contents .entry))) (now (policy .entry)) who ROOT 1 (firstNames (min n 9 - 1) (now (path .entry))) ⌝ }
+    requires { ⌜ NameStarts (now path) start k left ⌝ }
+    ensures { λ r. ⌜ r ≡ toParent (tree (now (files .entry)) (now (contents .entry))) (now (policy .entry)) who at k (firstNames (left + 1) (drop start (now (path .entry)))) ⌝ }
 {
-    walk_from(
-        files,
-        contents,
-        policy,
-        who,
-        path,
-        0,
-        one_before(n),
-        1,
-        root(),
-    )
+    if left == 0 {
+        return enter_parent(files, policy, who, k, at);
+    }
+    let end = span_end(path, start, ByteClass::NotSlash);
+    let next = span_end(path, end, ByteClass::Slash);
+    if path.len() <= next {
+        return enter_parent(files, policy, who, k, at);
+    }
+    let d = at.slot;
+    match look_up(files, contents, policy, who, d, &path[start..end], k) {
+        Walk::Reached(to) => parent_from(
+            files,
+            contents,
+            policy,
+            who,
+            path,
+            next,
+            left - 1,
+            k + 1,
+            to,
+        ),
+        Walk::Stopped(r, n) => Walk::Stopped(r, n),
+    }
 }
 
-fn one_before(n: u8) -> u8
-    ensures { λ r. ⌜ r ≡ min n 9 - 1 ⌝ }
-{
-    if NAMES + 1 < n {
-        return NAMES;
-    }
-    if 0 < n {
-        return n - 1;
-    }
-    0
-}
-
-// The path to the parent of its last name, with the parent's three checks.
+// The path to the parent of its last name, with the parent's three checks. The last name is the one that no other follows.
 pub fn walk_parent(files: &[u32], contents: &[u8], policy: &[u8], who: Subject, path: &[u8]) -> Walk
     ensures { λ r. ⌜ r ≡ walkParent (tree (now (files .entry)) (now (contents .entry))) (now (policy .entry)) who (now (path .entry)) ⌝ }
 {
-    let n = name_count(path);
-    let w = walk_before(files, contents, policy, who, path, n);
-    on_parent(files, policy, who, n as u32, w)
+    let start = span_end(path, 0, ByteClass::Slash);
+    if path.len() <= start {
+        return enter_parent(files, policy, who, 0, root());
+    }
+    parent_from(files, contents, policy, who, path, start, NAMES, 1, root())
 }
