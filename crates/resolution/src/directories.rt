@@ -7,7 +7,6 @@ ghost use lib.ListN.{getD};
 ghost use Rattle.rules.specs.Choice.{every};
 ghost use Rattle.rules.specs.Scan.{count, first};
 ghost use Rattle.rules.specs.Layout.{NAME, DIRENTS};
-ghost use Rattle.rules.specs.Paths.{sameAt};
 ghost use Rattle.rules.specs.Directories.{direntAt, isEmpty, hasName, direntOf, freeDirent, differsAt, difference, precedes, isBefore, isRanked, direntRanked, isPadding, direntName};
 use tables::directories::dirent_at;
 use tables::directories::is_empty;
@@ -17,30 +16,29 @@ use tables::layout::NAME;
 use tables::parts::upto;
 use tables::words::byte;
 
-fn begins_alike(dir: &[u8], name: &[u8], i: u32) -> bool
-    ensures { λ r. ⌜ r ≡ sameAt (direntAt (now (dir .entry)) i) (now (name .entry)) 0 ⌝ }
+fn begins_with(dir: &[u8], i: u32, b: u8) -> bool
+    ensures { λ r. ⌜ r ≡ eqb (getD (direntAt (now (dir .entry)) i) 0 0) b ⌝ }
 {
-    byte(dirent_at(dir, i), 0) == byte(name, 0)
+    byte(dirent_at(dir, i), 0) == b
 }
 
-// Most entries are told apart by their first byte.
 fn has_name(dir: &[u8], name: &[u8], i: u32) -> bool
     ensures { λ r. ⌜ r ≡ hasName (now (dir .entry)) (now (name .entry)) i ⌝ }
 {
-    if !begins_alike(dir, name, i) {
-        return false;
-    }
     tables::names::same_name(dirent_at(dir, i), name)
 }
 
-// The entry that has the name, 16 where none has.
+// The entry that has the name, 16 where none has. Most entries are told apart by their first byte.
 pub fn dirent_of(dir: &[u8], name: &[u8]) -> u32
     ensures { λ r. ⌜ r ≡ direntOf (now (dir .entry)) (now (name .entry)) ⌝ }
 {
+    let b = byte(name, 0);
     let mut i: u32 = 0;
     while i < DIRENTS {
-        if has_name(dir, name, i) {
-            return i;
+        if begins_with(dir, i, b) {
+            if has_name(dir, name, i) {
+                return i;
+            }
         }
         i += 1;
     }
