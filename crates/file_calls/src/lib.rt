@@ -2,5 +2,4 @@
 pub mod change_bits;
 pub mod execute;
 pub mod list;
-pub mod open;
 pub mod stat;

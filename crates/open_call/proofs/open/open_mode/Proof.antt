@@ -1,7 +1,7 @@
 use Rattle.rules.specs.DecidePaths.{openMode}
 use borrow.Author.Needs.{needs}
-use Rattle.file_calls.proofs.open.open_mode.Statement.{statement}
-use Rattle.file_calls.proofs.open.open_mode.Tie as tie
+use Rattle.open_call.proofs.open.open_mode.Statement.{statement}
+use Rattle.open_call.proofs.open.open_mode.Tie as tie
 
 pub open-mode-spec : {M : Type 1} → statement M
 unfolding openMode

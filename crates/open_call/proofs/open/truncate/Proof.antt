@@ -1,5 +1,5 @@
-use Rattle.file_calls.proofs.open.truncate.Statement.{statement}
-use Rattle.file_calls.proofs.open.truncate.Tie as tie
+use Rattle.open_call.proofs.open.truncate.Statement.{statement}
+use Rattle.open_call.proofs.open.truncate.Tie as tie
 
 pub truncate-spec : {M : Type 1} → statement M
 truncate-spec =

@@ -1,7 +1,7 @@
 use Rattle.rules.specs.DecidePaths.{openFile}
 use Rattle.rules.proofs.Choices.{steps}
-use Rattle.file_calls.proofs.open.open_file.Statement.{statement}
-use Rattle.file_calls.proofs.open.open_file.Tie as tie
+use Rattle.open_call.proofs.open.open_file.Statement.{statement}
+use Rattle.open_call.proofs.open.open_file.Tie as tie
 
 pub open-file-spec : {M : Type 1} → statement M
 unfolding openFile

@@ -1,7 +1,7 @@
 use Rattle.rules.specs.DecidePaths.{openRoom}
 use Rattle.rules.proofs.Choices.{steps}
-use Rattle.file_calls.proofs.open.open_room.Statement.{statement}
-use Rattle.file_calls.proofs.open.open_room.Tie as tie
+use Rattle.open_call.proofs.open.open_room.Statement.{statement}
+use Rattle.open_call.proofs.open.open_room.Tie as tie
 
 pub open-room-spec : {M : Type 1} → statement M
 unfolding openRoom

@@ -1,7 +1,7 @@
 use Rattle.rules.specs.DecidePaths.{opening}
 use Rattle.rules.proofs.Choices.{steps}
-use Rattle.file_calls.proofs.open.open_effect.Statement.{statement}
-use Rattle.file_calls.proofs.open.open_effect.Tie as tie
+use Rattle.open_call.proofs.open.open_effect.Statement.{statement}
+use Rattle.open_call.proofs.open.open_effect.Tie as tie
 
 pub open-effect-spec : {M : Type 1} → statement M
 unfolding opening

@@ -1,7 +1,7 @@
 use Rattle.rules.specs.Choice.{every}
 use Rattle.rules.proofs.Choices.{steps}
-use Rattle.file_calls.proofs.open.is_cut.Statement.{statement}
-use Rattle.file_calls.proofs.open.is_cut.Tie as tie
+use Rattle.open_call.proofs.open.is_cut.Statement.{statement}
+use Rattle.open_call.proofs.open.is_cut.Tie as tie
 
 pub is-cut-spec : {M : Type 1} → statement M
 unfolding every

@@ -1,6 +1,6 @@
 use Rattle.rules.specs.DecidePaths.{openRoom}
-use Rattle.file_calls.proofs.open.open_free.Statement.{statement}
-use Rattle.file_calls.proofs.open.open_free.Tie as tie
+use Rattle.open_call.proofs.open.open_free.Statement.{statement}
+use Rattle.open_call.proofs.open.open_free.Tie as tie
 
 pub open-free-spec : {M : Type 1} → statement M
 unfolding openRoom

@@ -1,8 +1,8 @@
 use Rattle.rules.specs.Checks.{after}
 use Rattle.rules.specs.DecidePaths.{decideOpen}
 use borrow.Author.Needs.{needs}
-use Rattle.file_calls.proofs.open.decide_open.Statement.{statement}
-use Rattle.file_calls.proofs.open.decide_open.Tie as tie
+use Rattle.open_call.proofs.open.decide_open.Statement.{statement}
+use Rattle.open_call.proofs.open.decide_open.Tie as tie
 
 pub decide-open-spec : {M : Type 1} → statement M
 unfolding decideOpen after
