@@ -114,10 +114,25 @@ fn used_sound(files: &[u32], contents: &[u8], name: &[u8], target: u32) -> bool
     !is_free(files, Slot(target))
 }
 
+// Looked for byte by byte, and not as the empty name: most entries of a directory are empty.
+fn all_padding(name: &[u8]) -> bool
+    ensures { λ r. ⌜ r ≡ all (isPadding (now (name .entry))) 0 NAME ⌝ }
+{
+    let mut k = 0;
+    while k < NAME {
+        if is_padding(name, k) {
+            k += 1;
+        } else {
+            return false;
+        }
+    }
+    true
+}
+
 fn padding_at(dir: &[u8], i: u32) -> bool
     ensures { λ r. ⌜ r ≡ all (isPadding (direntAt (now (dir .entry)) i)) 0 NAME ⌝ }
 {
-    same_name(dirent_at(dir, i), b"")
+    all_padding(dirent_at(dir, i))
 }
 
 fn used_at(files: &[u32], contents: &[u8], dir: &[u8], i: u32) -> bool
