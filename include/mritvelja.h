@@ -178,6 +178,37 @@ uint32_t mritvelja_sound(
     const uint32_t *processes, size_t processes_size,
     const uint8_t *policy, size_t policy_size);
 
+/* Why a run of a script stopped, tested before each call in this order. */
+enum {
+  MRITVELJA_REPLAY_END = 1,        /* the script's end */
+  MRITVELJA_REPLAY_ALLOWANCE = 2,  /* as many calls were answered as allowed */
+  MRITVELJA_REPLAY_BROKEN = 3,     /* the next block is not a call in the script's form */
+  MRITVELJA_REPLAY_ROOM = 4        /* the next answer is too long for the output */
+};
+
+typedef struct {
+  size_t next;      /* the byte of the script where the next block begins */
+  size_t written;   /* bytes of the output that hold answers */
+  uint32_t calls;   /* calls answered, never more than allowed */
+  uint32_t reason;  /* MRITVELJA_REPLAY_.. */
+} mritvelja_replayed;
+
+/* Runs a script: each block of six lines is one call, answered as by
+ * mritvelja_call, but that a read of more than 512 bytes is malformed. Each
+ * answer is three lines of the output. The call that it stops before was not
+ * made, and the output's bytes past the answers stay.
+ * A run on the same tables with the script from next on goes on where this one
+ * stopped. */
+mritvelja_replayed mritvelja_replay(
+    uint32_t *files, size_t files_size,
+    uint8_t *contents, size_t contents_size,
+    uint32_t *open_files, size_t open_files_size,
+    uint32_t *processes, size_t processes_size,
+    const uint8_t *policy, size_t policy_size,
+    const uint8_t *script, size_t script_size,
+    uint32_t allowance,                            /* calls to answer, at most */
+    uint8_t *output, size_t output_size);          /* where the answers go */
+
 #ifdef __cplusplus
 }
 #endif

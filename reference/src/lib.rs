@@ -1,8 +1,9 @@
 //! A plain file store over flat lent tables: the second program, written from
 //! the rules alone so that the two can be compared.
 //!
-//! [`call`] answers one call, [`sound`] tells whether tables are sound, and
-//! [`act`] answers a call without testing soundness first.
+//! [`call`] answers one call, [`sound`] tells whether tables are sound,
+//! [`act`] answers a call without testing soundness first, and [`replay()`]
+//! runs a script of calls.
 
 mod access;
 mod answer;
@@ -16,7 +17,9 @@ mod path_calls;
 mod process_calls;
 mod records;
 mod refusal;
+mod replay;
 mod rights;
+mod script;
 mod serve;
 mod sound;
 mod tables;
@@ -25,6 +28,7 @@ mod walk;
 
 pub use answer::Answer;
 pub use command::Request;
+pub use replay::{replay, Reason, Replayed};
 
 use refusal::Refusal;
 use tables::{Store, Tables};

@@ -4,11 +4,40 @@ ghost use Rattle.rules.specs.Store.{store};
 ghost use Rattle.rules.specs.Sound.{sound};
 ghost use Rattle.rules.specs.Step.{act, step};
 ghost use Rattle.store.specs.Lent.{lent, lentOf};
-ghost use Rattle.abi.specs.Crossing.{numbered, flag};
+ghost use lib.ListN.{length};
+ghost use Rattle.script_rules.specs.Replay.{replay};
+ghost use Rattle.replay.specs.Runs.{leftBy};
+ghost use Rattle.abi.specs.Crossing.{numbered, flag, reported, crossed, crossedBy};
 use rules::answer::Answer;
 use rules::ids::Fd;
 use rules::ids::Pid;
 use rules::request::Request;
+use script_rules::replayed::Replayed;
+
+// What came of a run of a script, as it crosses to C.
+#[repr(C)]
+pub struct Report {
+    // Where the next block begins.
+    pub next: usize,
+    // How much of the output holds answers.
+    pub written: usize,
+    // Calls answered.
+    pub calls: u32,
+    // Why it stopped: 1 the script's end, 2 the allowance is spent, 3 the next block is broken, 4 its answer has no room.
+    pub reason: u32,
+}
+
+fn report_of(r: Replayed) -> Report
+    ensures { λ a. ⌜ a ≡ reported r ⌝ }
+{
+    let reason = r.reason;
+    Report {
+        next: r.next,
+        written: r.written,
+        calls: r.calls,
+        reason: reason.number(),
+    }
+}
 
 // One call: refused with 1 where the tables or the policy are not sound.
 #[no_mangle]
@@ -97,4 +126,30 @@ pub extern "C" fn mritvelja_sound(
         return 1;
     }
     0
+}
+
+// The calls of a script, at most `allowance` of them; their answers go to the output, and past them it stays.
+#[no_mangle]
+pub extern "C" fn mritvelja_replay(
+    files: &mut [u32],
+    contents: &mut [u8],
+    open_files: &mut [u32],
+    processes: &mut [u32],
+    policy: &[u8],
+    script: &[u8],
+    allowance: u32,
+    output: &mut [u8],
+) -> Report
+    ensures { λ r. ⌜ crossed r (now (output .exit)) (store (now (files .exit)) (now (contents .exit)) (now («open_files» .exit)) (now (processes .exit))) ≡ crossedBy (leftBy 0 0 (now (output .entry)) (replay allowance (now (policy .entry)) (now (script .entry)) (length (now (output .entry))) (store (now (files .entry)) (now (contents .entry)) (now («open_files» .entry)) (now (processes .entry))))) ⌝ }
+{
+    report_of(replay::run::replay(
+        files,
+        contents,
+        open_files,
+        processes,
+        policy,
+        script,
+        allowance,
+        output,
+    ))
 }

@@ -1,4 +1,4 @@
-// The form of a call: which call it is, and whether its numbers and paths are well formed.
+// The form of a call: whether its numbers and paths are well formed.
 ghost use mathlib.Core.Path.{_≡_};
 ghost use mathlib.Core.Bool.{true, false};
 ghost use mathlib.Core.List.{[], _∷_};
@@ -7,7 +7,7 @@ ghost use Rattle.rules.specs.Choice.{every};
 ghost use Rattle.rules.specs.Layout.{BLOCK};
 ghost use Rattle.rules.specs.Rights.{bitsKnown, modeOf, modeKnown};
 ghost use Rattle.rules.specs.Paths.{pathOk};
-ghost use Rattle.rules.specs.Calls.{operationOf, pathBelowRoot, newFileOk, formOk};
+ghost use Rattle.rules.specs.Calls.{pathBelowRoot, newFileOk, formOk};
 ghost use Rattle.decision.specs.Form.{areBits};
 use resolution::paths::path_below_root;
 use resolution::paths::path_ok;
@@ -17,32 +17,6 @@ use rules::rights::BitsNumber;
 use rules::rights::ModeNumber;
 use rules::rights::OpenMode;
 use tables::layout::BLOCK;
-
-// Which call a number names.
-pub fn operation_of(call: u8) -> Operation
-    ensures { λ r. ⌜ r ≡ operationOf call ⌝ }
-{
-    match call {
-        1 => Operation::Open,
-        2 => Operation::Create,
-        3 => Operation::MakeDirectory,
-        4 => Operation::Unlink,
-        5 => Operation::RemoveDirectory,
-        6 => Operation::Link,
-        7 => Operation::List,
-        8 => Operation::ChangeBits,
-        9 => Operation::Stat,
-        10 => Operation::Close,
-        11 => Operation::Read,
-        12 => Operation::Write,
-        13 => Operation::Seek,
-        14 => Operation::Duplicate,
-        15 => Operation::Fork,
-        16 => Operation::Exit,
-        17 => Operation::Execute,
-        _ => Operation::Unknown,
-    }
-}
 
 fn is_mode(m: ModeNumber) -> bool
     ensures { λ r. ⌜ r ≡ modeKnown m ⌝ }

@@ -1,2 +1,3 @@
-// The store: one call on the lent tables.
+// The store: one call on the lent tables, whole or in its stages.
 pub mod call;
+pub mod stages;

@@ -1,4 +1,5 @@
 // The lent tables: total reads and stores, and every field by its named column and typed index.
+pub mod calls;
 pub mod directories;
 pub mod files;
 pub mod layout;

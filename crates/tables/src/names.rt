@@ -4,7 +4,8 @@ ghost use Rattle.rules.specs.Paths.{sameAt, sameName, isDots};
 use crate::layout::NAME;
 use crate::words::byte;
 
-fn same_at(a: &[u8], b: &[u8], k: usize) -> bool
+// Byte k of two names is the same, each 0 past its end.
+pub fn same_at(a: &[u8], b: &[u8], k: usize) -> bool
     ensures { λ r. ⌜ r ≡ sameAt (now (a .entry)) (now (b .entry)) k ⌝ }
 {
     byte(a, k) == byte(b, k)

@@ -7,10 +7,10 @@ const NAMES: [&str; 5] = ["now", "key", "a", "b", "c"];
 const MODES: [usize; 7] = [1, 2, 3, 4, 10, 11, 12];
 
 /// Numbers that look like chance and are the same each time.
-struct Chance(u64);
+pub struct Chance(pub u64);
 
 impl Chance {
-    fn below(&mut self, limit: usize) -> usize {
+    pub fn below(&mut self, limit: usize) -> usize {
         self.0 ^= self.0 << 13;
         self.0 ^= self.0 >> 7;
         self.0 ^= self.0 << 17;
@@ -31,7 +31,7 @@ impl Chance {
         NAMES[self.below(NAMES.len())]
     }
 
-    fn path(&mut self) -> String {
+    pub fn path(&mut self) -> String {
         match self.below(24) {
             0 => "/".into(),
             1 => format!("/fares/{}/", self.name()),
@@ -42,7 +42,7 @@ impl Chance {
         }
     }
 
-    fn request(&mut self) -> Request {
+    pub fn request(&mut self) -> Request {
         let call = self.mostly_below(18, 20);
         let number = match call {
             _ if self.one_in(20) => self.below(65_536),
@@ -59,7 +59,7 @@ impl Chance {
         }
     }
 
-    fn data(&mut self, call: u8) -> Vec<u8> {
+    pub fn data(&mut self, call: u8) -> Vec<u8> {
         match call {
             6 => self.path().into_bytes(),
             _ => vec![65; self.mostly_below(60, 520)],

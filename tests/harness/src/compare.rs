@@ -6,6 +6,7 @@ use crate::chance::Chance;
 use crate::defects::{self, Defect};
 use crate::generate::{random_store, CallMaker};
 use crate::programs::*;
+use crate::scripts::compare::Scripts;
 use crate::secrecy;
 use crate::sizes;
 use crate::tables::Tables;
@@ -13,12 +14,15 @@ use crate::tally::Tally;
 
 /// After so many differences the run ends: more would say the same.
 const MOST_DIFFERENCES: u64 = 10;
+/// One script is run for so many calls.
+const CALLS_A_SCRIPT: u64 = 200;
 
 pub struct Comparison {
     seed: u64,
     chance: Chance,
     defects: Vec<Defect>,
     tally: Tally,
+    scripts: Scripts,
     /// The tables of the proved store, of the second program, and before the call.
     store: Tables,
     reference: Tables,
@@ -32,6 +36,7 @@ impl Comparison {
             seed,
             chance: Chance::new(seed),
             tally: Tally::new(defects.len()),
+            scripts: Scripts::new(seed),
             defects,
             store: Tables::blank(),
             reference: Tables::blank(),
@@ -39,17 +44,33 @@ impl Comparison {
         }
     }
 
-    /// Makes so many calls, and one in ten more on pairs of stores. Answers
-    /// whether there was no difference.
+    /// Makes so many calls, one in ten more on pairs of stores, and those of
+    /// whole scripts. Answers whether there was no difference.
     pub fn run(&mut self, calls: u64) -> bool {
-        while self.tally.calls() < calls && self.tally.differences < MOST_DIFFERENCES {
+        while self.tally.calls() < calls && self.differences() < MOST_DIFFERENCES {
             self.run_store(calls);
             if 10 * self.tally.pair_calls < self.tally.calls() {
                 self.run_pair();
             }
+            self.run_scripts();
         }
         self.tally.print(&self.defects);
-        self.tally.differences == 0
+        self.scripts.tally.print();
+        println!("differences: {}", self.differences());
+        self.differences() == 0
+    }
+
+    fn differences(&self) -> u64 {
+        self.tally.differences + self.scripts.tally.differences
+    }
+
+    /// As many scripts as go with the calls made.
+    fn run_scripts(&mut self) {
+        while CALLS_A_SCRIPT * self.scripts.tally.scripts < self.tally.calls()
+            && self.differences() < MOST_DIFFERENCES
+        {
+            self.scripts.compare_one();
+        }
     }
 
     /// A list of calls on one store.

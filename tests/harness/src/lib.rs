@@ -11,6 +11,8 @@ pub mod features;
 pub mod generate;
 pub mod layout;
 pub mod programs;
+pub mod replayed;
+pub mod scripts;
 pub mod secrecy;
 pub mod sizes;
 pub mod tables;

@@ -3,6 +3,7 @@
 
 use crate::answer::Answer;
 use crate::call::Call;
+use crate::replayed::Replayed;
 use crate::tables::Tables;
 use reference::Request;
 
@@ -30,7 +31,7 @@ type CallFunction = unsafe extern "C" fn(
 ) -> Answer;
 
 mod boundary {
-    use super::Answer;
+    use super::{Answer, Replayed};
 
     macro_rules! call_functions {
         ($($name:ident)*) => {
@@ -65,6 +66,24 @@ mod boundary {
             policy: *const u8,
             policy_bytes: usize,
         ) -> u32;
+
+        pub fn mritvelja_replay(
+            files: *mut u32,
+            file_words: usize,
+            contents: *mut u8,
+            content_bytes: usize,
+            open_files: *mut u32,
+            open_words: usize,
+            processes: *mut u32,
+            process_words: usize,
+            policy: *const u8,
+            policy_bytes: usize,
+            script: *const u8,
+            script_bytes: usize,
+            allowance: u32,
+            output: *mut u8,
+            output_bytes: usize,
+        ) -> Replayed;
     }
 }
 
@@ -127,6 +146,35 @@ pub fn store_sound(tables: &Tables) -> bool {
     answer == 1
 }
 
+/// A script on the proved store.
+pub fn store_replay(
+    tables: &mut Tables,
+    script: &[u8],
+    allowance: u32,
+    output: &mut [u8],
+) -> Replayed {
+    // SAFETY: as in `cross`.
+    unsafe {
+        boundary::mritvelja_replay(
+            tables.files.as_mut_ptr(),
+            tables.files.len(),
+            tables.contents.as_mut_ptr(),
+            tables.contents.len(),
+            tables.open_files.as_mut_ptr(),
+            tables.open_files.len(),
+            tables.processes.as_mut_ptr(),
+            tables.processes.len(),
+            tables.policy.as_ptr(),
+            tables.policy.len(),
+            script.as_ptr(),
+            script.len(),
+            allowance,
+            output.as_mut_ptr(),
+            output.len(),
+        )
+    }
+}
+
 fn request(call: &Call) -> Request {
     Request {
         process: call.process,
@@ -175,4 +223,24 @@ pub fn reference_sound(tables: &Tables) -> bool {
         &tables.processes,
         &tables.policy,
     )
+}
+
+/// A script on the second program.
+pub fn reference_replay(
+    tables: &mut Tables,
+    script: &[u8],
+    allowance: u32,
+    output: &mut [u8],
+) -> Replayed {
+    let replayed = reference::replay(
+        &mut tables.files,
+        &mut tables.contents,
+        &mut tables.open_files,
+        &mut tables.processes,
+        &tables.policy,
+        script,
+        allowance,
+        output,
+    );
+    Replayed::from(replayed)
 }

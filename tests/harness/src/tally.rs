@@ -72,7 +72,7 @@ impl Tally {
             "secrecy: {} pairs of stores, {} calls on both, {} files freed on the way",
             self.pairs, self.pair_calls, self.pairs_freed
         );
-        println!("differences: {}", self.differences);
+        println!("differences in calls: {}", self.differences);
     }
 
     fn print_answers(&self) {

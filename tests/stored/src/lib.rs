@@ -3,3 +3,4 @@
 pub mod answers;
 pub mod records;
 pub mod tables;
+pub mod test_console;

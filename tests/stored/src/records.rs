@@ -1,4 +1,4 @@
-//! The records that `crates/replay` reads (docs/replay.md).
+//! The records that `crates/recorded` reads (docs/recorded.md).
 
 use crate::tables::Tables;
 

@@ -1,4 +1,4 @@
-//! Stores and calls by chance for `crates/replay`, in its records. The second program carries the calls out, so that
+//! Stores and calls by chance for `crates/recorded`, in its records. The second program carries the calls out, so that
 //! later ones fit the store.
 
 // The harness links the proved store, which this program does without: it takes the generator's files alone.
@@ -46,7 +46,7 @@ const SHORT: usize = 2_500;
 /// One call in so many is made on a store that is not sound.
 const UNSOUND: usize = 40;
 
-/// The tables as `crates/replay` holds them.
+/// The tables as `crates/recorded` holds them.
 fn held(tables: &Tables, before: &stored::tables::Tables) -> stored::tables::Tables {
     stored::tables::Tables {
         files: over(&tables.files, &before.files),
@@ -177,7 +177,7 @@ fn short(mut call: Call) -> Call {
     call
 }
 
-/// A call that can be written down, with a buffer that `crates/replay` has.
+/// A call that can be written down, with a buffer that `crates/recorded` has.
 fn writable(call: &Call) -> bool {
     call.path.len() < 256 && call.data.len() < 4096 && call.buffer.len() <= BUFFER
 }

@@ -1,0 +1,62 @@
+//! `check`: the verdict is the proved store's; the diagnosis says where and why.
+
+use crate::boundary;
+use crate::diagnosis::{self, Defect};
+use crate::failure::Failure;
+use crate::held;
+use crate::output;
+use crate::tables::Tables;
+use std::path::Path;
+
+/// Says whether a store is sound, and answers that.
+pub fn check(store: &Path) -> Result<bool, Failure> {
+    match defect(&held::read(store)?)? {
+        None => output::print(b"sound\n").map(|()| true),
+        Some(defect) => output::print(format!("{defect}\n").as_bytes()).map(|()| false),
+    }
+}
+
+/// Refuses a store that is not sound.
+pub fn require_sound(store: &Path, tables: &Tables) -> Result<(), Failure> {
+    match defect(tables)? {
+        None => Ok(()),
+        Some(defect) => Err(Failure::of(store, defect.to_string())),
+    }
+}
+
+/// What is wrong with a store, nothing if it is sound.
+fn defect(tables: &Tables) -> Result<Option<Defect>, Failure> {
+    agreed(boundary::sound(tables), diagnosis::first_defect(tables))
+}
+
+/// The verdict, which the diagnosis must not contradict.
+fn agreed(is_sound: bool, defect: Option<Defect>) -> Result<Option<Defect>, Failure> {
+    match (is_sound, defect) {
+        (true, None) => Ok(None),
+        (false, Some(defect)) => Ok(Some(defect)),
+        (true, Some(defect)) => Err(Failure::new(
+            "internal error",
+            format!("the store is sound, but the diagnosis says: {defect}"),
+        )),
+        (false, None) => Err(Failure::new(
+            "internal error",
+            "the store is not sound, but the diagnosis finds nothing wrong",
+        )),
+    }
+}
+
+#[cfg(test)]
+mod tests {
+    use super::*;
+
+    #[test]
+    fn a_diagnosis_that_contradicts_the_verdict_is_an_internal_error() {
+        let some_defect = || diagnosis::first_defect(&Tables::zero());
+        assert_eq!(agreed(true, None).unwrap(), None);
+        assert_eq!(agreed(false, some_defect()).unwrap(), some_defect());
+        for contradiction in [agreed(false, None), agreed(true, some_defect())] {
+            let said = contradiction.unwrap_err().to_string();
+            assert!(said.starts_with("internal error: "), "{said}");
+        }
+    }
+}

@@ -1,0 +1,78 @@
+//! What is wrong with a store that is not sound: the first clause of "Sound"
+//! that fails, in the paper's order, and where.
+//!
+//! No table is trusted here: each clause is tested of any tables of the right size.
+
+mod fields;
+mod files;
+mod names;
+mod opens;
+mod tree;
+mod zeros;
+
+#[cfg(test)]
+mod tests;
+
+use crate::tables::Tables;
+use std::fmt;
+
+/// A test of one clause: where it fails and how, nothing if it holds.
+type Clause = fn(&Tables) -> Option<String>;
+
+/// The clauses of "Sound", in the paper's words and order.
+const CLAUSES: [(&str, Clause); 12] = [
+    ("all fields in range", fields::out_of_range),
+    ("root a directory with no name", tree::root),
+    (
+        "every other directory named exactly once and at most 8 names deep",
+        tree::named_once_and_not_too_deep,
+    ),
+    ("every directory reached from the root", tree::not_reached),
+    (
+        "names valid and different within a directory",
+        names::not_valid_or_not_different,
+    ),
+    (
+        "each place naming a slot in use other than 0",
+        names::of_no_slot_in_use,
+    ),
+    ("names equal to the places counted", names::not_as_counted),
+    (
+        "a plain file's length at most 512, a directory's equal to its number of names",
+        files::wrong_length,
+    ),
+    (
+        "each plain file named or open",
+        files::neither_named_nor_open,
+    ),
+    (
+        "open entries only on plain files",
+        opens::not_on_a_plain_file,
+    ),
+    (
+        "references equal to the descriptors counted, at least 1",
+        opens::references_not_as_counted,
+    ),
+    ("the zero bytes", zeros::not_zero),
+];
+
+/// A clause that fails, and where.
+#[derive(Debug, PartialEq, Eq)]
+pub struct Defect {
+    clause: &'static str,
+    place: String,
+}
+
+impl fmt::Display for Defect {
+    fn fmt(&self, f: &mut fmt::Formatter<'_>) -> fmt::Result {
+        let Defect { clause, place } = self;
+        write!(f, "not sound: \"{clause}\" does not hold: {place}")
+    }
+}
+
+/// The first clause that fails; nothing if the store is sound.
+pub fn first_defect(tables: &Tables) -> Option<Defect> {
+    CLAUSES
+        .iter()
+        .find_map(|&(clause, test)| test(tables).map(|place| Defect { clause, place }))
+}

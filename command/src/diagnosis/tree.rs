@@ -1,0 +1,58 @@
+//! The clauses of the root, of the directories' names and of their way to the root.
+
+use super::names;
+use crate::layout::*;
+use crate::tables::Tables;
+
+pub fn root(tables: &Tables) -> Option<String> {
+    let record = tables.file(ROOT);
+    if record[KIND] != DIRECTORY {
+        return Some(format!(
+            "slot 0: kind is {}, not {DIRECTORY}, a directory",
+            record[KIND]
+        ));
+    }
+    (record[NAMES] != 0).then(|| format!("slot 0: names is {}, not 0", record[NAMES]))
+}
+
+pub fn named_once_and_not_too_deep(tables: &Tables) -> Option<String> {
+    not_named_once(tables).or_else(|| too_deep(tables))
+}
+
+fn not_named_once(tables: &Tables) -> Option<String> {
+    below_root(tables).find_map(|slot| {
+        let places = names::places_of(tables, slot).count();
+        (places != 1)
+            .then(|| format!("slot {slot}: a directory; the places that name it are {places}"))
+    })
+}
+
+fn too_deep(tables: &Tables) -> Option<String> {
+    below_root(tables).find_map(|slot| {
+        let depth = depth(tables, slot).filter(|&depth| depth > DEEPEST)?;
+        Some(format!("slot {slot}: a directory {depth} names deep"))
+    })
+}
+
+pub fn not_reached(tables: &Tables) -> Option<String> {
+    let slot = below_root(tables).find(|&slot| depth(tables, slot).is_none())?;
+    Some(format!(
+        "slot {slot}: a directory from which no way leads up to the root"
+    ))
+}
+
+fn below_root(tables: &Tables) -> impl Iterator<Item = usize> + '_ {
+    tables.directories().filter(|&slot| slot != ROOT)
+}
+
+/// How many names lead to a directory; nothing if none do. Each is named once.
+fn depth(tables: &Tables, directory: usize) -> Option<usize> {
+    let mut at = directory;
+    for depth in 0..SLOTS {
+        if at == ROOT {
+            return Some(depth);
+        }
+        (at, _) = names::places_of(tables, at).next()?;
+    }
+    None
+}

@@ -1,0 +1,103 @@
+//! A store file as it lies on the disk: read, made, and held while it is changed.
+
+use crate::failure::Failure;
+use crate::format;
+use crate::save;
+use crate::tables::Tables;
+use std::fs::{self, File, OpenOptions};
+use std::io::{ErrorKind, Read, Write};
+use std::os::unix::fs::{MetadataExt, OpenOptionsExt};
+use std::path::{Path, PathBuf};
+
+/// A saved store shows every file's bytes, so that a new one is its maker's alone.
+const NEW_FILE_MODE: u32 = 0o600;
+
+/// Reads a store. A saved store is replaced whole, so that none is ever half read.
+pub fn read(path: &Path) -> Result<Tables, Failure> {
+    load(path, &open(path, path)?)
+}
+
+/// Writes a store to a new file, and leaves none behind if that fails.
+pub fn create(path: &Path, tables: &Tables) -> Result<(), Failure> {
+    let mut file = OpenOptions::new()
+        .write(true)
+        .create_new(true)
+        .mode(NEW_FILE_MODE)
+        .open(path)
+        .map_err(|error| match error.kind() {
+            ErrorKind::AlreadyExists => Failure::of(path, "is already there, and is left as it is"),
+            _ => Failure::tried(path, "cannot be made", &error),
+        })?;
+    file.write_all(&format::encode(tables))
+        .and_then(|()| file.sync_all())
+        .and_then(|()| save::sync_directory(path))
+        .map_err(|error| {
+            let _ = fs::remove_file(path);
+            Failure::tried(path, "cannot be made", &error)
+        })
+}
+
+/// A store that no other run of this program changes until this is dropped.
+pub struct Held {
+    /// The file as the user named it.
+    named: PathBuf,
+    /// The file itself, symbolic links resolved, so that a link stays one.
+    path: PathBuf,
+    /// The lock is this handle's.
+    file: File,
+}
+
+impl Held {
+    /// Waits until no other run holds the store.
+    pub fn new(named: &Path) -> Result<Held, Failure> {
+        let path = fs::canonicalize(named)
+            .map_err(|error| Failure::tried(named, "cannot be opened", &error))?;
+        loop {
+            let file = open(&path, named)?;
+            file.lock()
+                .map_err(|error| Failure::tried(named, "cannot be locked", &error))?;
+            if is_still_at(&file, &path) {
+                let named = named.to_path_buf();
+                return Ok(Held { named, path, file });
+            }
+        }
+    }
+
+    pub fn load(&self) -> Result<Tables, Failure> {
+        load(&self.named, &self.file)
+    }
+
+    pub fn save(&self, tables: &Tables) -> Result<(), Failure> {
+        save::replace(&self.path, &self.file, &format::encode(tables))
+            .map_err(|(tried, error)| Failure::tried(&self.named, tried, &error))
+    }
+}
+
+/// Whether the file was not replaced while its lock was waited for.
+fn is_still_at(file: &File, path: &Path) -> bool {
+    let identity = |metadata: fs::Metadata| (metadata.dev(), metadata.ino());
+    match (file.metadata(), fs::metadata(path)) {
+        (Ok(held), Ok(there)) => identity(held) == identity(there),
+        _ => false,
+    }
+}
+
+fn open(path: &Path, named: &Path) -> Result<File, Failure> {
+    let cannot = |error| Failure::tried(named, "cannot be opened", &error);
+    // Looked at before it is opened: opening a pipe would wait for its other end.
+    if !fs::metadata(path).map_err(cannot)?.is_file() {
+        return Err(Failure::of(named, "is not a regular file"));
+    }
+    File::open(path).map_err(cannot)
+}
+
+fn load(path: &Path, file: &File) -> Result<Tables, Failure> {
+    let mut bytes = Vec::with_capacity(format::SIZE);
+    let length = file
+        .take(format::SIZE as u64)
+        .read_to_end(&mut bytes)
+        .and_then(|_| file.metadata())
+        .map(|metadata| metadata.len())
+        .map_err(|error| Failure::tried(path, "cannot be read", &error))?;
+    format::decode(&bytes, length).map_err(|why| Failure::of(path, why))
+}

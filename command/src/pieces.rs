@@ -1,0 +1,123 @@
+//! A script run in pieces, so that the output's size is never a reason to stop.
+
+use crate::boundary::{self, ALLOWANCE, BROKEN, END, ROOM};
+use crate::tables::Tables;
+
+/// Room for some sixty of the longest answers, a read of 512 bytes.
+const OUTPUT: usize = 65_536;
+
+#[derive(Debug, PartialEq, Eq)]
+pub enum Stop {
+    End,
+    Allowance,
+    Broken,
+}
+
+#[derive(Debug, PartialEq, Eq)]
+pub struct Run {
+    pub answers: Vec<u8>,
+    pub calls: u64,
+    /// The byte of the script where the next block begins.
+    pub next: usize,
+    pub stop: Stop,
+}
+
+/// Runs a script, at most `allowed` calls of it.
+pub fn run(tables: &mut Tables, script: &[u8], allowed: Option<u64>) -> Result<Run, String> {
+    run_within(tables, script, allowed, OUTPUT)
+}
+
+/// Runs a script in pieces of as many answers as fit into `room` bytes.
+fn run_within(
+    tables: &mut Tables,
+    script: &[u8],
+    allowed: Option<u64>,
+    room: usize,
+) -> Result<Run, String> {
+    let mut output = vec![0; room];
+    let mut run = Run {
+        answers: Vec::new(),
+        calls: 0,
+        next: 0,
+        stop: Stop::End,
+    };
+    loop {
+        let left = allowed.map_or(u64::MAX, |allowed| allowed - run.calls);
+        let allowance = u32::try_from(left).unwrap_or(u32::MAX);
+        let piece = boundary::replay(tables, &script[run.next..], allowance, &mut output);
+        run.answers.extend(&output[..piece.written]);
+        run.calls += u64::from(piece.calls);
+        run.next += piece.next;
+        run.stop = match piece.reason {
+            END => Stop::End,
+            ALLOWANCE if allowed == Some(run.calls) => Stop::Allowance,
+            BROKEN => Stop::Broken,
+            // There is more to do, and the output is empty again.
+            ALLOWANCE | ROOM if piece.calls > 0 => continue,
+            reason => {
+                return Err(format!(
+                    "the run stopped for reason {reason} after {} calls, at byte {}",
+                    run.calls, run.next
+                ))
+            }
+        };
+        return Ok(run);
+    }
+}
+
+#[cfg(test)]
+mod tests {
+    use super::*;
+    use crate::console::test_console;
+
+    const DAY: &[u8] = include_bytes!("../../examples/day.script");
+    /// Room for the longest answer of the example day, and not for two.
+    const NARROW: usize = 64;
+
+    fn run_on(tables: &mut Tables, script: &[u8], allowed: Option<u64>, room: usize) -> Run {
+        run_within(tables, script, allowed, room).unwrap()
+    }
+
+    #[test]
+    fn a_narrow_output_changes_nothing() {
+        let (mut wide, mut narrow) = (test_console(), test_console());
+        let whole = run_on(&mut wide, DAY, None, OUTPUT);
+        assert_eq!(whole.next, DAY.len());
+        assert_eq!(whole, run_on(&mut narrow, DAY, None, NARROW));
+        assert_eq!(wide, narrow);
+    }
+
+    #[test]
+    fn pieces_of_the_day_are_the_day() {
+        let mut whole_tables = test_console();
+        let whole = run_on(&mut whole_tables, DAY, None, OUTPUT);
+        for piece in 1..=whole.calls {
+            let (mut tables, mut answers, mut next) = (test_console(), Vec::new(), 0);
+            while next < DAY.len() {
+                let part = run_on(&mut tables, &DAY[next..], Some(piece), NARROW);
+                assert!(part.calls <= piece);
+                answers.extend(part.answers);
+                next += part.next;
+            }
+            assert_eq!(answers, whole.answers);
+            assert_eq!(tables, whole_tables);
+        }
+    }
+
+    #[test]
+    fn the_end_comes_before_the_allowance_and_that_before_a_broken_block() {
+        let stop = |script: &[u8], allowed| {
+            let run = run_on(&mut test_console(), script, allowed, OUTPUT);
+            (run.calls, run.next, run.stop)
+        };
+        assert_eq!(stop(b"", Some(0)), (0, 0, Stop::End));
+        assert_eq!(stop(b"x", Some(0)), (0, 0, Stop::Allowance));
+        assert_eq!(stop(b"x", Some(1)), (0, 0, Stop::Broken));
+        assert_eq!(stop(b"x", None), (0, 0, Stop::Broken));
+    }
+
+    #[test]
+    fn an_output_without_room_is_not_waited_for() {
+        assert!(run_within(&mut test_console(), DAY, None, 3).is_err());
+    }
+}

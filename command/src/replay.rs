@@ -1,0 +1,68 @@
+//! `replay`: runs a script in memory; then saves the store, then prints the answers.
+
+use crate::arguments::Script;
+use crate::broken;
+use crate::check;
+use crate::failure::{said, Failure};
+use crate::held::Held;
+use crate::output;
+use crate::pieces::{self, Run, Stop};
+use crate::text;
+use std::fs;
+use std::io::{self, Read};
+use std::path::Path;
+
+pub fn replay(store: &Path, script: &Script, calls: Option<u64>) -> Result<(), Failure> {
+    let bytes = read_script(script)?;
+    let held = Held::new(store)?;
+    let before = held.load()?;
+    check::require_sound(store, &before)?;
+
+    let mut after = before.clone();
+    let run = pieces::run(&mut after, &bytes, calls)
+        .map_err(|why| Failure::new("internal error", why))?;
+    if run.stop == Stop::Broken {
+        let why = broken::describe(&bytes, run.next, run.calls + 1);
+        return Err(Failure::new(name_of(script), why));
+    }
+    let is_changed = after != before;
+    if is_changed {
+        held.save(&after)?;
+    }
+    let printed = output::print(&run.answers);
+    output::tell(format_args!("mritvelja: {}", summary(&run, is_changed)));
+    printed
+}
+
+fn read_script(script: &Script) -> Result<Vec<u8>, Failure> {
+    let read = match script {
+        Script::File(path) => fs::read(path),
+        Script::StandardInput => {
+            let mut bytes = Vec::new();
+            io::stdin().read_to_end(&mut bytes).map(|_| bytes)
+        }
+    };
+    read.map_err(|error| Failure::new(name_of(script), format!("cannot be read: {}", said(&error))))
+}
+
+fn name_of(script: &Script) -> String {
+    match script {
+        Script::File(path) => path.display().to_string(),
+        Script::StandardInput => "standard input".into(),
+    }
+}
+
+fn summary(run: &Run, is_changed: bool) -> String {
+    let answered = text::count(run.calls, "call answered", "calls answered");
+    let store = match is_changed {
+        true => "the store is saved",
+        false => "the store did not change",
+    };
+    match run.stop {
+        Stop::Allowance => format!(
+            "{answered}, {store}; the allowance is spent, the next block begins at byte {}",
+            run.next
+        ),
+        _ => format!("{answered}, {store}; that is the whole script"),
+    }
+}

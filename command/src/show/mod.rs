@@ -1,0 +1,90 @@
+//! `show`: a sound store in lines that a person and a screen reader can read.
+
+mod policy;
+mod processes;
+mod tree;
+
+use crate::check;
+use crate::failure::Failure;
+use crate::held;
+use crate::output;
+use crate::tables::Tables;
+use std::path::Path;
+
+pub fn show(store: &Path) -> Result<(), Failure> {
+    let tables = held::read(store)?;
+    // Only of a sound store is it known that its directories are a tree.
+    check::require_sound(store, &tables)?;
+    output::print((describe(&tables).join("\n") + "\n").as_bytes())
+}
+
+/// The whole store, an empty line between its parts.
+fn describe(tables: &Tables) -> Vec<String> {
+    let paths = tree::paths(tables);
+    let mut lines = Vec::new();
+    for part in [
+        tree::describe(tables, &paths),
+        tree::describe_nameless(tables),
+        processes::describe_open_files(tables, &paths),
+        processes::describe(tables),
+        policy::describe_rights(tables),
+        policy::describe_transitions(tables),
+    ] {
+        if !lines.is_empty() {
+            lines.push(String::new());
+        }
+        lines.extend(part);
+    }
+    lines
+}
+
+/// A heading that says `none` where nothing follows.
+fn part(heading: &str, lines: Vec<String>) -> Vec<String> {
+    if lines.is_empty() {
+        return vec![format!("{heading}: none")];
+    }
+    let mut part = vec![format!("{heading}:")];
+    part.extend(lines);
+    part
+}
+
+#[cfg(test)]
+mod tests {
+    use super::*;
+    use crate::console::test_console;
+    use crate::layout::*;
+
+    #[test]
+    fn the_test_console_is_shown() {
+        let shown = describe(&test_console()).join("\n");
+        assert_eq!(shown, include_str!("console.expected").trim_end());
+    }
+
+    #[test]
+    fn what_is_open_and_what_has_no_name_is_shown() {
+        let mut tables = test_console();
+        tables
+            .file_mut(4)
+            .copy_from_slice(&[PLAIN, 20, 7, 1, 2, 0, 9]);
+        tables.block_mut(4)[..2].copy_from_slice(b"hi");
+        tables.open_file_mut(0).copy_from_slice(&[4, 3, 1, 2]);
+        tables.open_file_mut(1).copy_from_slice(&[2, 4, 0, 1]);
+        tables.process_mut(2)[FIRST_DESCRIPTOR] = 1;
+        tables.process_mut(2)[FIRST_DESCRIPTOR + 7] = 1;
+        tables.process_mut(1)[FIRST_DESCRIPTOR] = 2;
+        tables.policy[RIGHTS + 16 + 3] = 4;
+        tables.set_place(1, 0, b"a\\ \x80", 2);
+        assert!(crate::boundary::sound(&tables));
+        let lines = describe(&tables);
+        for line in [
+            "/fares/a\\x5c \\x80: plain file, slot 2, owner 10, bits 4 (read), label 0, length 5, names 1, stamp 0",
+            "Slot 4: plain file, owner 20, bits 7 (read write execute), label 1, length 2, names 0, stamp 9",
+            "Open file 0: slot 4, which has no name; mode 3 (read and write), position 1, references 2",
+            "Open file 1: slot 2, /fares/a\\x5c \\x80; mode 4 (append), position 0, references 1",
+            "Process 2: user 20, label 2; descriptor 0 holds open file 0; descriptor 7 holds open file 0",
+            "Process label 1 by program label 3: to label 4",
+        ] {
+            assert!(lines.iter().any(|shown| shown == line), "{line}\n{lines:#?}");
+        }
+    }
+}

@@ -1,0 +1,31 @@
+//! The policy: the rights that there are, and the transitions.
+
+use super::part;
+use crate::layout::*;
+use crate::tables::Tables;
+use crate::text;
+
+fn label_pairs() -> impl Iterator<Item = (usize, usize)> {
+    (0..LABELS).flat_map(|process| (0..LABELS).map(move |file| (process, file)))
+}
+
+pub fn describe_rights(tables: &Tables) -> Vec<String> {
+    let lines = label_pairs()
+        .map(|(process, file)| (process, file, tables.rights(process, file)))
+        .filter(|&(_, _, rights)| rights != 0)
+        .map(|(process, file, rights)| {
+            let words = text::rights(u32::from(rights));
+            format!("Process label {process} over file label {file}: {words}")
+        });
+    part("Rights of labels", lines.collect())
+}
+
+pub fn describe_transitions(tables: &Tables) -> Vec<String> {
+    let lines = label_pairs()
+        .map(|(process, program)| (process, program, tables.transition(process, program)))
+        .filter(|&(_, _, label)| label != NO_TRANSITION)
+        .map(|(process, program, label)| {
+            format!("Process label {process} by program label {program}: to label {label}")
+        });
+    part("Transitions of labels", lines.collect())
+}

@@ -1,0 +1,48 @@
+//! The open files, and the processes with their descriptors.
+
+use super::part;
+use crate::layout::*;
+use crate::tables::Tables;
+use crate::text;
+
+pub fn describe_open_files(tables: &Tables, paths: &[(String, usize)]) -> Vec<String> {
+    let lines = tables.open_entries().map(|entry| {
+        let record = tables.open_file(entry);
+        let slot = record[SLOT] as usize;
+        let path = paths.iter().find(|(_, named)| *named == slot);
+        format!(
+            "Open file {entry}: slot {slot}, {}; mode {} ({}), position {}, references {}",
+            path.map_or("which has no name", |(path, _)| path),
+            record[MODE],
+            text::mode(record[MODE]),
+            record[POSITION],
+            record[REFERENCES]
+        )
+    });
+    part("Open files", lines.collect())
+}
+
+pub fn describe(tables: &Tables) -> Vec<String> {
+    let lines = tables.processes_in_use().map(|process| {
+        let record = tables.process(process);
+        format!(
+            "Process {process}: user {}, label {}; {}",
+            record[USER],
+            record[PROCESS_LABEL],
+            describe_descriptors(tables, process)
+        )
+    });
+    part("Processes", lines.collect())
+}
+
+fn describe_descriptors(tables: &Tables, process: usize) -> String {
+    let words = tables.descriptors(process).iter().enumerate();
+    let held: Vec<String> = words
+        .filter(|(_, &word)| word != 0)
+        .map(|(descriptor, word)| format!("descriptor {descriptor} holds open file {}", word - 1))
+        .collect();
+    match held.is_empty() {
+        true => "no descriptor holds anything".into(),
+        false => held.join("; "),
+    }
+}

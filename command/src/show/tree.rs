@@ -1,0 +1,75 @@
+//! The files: those in the tree by their full paths, and those without a name.
+
+use super::part;
+use crate::layout::*;
+use crate::tables::Tables;
+use crate::text;
+
+/// Every path of the tree with its slot: a directory, then what it names in byte order.
+pub fn paths(tables: &Tables) -> Vec<(String, usize)> {
+    let mut paths = vec![("/".into(), ROOT)];
+    add_names(tables, ROOT, "", &mut paths);
+    paths
+}
+
+fn add_names(tables: &Tables, directory: usize, prefix: &str, paths: &mut Vec<(String, usize)>) {
+    let mut places: Vec<usize> = tables.named_places(directory).collect();
+    places.sort_by_key(|&place| tables.name(directory, place));
+    for place in places {
+        let slot = tables.named_slot(directory, place);
+        let path = format!("{prefix}/{}", text::readable(tables.name(directory, place)));
+        paths.push((path.clone(), slot));
+        if tables.is_kind(slot, DIRECTORY) {
+            add_names(tables, slot, &path, paths);
+        }
+    }
+}
+
+pub fn describe(tables: &Tables, paths: &[(String, usize)]) -> Vec<String> {
+    let used = (0..SLOTS)
+        .filter(|&slot| !tables.is_kind(slot, FREE))
+        .count();
+    let heading = format!("Files, {used} of {SLOTS} slots in use");
+    let lines = paths.iter().map(|(path, slot)| {
+        format!(
+            "{path}: {}, slot {slot}, {}",
+            kind(tables, *slot),
+            fields(tables, *slot)
+        )
+    });
+    part(&heading, lines.collect())
+}
+
+pub fn describe_nameless(tables: &Tables) -> Vec<String> {
+    let nameless =
+        (0..SLOTS).filter(|&slot| tables.is_kind(slot, PLAIN) && tables.file(slot)[NAMES] == 0);
+    let lines = nameless.map(|slot| {
+        format!(
+            "Slot {slot}: {}, {}",
+            kind(tables, slot),
+            fields(tables, slot)
+        )
+    });
+    part("Files open without a name", lines.collect())
+}
+
+fn kind(tables: &Tables, slot: usize) -> &'static str {
+    match tables.is_kind(slot, DIRECTORY) {
+        true => "directory",
+        false => "plain file",
+    }
+}
+
+fn fields(tables: &Tables, slot: usize) -> String {
+    let record = tables.file(slot);
+    format!(
+        "owner {}, bits {} ({}), label {}, length {}, names {}, stamp {}",
+        record[OWNER],
+        record[BITS],
+        text::rights(record[BITS]),
+        record[LABEL],
+        record[LENGTH],
+        record[NAMES],
+        record[STAMP]
+    )
+}

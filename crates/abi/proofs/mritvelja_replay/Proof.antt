@@ -1,0 +1,22 @@
+use mathlib.Core.Path.{ap}
+use borrow.Author.Needs.{needs}
+use Rattle.replay.specs.Runs.{Left}
+use Rattle.abi.specs.Crossing.{crossedBy}
+use Rattle.abi.proofs.mritvelja_replay.Statement.{statement}
+use Rattle.abi.proofs.mritvelja_replay.Tie as tie
+
+returns : tie.Need-returns
+returns c = rw (c .report-of .ensures) (ap (λ (l : Left). crossedBy l) (c .before .before .before .before .before .before .before .before .before .before .before .replay .ensures))
+
+pub mritvelja-replay-spec : {M : Type 1} → statement M
+mritvelja-replay-spec =
+    tie.close
+    (tie.spec
+    (λ c κs. tt)
+    (λ c κs. tt)
+    (λ c. search needs)
+    (λ c. search needs)
+    (λ c. search needs)
+    (λ c. search needs)
+    (λ c. search needs)
+    returns)

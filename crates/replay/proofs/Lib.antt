@@ -1,0 +1,4 @@
+-- Laws of a run.
+pub mod TurnLaws
+pub mod BlockTurns
+pub mod RunLaws

@@ -1,0 +1,3 @@
+// Scripts replayed on the lent tables.
+pub mod run;
+mod turn;

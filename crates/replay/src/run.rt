@@ -1,0 +1,57 @@
+// A run of a script, under an allowance of calls and in the room of an output.
+ghost use mathlib.Core.Path.{_≡_};
+ghost use lib.ListN.{length};
+ghost use Rattle.rules.specs.Store.{store};
+ghost use Rattle.script_rules.specs.Replay.{replay};
+ghost use Rattle.replay.specs.Runs.{left, leftBy};
+use crate::turn::Turn;
+use crate::turn::take_turn;
+use script_rules::replayed::Replayed;
+use tables::parts::after;
+
+// The calls of a script, from its start on. The result has how many were answered, where the next begins, how much of the output holds answers,
+// and why it stopped; past the answers the output stays.
+pub fn replay(
+    files: &mut [u32],
+    contents: &mut [u8],
+    opens: &mut [u32],
+    processes: &mut [u32],
+    policy: &[u8],
+    script: &[u8],
+    allowance: u32,
+    output: &mut [u8],
+) -> Replayed
+    ensures { λ r. ⌜ left r (now (output .exit)) (store (now (files .exit)) (now (contents .exit)) (now (opens .exit)) (now (processes .exit))) ≡ leftBy 0 0 (now (output .entry)) (replay allowance (now (policy .entry)) (now (script .entry)) (length (now (output .entry))) (store (now (files .entry)) (now (contents .entry)) (now (opens .entry)) (now (processes .entry)))) ⌝ }
+{
+    let mut at: usize = 0;
+    let mut written: usize = 0;
+    let mut allowed = allowance;
+    loop {
+        let t = take_turn(
+            files,
+            contents,
+            opens,
+            processes,
+            policy,
+            after(script, at),
+            allowed,
+            output,
+            written,
+        );
+        match t {
+            Turn::Stopped(why) => {
+                return Replayed {
+                    calls: allowance - allowed,
+                    next: at,
+                    written: written,
+                    reason: why,
+                };
+            }
+            Turn::Answered(size, length) => {
+                at += size;
+                written += length;
+                allowed -= 1;
+            }
+        }
+    }
+}

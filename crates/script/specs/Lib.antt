@@ -1,0 +1,3 @@
+pub mod Hex
+pub mod Read
+pub mod Writes

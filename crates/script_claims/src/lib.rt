@@ -1,0 +1,1 @@
+// The theorems are about the rules alone: see specs/Claims.antt.

@@ -1,0 +1,2 @@
+-- What the rules of scripts are held to.
+pub mod Guards

@@ -1,0 +1,2 @@
+-- The stages of a call are the rules' call.
+pub mod StageLaws

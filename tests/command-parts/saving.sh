@@ -1,0 +1,65 @@
+# shellcheck shell=bash disable=SC2154,SC2016 # tests/command sets the names; some lines are for another shell
+# Saving: whole or not at all; what the file was it stays; nothing is left beside it.
+
+printf 'proc=2\ncall=9\nfd=0\narg=0\npath=/fares/now\ndata=\n' >stat
+fresh bus
+before=$(stat -c '%i %y' bus)
+gives "a script that changes nothing" 0 'the store did not change' "$mritvelja" replay bus stat
+holds "a store that did not change is not written" test "$before" = "$(stat -c '%i %y' bus)"
+
+chmod 640 bus
+ln -sf bus link
+gives "a store behind a link" 0 'the store is saved' "$mritvelja" replay link day
+holds "a link stays a link" test -L link
+holds "the store behind it is saved" cmp bus whole
+holds "the permissions are kept" test "$(stat -c %a bus)" = 640
+holds "nothing is left beside the store" no_leftovers
+
+# The name that this very process will take first is taken.
+fresh bus
+gives "an old temporary file beside the store" 0 'the store is saved' \
+    bash -c 'echo old >.mritvelja-$$-0.tmp; exec "$0" replay bus day' "$mritvelja"
+holds "the store is saved all the same" cmp bus whole
+holds "the old temporary file is left as it is" grep -qx old .mritvelja-*-0.tmp
+rm -f .mritvelja-*
+
+# A disk that takes no more: the system refuses the write, or stops the process in the middle of it.
+fresh bus
+refuses "a file that cannot be written whole" 'bus: cannot be saved: File too large' \
+    bash -c 'trap "" XFSZ; ulimit -f 8; exec "$0" replay bus day' "$mritvelja"
+holds "the old store stays" cmp bus console
+holds "the temporary file is removed" no_leftovers
+(
+    ulimit -c 0 -f 8
+    "$mritvelja" replay bus day >out
+) 2>err || true
+holds "stopped in the middle, no answer is printed" test ! -s out
+holds "stopped in the middle, the old store stays" cmp bus console
+gives "stopped in the middle, the next run goes on" 0 'the store is saved' "$mritvelja" replay bus day
+holds "and saves the store" cmp bus whole
+rm -f .mritvelja-*
+refuses "a new store that cannot be written whole" 'fresh: cannot be made: File too large' \
+    bash -c 'trap "" XFSZ; ulimit -f 8; exec "$0" new fresh' "$mritvelja"
+holds "nothing is left of it" test ! -e fresh
+
+# Output that nobody takes: the store is saved first.
+fresh bus
+gives "a full disk under the answers" 1 'mritvelja: standard output: cannot be written' \
+    bash -c 'exec "$0" replay bus day >/dev/full' "$mritvelja"
+holds "the calls answered are told all the same" grep -q '40 calls answered, the store is saved' err
+holds "the store is saved before the answers are printed" cmp bus whole
+for command in 'replay bus stat' 'show bus' 'check bus' '--help' '--version'; do
+    gives "$command into a closed pipe" 1 'mritvelja: standard output: cannot be written: Broken pipe' \
+        bash -c 'exec 3> >(true); wait $!; exec "$0" $1 >&3' "$mritvelja" "$command"
+done
+gives "no standard error" 1 '' bash -c 'exec "$0" show missing 2>&-' "$mritvelja"
+
+# Runs at the same time: each waits for the one before.
+fresh bus
+for number in {1..8}; do
+    printf 'proc=1\ncall=2\nfd=0\narg=4\npath=/fares/%s\ndata=\n' "$number" >"create-$number"
+    "$mritvelja" replay bus "create-$number" >/dev/null 2>&1 &
+done
+wait
+"$mritvelja" show bus >out
+holds "no run is lost among runs at the same time" test "$(grep -c '^/fares/[1-8]: plain file' out)" -eq 8

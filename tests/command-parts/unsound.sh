@@ -1,0 +1,51 @@
+# shellcheck shell=bash disable=SC2154,SC2016 # tests/command sets the names; some lines are for another shell
+# A store that is not sound: one defect for each clause, as bytes of the file (docs/store-file.md has the places).
+
+files=12
+contents=1804
+opens=34572
+processes=35084
+policy=35436
+
+# unsound CLAUSE WHERE: check names both; replay and show refuse the store, which stays.
+unsound() {
+    local clause=$1 where=$2
+    cp damaged before
+    gives "check: $clause" 1 "not sound: \"$clause\" does not hold: $where" "$mritvelja" check damaged
+    holds "check: $clause: on standard output" test -s out
+    refuses "replay: $clause" "damaged: not sound: \"$clause\"" "$mritvelja" replay damaged day
+    refuses "show: $clause" "damaged: not sound: \"$clause\"" "$mritvelja" show damaged
+    holds "$clause: the store is left as it is" cmp damaged before
+    fresh damaged
+}
+
+fresh damaged
+put damaged $((files + 28 + 4)) '\000\000\001'
+unsound 'all fields in range' 'slot 1: owner is 65536, not 0 to 65535'
+put damaged $((policy + 256 + 16 + 2)) '\020'
+unsound 'all fields in range' 'policy, transition of process label 1 by program label 2: the cell is 16'
+put damaged $files '\001'
+unsound 'root a directory with no name' 'slot 0: kind is 1'
+put damaged $((contents + 32)) 'too\000\000\000\000\000\000\000\000\000\000\000\001'
+unsound 'every other directory named exactly once and at most 8 names deep' 'slot 1: a directory; the places that name it are 2'
+put damaged $((files + 8 * 28)) '\002\000\000\000\000\000\000\000\000\000\000\000\000\000\000\000\001\000\000\000\001'
+put damaged $((contents + 8 * 512)) 'self\000\000\000\000\000\000\000\000\000\000\010'
+unsound 'every directory reached from the root' 'slot 8: a directory from which no way'
+put damaged $((contents + 16)) 'fares'
+unsound 'names valid and different within a directory' 'directory in slot 0, place 1, name "fares": it stands at place 0 too'
+put damaged $((contents + 512 + 16)) 'x\000\000\000\000\000\000\000\000\000\000\000\000\000\004'
+unsound 'each place naming a slot in use other than 0' 'directory in slot 1, place 1: it names slot 4, which is free'
+put damaged $((files + 2 * 28 + 20)) '\002'
+unsound 'names equal to the places counted' 'slot 2: names is 2, but the places counted are 1'
+put damaged $((files + 3 * 28 + 16)) '\001\002'
+unsound "a plain file's length at most 512, a directory's equal to its number of names" 'slot 3: a plain file of length 513'
+put damaged $((files + 7 * 28)) '\001'
+unsound 'each plain file named or open' 'slot 7: a plain file'
+put damaged $opens '\001\000\000\000\001\000\000\000\000\000\000\000\001'
+put damaged $((processes + 2 * 44 + 12)) '\001'
+unsound 'open entries only on plain files' 'open entry 0: slot 1 is no plain file'
+put damaged $opens '\002\000\000\000\001\000\000\000\000\000\000\000\002'
+put damaged $((processes + 2 * 44 + 12)) '\001'
+unsound 'references equal to the descriptors counted, at least 1' 'open entry 0: references is 2, but the descriptors counted are 1'
+put damaged $((opens - 1)) '\001'
+unsound 'the zero bytes' 'slot 63: a free slot whose byte 511 is not 0'

@@ -1,0 +1,172 @@
+//! Runs stored calls on stored tables (docs/recorded.md), by the second program.
+
+use std::io::{Read, Write};
+
+use reference::{Answer, Request};
+use stored::records::{BUFFER, BUFFER_BYTE, ROOM, SIZES};
+use stored::tables::Tables;
+
+const READ: u8 = 11;
+
+struct Recorded {
+    tables: Tables,
+    sizes: [usize; 5],
+}
+
+fn short(bytes: &[u8], at: usize) -> usize {
+    let byte = |at: usize| usize::from(bytes.get(at).copied().unwrap_or(0));
+    byte(at) + 256 * byte(at + 1)
+}
+
+fn words(bytes: &[u8]) -> Vec<u32> {
+    bytes
+        .chunks(4)
+        .map(|chunk| {
+            chunk
+                .iter()
+                .rev()
+                .fold(0, |word, &byte| (word << 8) | u32::from(byte))
+        })
+        .collect()
+}
+
+fn put<T: Copy>(table: &mut [T], at: usize, values: &[T]) {
+    for (place, value) in table.iter_mut().skip(at).zip(values) {
+        *place = *value;
+    }
+}
+
+/// FNV-1a in 32 bits, a word or a byte a turn.
+fn digest(tables: &Tables, buffer: &[u8]) -> u32 {
+    let bytes = |bytes: &[u8]| {
+        bytes
+            .iter()
+            .map(|&byte| u32::from(byte))
+            .collect::<Vec<u32>>()
+    };
+    let all = [
+        tables.files.clone(),
+        bytes(&tables.contents),
+        tables.opens.clone(),
+        tables.processes.clone(),
+        bytes(buffer),
+    ];
+    all.concat()
+        .iter()
+        .fold(2_166_136_261, |digest: u32, word| {
+            (digest ^ word).wrapping_mul(16_777_619)
+        })
+}
+
+fn line(answer: &Answer, read: &[u8], digest: u32) -> String {
+    let mut line = format!("{} {} {} ", answer.refusal, answer.stop, answer.value);
+    for field in answer.fields.iter().flatten() {
+        line += &format!("{field} ");
+    }
+    let shown = &read[..read.len().min(8)];
+    for byte in answer.name.iter().chain(shown) {
+        line += &format!("{byte:02x}");
+    }
+    format!("{line}#{digest:08x}")
+}
+
+impl Recorded {
+    fn new() -> Recorded {
+        let [files, contents, opens, processes, policy] = ROOM;
+        Recorded {
+            tables: Tables::zero(files, contents, opens, processes, policy),
+            sizes: SIZES,
+        }
+    }
+
+    fn set(&mut self, kind: u8, bytes: &[u8]) -> Option<()> {
+        let at = short(bytes, 0);
+        let values = bytes.get(2..).unwrap_or(&[]);
+        match kind {
+            0 => self.sizes = [0, 2, 4, 6, 8].map(|at| short(bytes, at)),
+            1 => put(&mut self.tables.files, at, &words(values)),
+            2 => put(&mut self.tables.contents, at, values),
+            3 => put(&mut self.tables.opens, at, &words(values)),
+            4 => put(&mut self.tables.processes, at, &words(values)),
+            5 => put(&mut self.tables.policy, at, values),
+            7 => *self = Recorded::new(),
+            _ => return None,
+        }
+        Some(())
+    }
+
+    fn call(&mut self, bytes: &[u8]) -> Option<String> {
+        let [_, _, process, call, descriptor, low, high, length, rest @ ..] = bytes else {
+            return None;
+        };
+        let (path, data) = rest.split_at_checked(usize::from(*length))?;
+        let number = u16::from_le_bytes([*low, *high]);
+        let request = Request {
+            process: *process,
+            call: *call,
+            descriptor: *descriptor,
+            number,
+        };
+        let mut buffer = vec![BUFFER_BYTE; short(bytes, 0).min(BUFFER)];
+        let answer = self.answer(request, path, data, &mut buffer);
+        let read = if *call == READ {
+            &buffer[..answer.value as usize]
+        } else {
+            &[]
+        };
+        Some(line(&answer, read, digest(&self.tables, &buffer)))
+    }
+
+    fn answer(&mut self, request: Request, path: &[u8], data: &[u8], buffer: &mut [u8]) -> Answer {
+        let [files, contents, opens, processes, policy] = self.sizes;
+        let tables = &mut self.tables;
+        reference::call(
+            lent(&mut tables.files, files),
+            lent(&mut tables.contents, contents),
+            lent(&mut tables.opens, opens),
+            lent(&mut tables.processes, processes),
+            lent(&mut tables.policy, policy),
+            request,
+            path,
+            data,
+            buffer,
+        )
+    }
+
+    /// The line that a record writes, if it writes one.
+    fn record(&mut self, kind: u8, bytes: &[u8]) -> Option<Option<String>> {
+        match kind {
+            6 => self.call(bytes).map(Some),
+            _ => self.set(kind, bytes).map(|()| None),
+        }
+    }
+}
+
+fn lent<T>(table: &mut [T], size: usize) -> &mut [T] {
+    let size = size.min(table.len());
+    &mut table[..size]
+}
+
+fn main() -> std::io::Result<()> {
+    let mut input = Vec::new();
+    std::io::stdin().read_to_end(&mut input)?;
+    let mut out = std::io::BufWriter::new(std::io::stdout().lock());
+    let mut recorded = Recorded::new();
+    let mut rest = &input[..];
+    let mut count = 0;
+    while !rest.is_empty() {
+        count += 1;
+        let size = short(rest, 1);
+        let bytes = rest.get(3..3 + size);
+        match bytes.and_then(|bytes| recorded.record(rest[0], bytes)) {
+            Some(Some(line)) => writeln!(out, "{line}")?,
+            Some(None) => {}
+            None => {
+                writeln!(out, "broken: record {count}")?;
+                break;
+            }
+        }
+        rest = &rest[3 + size..];
+    }
+    Ok(())
+}
