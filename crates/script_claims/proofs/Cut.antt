@@ -53,6 +53,13 @@ module _ (Q : List ℕ) where
     pub cut : Always Q Cut
     cut = every-run Q Cut cut-stops cut-takes
 
+  -- what is left of S after its first block and on to `next`
+  past-block : (S : List ℕ) (at next : ℕ) → at + (length S - length (afterBlock S)) ≤ next → drop (next - (at + (length S - length (afterBlock S)))) (afterBlock S) ≡ drop (next - at) S
+  past-block S at next h =
+      let d = length S - length (afterBlock S) in
+      let past : d + (next - (at + d)) ≡ next - at = omega arith in
+      ap (drop (next - (at + d))) (rest-drop S (afterBlock S) (block-rest S)) ∙ drop-drop _ d S ∙ ap (λ k. drop k S) past
+
   -- ---- the allowance spent, and given again
 
   abbrev Again : OfRuns Q
@@ -69,13 +76,38 @@ module _ (Q : List ℕ) where
   again-takes n S at room s b f ih =
       let r = rest Q n S at room s in
       let d = length S - length (afterBlock S) in
-      let past : d + (r .next - (at + d)) ≡ r .next - at = omega (arith, ih .0) in
-      let script : drop (r .next - (at + d)) (afterBlock S) ≡ drop (r .next - at) S = ap (drop (r .next - (at + d))) (rest-drop S (afterBlock S) (block-rest S)) ∙ drop-drop _ d S ∙ ap (λ k. drop k S) past in
+      let script : drop (r .next - (at + d)) (afterBlock S) ≡ drop (r .next - at) S = past-block S at (r .next) (ih .0) in
       let left : room - length (nextText Q S s) - length (r .text) ≡ room - length (nextText Q S s ++ r .text) = simp length-append (omega arith) in
       (omega (arith, ih .0), λ q m. rw suc-add (run-takes Q (n + m) S at room s b f ∙ rw (ih .1 q m, script, left, append-assoc)))
 
   pub again : Always Q Again
   again = every-run Q Again again-stops again-takes
+
+  -- ---- the room spent, and given again
+
+  abbrev Roomier : OfRuns Q
+  Roomier n S at room s r =
+      (at ≤ r .next) × ((more : ℕ) → run n Q S at (room + more) s ≡ followed r (run (n - length (r .calls)) Q (drop (r .next - at) S) (r .next) (room + more - length (r .text)) (r .store)))
+
+  roomier-stops : WhereStopped Q Roomier
+  roomier-stops n S at room s why w = (le-refl at, λ more. rw (sub-zero, sub-self, sub-zero))
+
+  roomier-takes : WhereTaken Q Roomier
+  roomier-takes n S at room s b f ih =
+      let r = rest Q n S at room s in
+      let d = length S - length (afterBlock S) in
+      let script : drop (r .next - (at + d)) (afterBlock S) ≡ drop (r .next - at) S = past-block S at (r .next) (ih .0) in
+      let fewer : suc n - suc (length (r .calls)) ≡ n - length (r .calls) = omega arith in (
+        omega (arith, ih .0),
+        λ more.
+            let wider : length (nextText Q S s) ≤ room + more = omega arith in
+            let before : room + more - length (nextText Q S s) ≡ room - length (nextText Q S s) + more = omega arith in
+            let left : room - length (nextText Q S s) + more - length (r .text) ≡ room + more - length (nextText Q S s ++ r .text) = simp length-append (omega arith) in
+            run-takes Q n S at (room + more) s b wider ∙ rw (before, ih .1 more, script, left, fewer, append-assoc),
+      )
+
+  pub roomier : Always Q Roomier
+  roomier = every-run Q Roomier roomier-stops roomier-takes
 
   -- ---- room and allowance
 

@@ -6,7 +6,7 @@ use Rattle.script_claims.proofs.Exact.{printed-only}
 use Rattle.script_claims.proofs.Caps.{caps-unseen}
 use Rattle.script_claims.proofs.Given.{whole-run}
 use Rattle.script_claims.proofs.Own.{own}
-use Rattle.script_claims.proofs.Cut.{cut, again, cut-anywhere}
+use Rattle.script_claims.proofs.Cut.{cut, again, roomier, cut-anywhere}
 
 pub claims : Claims
 claims = record {
@@ -14,6 +14,7 @@ claims = record {
   ended-next = λ n Q A at room s e. cut Q [] n A at room s e 0 .0;
   cut-anywhere = λ k n p q Q. cut-anywhere Q k n p q;
   allowed-again = λ n m Q S at room s e. again Q n S at room s .1 e m;
+  room-again = λ n Q S at room more s. roomier Q n S at room s .1 more;
   run-calls = λ n Q S at room s. own Q n S at room s .calls;
   run-next = λ n Q S at room s. own Q n S at room s .next;
   run-text = λ n Q S at room s. own Q n S at room s .text;

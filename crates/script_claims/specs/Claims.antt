@@ -86,6 +86,9 @@ pub record Claims : Type 0 where
   -- The allowance spent and given again: n and m calls allowed at once are n and then m.
   pub allowed-again : (n m : ℕ) (Q S : List ℕ) (at room : ℕ) (s : Store) → run n Q S at room s .reason ≡ reason.Allowance →
       run (n + m) Q S at room s ≡ followed (run n Q S at room s) (resumed n m Q S (drop (run n Q S at room s .next - at) S) at room s)
+  -- The room spent and given again, as a host does that empties the output between runs: with more room the run is the same so far, and goes on from there.
+  pub room-again : (n : ℕ) (Q S : List ℕ) (at room more : ℕ) (s : Store) → let r = run n Q S at room s in
+      run n Q S at (room + more) s ≡ followed r (run (n - length (r .calls)) Q (drop (r .next - at) S) (r .next) (room + more - length (r .text)) (r .store))
   -- 2. "Its count is that of the calls in the rules' own run": the calls taken are those of the first blocks; their answers are what is written, and the
   -- store is what the rules' own run of them leaves. No more calls than allowed, no more bytes than there is room for.
   pub run-calls : (n : ℕ) (Q S : List ℕ) (at room : ℕ) (s : Store) → let r = run n Q S at room s in r .calls ≡ asked (blocks (length (r .calls)) S)
