@@ -22,7 +22,7 @@ extern "C" {
 
 /* Sizes. Field k of record i of a table is its element width * i + k. */
 enum {
-  MRITVELJA_SLOTS = 64,           /* files; slot 0 is the root directory */
+  MRITVELJA_SLOTS = 128,          /* files; slot 0 is the root directory */
   MRITVELJA_FILE_WIDTH = 7,       /* words of a file's record */
   MRITVELJA_BLOCK = 512,          /* bytes of contents for each slot */
   MRITVELJA_DIRENTS = 16,         /* directory entries in a directory's block */

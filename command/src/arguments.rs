@@ -3,7 +3,7 @@
 use std::ffi::{OsStr, OsString};
 use std::path::PathBuf;
 
-pub const USAGE: &str = "usage: mritvelja new STORE | replay STORE SCRIPT [--calls N] | show STORE | check STORE | --help | --version";
+pub const USAGE: &str = "usage: mritvelja new STORE | replay STORE SCRIPT [--calls N] | show STORE | check STORE | convert OLD NEW | --help | --version";
 
 pub const HELP: &str = "\
 usage: mritvelja COMMAND
@@ -15,6 +15,8 @@ usage: mritvelja COMMAND
                   many calls to make at most
   show STORE      prints the files, open files, processes and policy
   check STORE     says whether the store is sound, or what is wrong and where
+  convert OLD NEW writes the store of the file OLD, of 64 slots, to the new
+                  file NEW, of 128; OLD is left as it is
 
   --help          prints this
   --version       prints the version
@@ -33,6 +35,10 @@ pub enum Command {
     },
     Show(PathBuf),
     Check(PathBuf),
+    Convert {
+        old: PathBuf,
+        new: PathBuf,
+    },
     Help,
     Version,
 }
@@ -56,6 +62,7 @@ pub fn parse(arguments: &[OsString]) -> Result<Command, String> {
         "show" => one_store(rest).map(Command::Show),
         "check" => one_store(rest).map(Command::Check),
         "replay" => parse_replay(rest),
+        "convert" => parse_convert(rest),
         "--version" => Err(unexpected(&rest[0])),
         _ if name.starts_with('-') => Err(unknown_option(first)),
         _ => Err(format!("unknown command: {name}")),
@@ -94,6 +101,21 @@ fn parse_replay(rest: &[OsString]) -> Result<Command, String> {
             store: path("STORE", store)?,
             script: parse_script(script)?,
             calls,
+        }),
+        [_, _, more, ..] => Err(unexpected(more)),
+    }
+}
+
+fn parse_convert(rest: &[OsString]) -> Result<Command, String> {
+    if let Some(word) = rest.iter().find(|word| is_option(word)) {
+        return Err(unknown_option(word));
+    }
+    match rest {
+        [] => Err("no OLD is given".into()),
+        [_] => Err("no NEW is given".into()),
+        [old, new] => Ok(Command::Convert {
+            old: path("OLD", old)?,
+            new: path("NEW", new)?,
         }),
         [_, _, more, ..] => Err(unexpected(more)),
     }
@@ -158,6 +180,13 @@ mod tests {
         assert_eq!(parsed("new bus"), Ok(Command::New("bus".into())));
         assert_eq!(parsed("show bus"), Ok(Command::Show("bus".into())));
         assert_eq!(parsed("check bus"), Ok(Command::Check("bus".into())));
+        assert_eq!(
+            parsed("convert bus bus.new"),
+            Ok(Command::Convert {
+                old: "bus".into(),
+                new: "bus.new".into()
+            })
+        );
         assert_eq!(parsed("--help"), Ok(Command::Help));
         assert_eq!(parsed("replay --help"), Ok(Command::Help));
         assert_eq!(parsed("--version"), Ok(Command::Version));
@@ -186,6 +215,10 @@ mod tests {
             "new bus bus",
             "show",
             "check a b",
+            "convert",
+            "convert bus",
+            "convert bus -x",
+            "convert a b c",
             "replay",
             "replay bus",
             "replay bus a b",

@@ -9,13 +9,32 @@ const VERSION: u8 = 1;
 const WORD: usize = 4;
 const HEADER: usize = MAGIC.len() + 1 + WORD;
 
-const FILES: usize = WORD * SLOTS * FILE;
-const CONTENTS: usize = SLOTS * BLOCK;
 const OPEN_FILES: usize = WORD * OPENS * OPEN;
 const PROCESS_TABLE: usize = WORD * PROCESSES * PROCESS;
 
 /// How many bytes a store file has.
-pub const SIZE: usize = HEADER + FILES + CONTENTS + OPEN_FILES + PROCESS_TABLE + POLICY;
+pub const SIZE: usize = size(SLOTS);
+
+const fn files(slots: usize) -> usize {
+    WORD * slots * FILE
+}
+
+const fn contents(slots: usize) -> usize {
+    slots * BLOCK
+}
+
+const fn size(slots: usize) -> usize {
+    HEADER + files(slots) + contents(slots) + OPEN_FILES + PROCESS_TABLE + POLICY
+}
+
+/// Why a file's bytes are no store that this version takes.
+#[derive(Debug, PartialEq, Eq)]
+pub enum Refused {
+    /// A store of 64 slots, as a file of an earlier version has them: it can be converted.
+    Former,
+    /// What was expected and what was found.
+    Other(String),
+}
 
 pub fn encode(tables: &Tables) -> Vec<u8> {
     let mut bytes = Vec::with_capacity(SIZE);
@@ -31,31 +50,57 @@ pub fn encode(tables: &Tables) -> Vec<u8> {
 }
 
 /// The store in a file of `length` bytes, given the first of them, at least
-/// [`SIZE`] where there are as many; or what was expected and what was found.
-pub fn decode(bytes: &[u8], length: u64) -> Result<Tables, String> {
-    check_header(bytes, length)?;
-    if length != SIZE as u64 || bytes.len() < SIZE {
-        return Err(wrong_size(length));
+/// [`SIZE`] where there are as many.
+pub fn decode(bytes: &[u8], length: u64) -> Result<Tables, Refused> {
+    match read_header(bytes, length, SLOTS).map_err(Refused::Other)? {
+        SLOTS => take_tables(bytes, length, SLOTS).map_err(Refused::Other),
+        FORMER_SLOTS => Err(Refused::Former),
+        slots => Err(Refused::Other(wrong_slots(SLOTS, slots))),
     }
-    let mut rest = &bytes[HEADER..SIZE];
+}
+
+/// The store in a file of 64 slots, its further slots free: records and contents of 0 alone.
+pub fn decode_former(bytes: &[u8], length: u64) -> Result<Tables, String> {
+    match read_header(bytes, length, FORMER_SLOTS)? {
+        FORMER_SLOTS => {
+            let mut tables = take_tables(bytes, length, FORMER_SLOTS)?;
+            tables.files.resize(SLOTS * FILE, 0);
+            tables.contents.resize(SLOTS * BLOCK, 0);
+            Ok(tables)
+        }
+        SLOTS => Err(format!(
+            "has {SLOTS} slots already, and needs no conversion"
+        )),
+        slots => Err(wrong_slots(FORMER_SLOTS, slots)),
+    }
+}
+
+/// The tables of a file with so many slots.
+fn take_tables(bytes: &[u8], length: u64, slots: usize) -> Result<Tables, String> {
+    let size = size(slots);
+    if length != size as u64 || bytes.len() < size {
+        return Err(wrong_size(size, length));
+    }
+    let mut rest = &bytes[HEADER..size];
     let mut take = |size: usize| {
         let (table, after) = rest.split_at(size);
         rest = after;
         table
     };
     Ok(Tables {
-        files: to_words(take(FILES)),
-        contents: take(CONTENTS).to_vec(),
+        files: to_words(take(files(slots))),
+        contents: take(contents(slots)).to_vec(),
         open_files: to_words(take(OPEN_FILES)),
         processes: to_words(take(PROCESS_TABLE)),
         policy: take(POLICY).to_vec(),
     })
 }
 
-fn check_header(bytes: &[u8], length: u64) -> Result<(), String> {
+/// The number of slots of a store file, in which so many are expected.
+fn read_header(bytes: &[u8], length: u64, expected: usize) -> Result<usize, String> {
     let (header, _) = bytes
         .split_first_chunk::<HEADER>()
-        .ok_or_else(|| wrong_size(length))?;
+        .ok_or_else(|| wrong_size(size(expected), length))?;
     let (magic, rest) = header.split_at(MAGIC.len());
     let (version, slots) = (rest[0], to_words(&rest[1..])[0]);
     if magic != MAGIC {
@@ -71,16 +116,15 @@ fn check_header(bytes: &[u8], length: u64) -> Result<(), String> {
             "a store file of another version: expected {VERSION}, found {version}"
         ));
     }
-    if slots != SLOTS as u32 {
-        return Err(format!(
-            "a store file of another number of slots: expected {SLOTS}, found {slots}"
-        ));
-    }
-    Ok(())
+    Ok(slots as usize)
 }
 
-fn wrong_size(length: u64) -> String {
-    format!("a store file of the wrong size: expected {SIZE} bytes, found {length}")
+fn wrong_slots(expected: usize, found: usize) -> String {
+    format!("a store file of another number of slots: expected {expected}, found {found}")
+}
+
+fn wrong_size(expected: usize, found: u64) -> String {
+    format!("a store file of the wrong size: expected {expected} bytes, found {found}")
 }
 
 fn from_words(words: &[u32]) -> impl Iterator<Item = u8> + '_ {
@@ -97,16 +141,39 @@ mod tests {
     use super::*;
     use crate::console::test_console;
 
-    fn decode_whole(bytes: &[u8]) -> Result<Tables, String> {
+    const FORMER_SIZE: usize = size(FORMER_SLOTS);
+
+    fn decode_whole(bytes: &[u8]) -> Result<Tables, Refused> {
         decode(bytes, bytes.len() as u64)
+    }
+
+    fn decode_whole_former(bytes: &[u8]) -> Result<Tables, String> {
+        decode_former(bytes, bytes.len() as u64)
+    }
+
+    /// The file of a store of which only the first 64 slots are written.
+    fn encode_former(tables: &Tables) -> Vec<u8> {
+        let mut bytes = encode(tables);
+        bytes.drain(
+            HEADER + files(SLOTS) + contents(FORMER_SLOTS)..HEADER + files(SLOTS) + contents(SLOTS),
+        );
+        bytes.drain(HEADER + files(FORMER_SLOTS)..HEADER + files(SLOTS));
+        bytes[8] = FORMER_SLOTS as u8;
+        bytes
+    }
+
+    fn changed(bytes: &[u8], at: usize, byte: u8) -> Vec<u8> {
+        let mut changed = bytes.to_vec();
+        changed[at] = byte;
+        changed
     }
 
     #[test]
     fn a_store_is_read_as_it_was_written() {
         let tables = test_console();
         let bytes = encode(&tables);
-        assert_eq!(bytes.len(), 35_948);
-        assert_eq!(&bytes[..12], b"MRITVEL\x01\x40\0\0\0");
+        assert_eq!(bytes.len(), 70_508);
+        assert_eq!(&bytes[..12], b"MRITVEL\x01\x80\0\0\0");
         assert_eq!(decode_whole(&bytes), Ok(tables));
     }
 
@@ -114,8 +181,7 @@ mod tests {
     fn every_byte_past_the_header_is_read() {
         let bytes = encode(&test_console());
         for at in HEADER..SIZE {
-            let mut changed = bytes.clone();
-            changed[at] ^= 0x80;
+            let changed = changed(&bytes, at, bytes[at] ^ 0x80);
             assert_eq!(encode(&decode_whole(&changed).unwrap()), changed);
         }
     }
@@ -123,21 +189,55 @@ mod tests {
     #[test]
     fn a_wrong_file_is_refused_with_what_was_expected() {
         let bytes = encode(&test_console());
-        let changed = |at: usize, byte: u8| {
-            let mut changed = bytes.clone();
-            changed[at] = byte;
-            decode_whole(&changed).unwrap_err()
+        let why = |bytes: &[u8]| match decode_whole(bytes).unwrap_err() {
+            Refused::Other(why) => why,
+            Refused::Former => panic!("64 slots"),
         };
-        assert!(
-            changed(0, b'm').contains("expected the first 7 bytes to be MRITVEL, found mRITVEL")
-        );
-        assert!(changed(7, 2).contains("version: expected 1, found 2"));
-        assert!(changed(8, 128).contains("slots: expected 64, found 128"));
-        for length in [0, 11, 12, SIZE - 1, SIZE + 1] {
+        let magic = why(&changed(&bytes, 0, b'm'));
+        assert!(magic.contains("expected the first 7 bytes to be MRITVEL, found mRITVEL"));
+        assert!(why(&changed(&bytes, 7, 2)).contains("version: expected 1, found 2"));
+        assert!(why(&changed(&bytes, 8, 127)).contains("slots: expected 128, found 127"));
+        assert!(why(&changed(&bytes, 9, 1)).contains("slots: expected 128, found 384"));
+        for length in [0, 11, 12, FORMER_SIZE, SIZE - 1, SIZE + 1] {
             let mut other = bytes.clone();
             other.resize(length, 0);
-            let why = decode_whole(&other).unwrap_err();
-            assert!(why.ends_with(&format!("expected 35948 bytes, found {length}")));
+            assert!(why(&other).ends_with(&format!("expected 70508 bytes, found {length}")));
+        }
+    }
+
+    #[test]
+    fn a_store_of_64_slots_is_known_and_converted() {
+        let tables = test_console();
+        let former = encode_former(&tables);
+        assert_eq!(former.len(), 35_948);
+        assert_eq!(decode_whole(&former), Err(Refused::Former));
+        assert_eq!(decode_whole_former(&former), Ok(tables));
+        for at in HEADER..FORMER_SIZE {
+            let changed = changed(&former, at, former[at] ^ 0x80);
+            let tables = decode_whole_former(&changed).unwrap();
+            assert_eq!(encode_former(&tables), changed);
+            assert!(tables.files[FORMER_SLOTS * FILE..]
+                .iter()
+                .all(|&word| word == 0));
+            assert!(tables.contents[FORMER_SLOTS * BLOCK..]
+                .iter()
+                .all(|&byte| byte == 0));
+        }
+    }
+
+    #[test]
+    fn no_other_file_is_converted() {
+        let bytes = encode(&test_console());
+        let former = encode_former(&test_console());
+        let why = |bytes: &[u8]| decode_whole_former(bytes).unwrap_err();
+        assert!(why(&bytes).contains("has 128 slots already"));
+        assert!(why(&changed(&former, 0, b'm')).contains("not a store file"));
+        assert!(why(&changed(&former, 7, 2)).contains("version: expected 1, found 2"));
+        assert!(why(&changed(&former, 8, 63)).contains("slots: expected 64, found 63"));
+        for length in [0, 11, 12, FORMER_SIZE - 1, FORMER_SIZE + 1, SIZE] {
+            let mut other = former.clone();
+            other.resize(length, 0);
+            assert!(why(&other).ends_with(&format!("expected 35948 bytes, found {length}")));
         }
     }
 }

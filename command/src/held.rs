@@ -1,7 +1,8 @@
 //! A store file as it lies on the disk: read, made, and held while it is changed.
 
 use crate::failure::Failure;
-use crate::format;
+use crate::format::{self, Refused};
+use crate::layout::{FORMER_SLOTS, SLOTS};
 use crate::save;
 use crate::tables::Tables;
 use std::fs::{self, File, OpenOptions};
@@ -15,6 +16,12 @@ const NEW_FILE_MODE: u32 = 0o600;
 /// Reads a store. A saved store is replaced whole, so that none is ever half read.
 pub fn read(path: &Path) -> Result<Tables, Failure> {
     load(path, &open(path, path)?)
+}
+
+/// Reads a store from a file of 64 slots.
+pub fn read_former(path: &Path) -> Result<Tables, Failure> {
+    let (bytes, length) = take_bytes(path, &open(path, path)?)?;
+    format::decode_former(&bytes, length).map_err(|why| Failure::of(path, why))
 }
 
 /// Writes a store to a new file, and leaves none behind if that fails.
@@ -92,12 +99,26 @@ fn open(path: &Path, named: &Path) -> Result<File, Failure> {
 }
 
 fn load(path: &Path, file: &File) -> Result<Tables, Failure> {
+    let (bytes, length) = take_bytes(path, file)?;
+    format::decode(&bytes, length).map_err(|refused| match refused {
+        Refused::Former => Failure::of(path, has_former_slots(path)),
+        Refused::Other(why) => Failure::of(path, why),
+    })
+}
+
+fn has_former_slots(path: &Path) -> String {
+    format!(
+        "has {FORMER_SLOTS} slots, and this version takes {SLOTS}: convert it with `mritvelja convert {} NEW`",
+        path.display()
+    )
+}
+
+/// The first bytes of a file, as many as a store has, and its length.
+fn take_bytes(path: &Path, file: &File) -> Result<(Vec<u8>, u64), Failure> {
     let mut bytes = Vec::with_capacity(format::SIZE);
-    let length = file
-        .take(format::SIZE as u64)
+    file.take(format::SIZE as u64)
         .read_to_end(&mut bytes)
         .and_then(|_| file.metadata())
-        .map(|metadata| metadata.len())
-        .map_err(|error| Failure::tried(path, "cannot be read", &error))?;
-    format::decode(&bytes, length).map_err(|why| Failure::of(path, why))
+        .map(|metadata| (bytes, metadata.len()))
+        .map_err(|error| Failure::tried(path, "cannot be read", &error))
 }

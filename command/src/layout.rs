@@ -1,6 +1,8 @@
 //! Sizes and columns of the store's tables.
 
-pub const SLOTS: usize = 64;
+pub const SLOTS: usize = 128;
+/// The slots of a store that `convert` takes.
+pub const FORMER_SLOTS: usize = 64;
 pub const FILE: usize = 7;
 pub const BLOCK: usize = 512;
 pub const PLACES: usize = 16;

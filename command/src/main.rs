@@ -1,4 +1,4 @@
-//! The command `mritvelja`: makes, runs, shows and checks store files
+//! The command `mritvelja`: makes, runs, shows, checks and converts store files
 //! (`docs/command.md`), over the proved store.
 
 mod arguments;
@@ -6,6 +6,7 @@ mod boundary;
 mod broken;
 mod check;
 mod console;
+mod convert;
 mod diagnosis;
 mod failure;
 mod format;
@@ -56,6 +57,7 @@ fn carry_out(command: &Command) -> Result<ExitCode, Failure> {
                 return Ok(ExitCode::from(FAILED));
             }
         }
+        Command::Convert { old, new } => convert::convert(old, new)?,
         Command::Help => output::print(HELP.as_bytes())?,
         Command::Version => {
             output::print(concat!("mritvelja ", env!("CARGO_PKG_VERSION"), "\n").as_bytes())?

@@ -3,7 +3,7 @@
 //! Those read from the tables are taken as they stand; the soundness test is
 //! what makes sure that they are in range.
 
-pub const SLOTS: usize = 64;
+pub const SLOTS: usize = 128;
 pub const ENTRIES: usize = 32;
 pub const PROCESSES: usize = 8;
 pub const DESCRIPTORS: usize = 8;

@@ -2,10 +2,10 @@
 # A store that is not sound: one defect for each clause, as bytes of the file (docs/store-file.md has the places).
 
 files=12
-contents=1804
-opens=34572
-processes=35084
-policy=35436
+contents=3596
+opens=69132
+processes=69644
+policy=69996
 
 # unsound CLAUSE WHERE: check names both; replay and show refuse the store, which stays.
 unsound() {
@@ -48,4 +48,4 @@ put damaged $opens '\002\000\000\000\001\000\000\000\000\000\000\000\002'
 put damaged $((processes + 2 * 44 + 12)) '\001'
 unsound 'references equal to the descriptors counted, at least 1' 'open entry 0: references is 2, but the descriptors counted are 1'
 put damaged $((opens - 1)) '\001'
-unsound 'the zero bytes' 'slot 63: a free slot whose byte 511 is not 0'
+unsound 'the zero bytes' 'slot 127: a free slot whose byte 511 is not 0'

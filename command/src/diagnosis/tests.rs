@@ -62,8 +62,8 @@ fn fields_of_files_out_of_range() {
         }),
         (1, "slot 2: bits is 8", |t| t.file_mut(2)[BITS] = 8),
         (1, "slot 3: label is 16", |t| t.file_mut(3)[LABEL] = 16),
-        (1, "open entry 0: slot is 64", |t| {
-            t.open_file_mut(0)[SLOT] = 64
+        (1, "open entry 0: slot is 128", |t| {
+            t.open_file_mut(0)[SLOT] = SLOTS as u32
         }),
         (1, "open entry 0: mode is 5, not 1 to 4", |t| {
             t.open_file_mut(0)[MODE] = 5
@@ -146,8 +146,8 @@ fn the_places() {
         (6, "slot 1, place 1: it names slot 0", |t| {
             t.set_place(1, 1, b"x", 0)
         }),
-        (6, "slot 1, place 1: it names slot 64", |t| {
-            t.set_place(1, 1, b"x", 64)
+        (6, "slot 1, place 1: it names slot 128", |t| {
+            t.set_place(1, 1, b"x", SLOTS as u8)
         }),
         (6, "slot 1, place 1: it names slot 4, which is free", |t| {
             t.set_place(1, 1, b"x", 4)
@@ -237,7 +237,7 @@ impl Chance {
 
     fn word(&mut self) -> u32 {
         [
-            0, 1, 2, 3, 4, 5, 7, 8, 15, 16, 31, 32, 33, 63, 64, 255, 512, 513, 65_535, 65_536,
+            0, 1, 2, 3, 4, 5, 7, 8, 15, 16, 31, 32, 33, 127, 128, 255, 512, 513, 65_535, 65_536,
         ][self.below(20)]
     }
 }

@@ -15,11 +15,11 @@ unfoldable computed : Bool
 unfolding computing console consolePolicy withAll same sameReply sameStore rowHolds cut quickShown entries named tally quickLinks quickSlot quickTables quickSound needed onward check
 computed = true
 
-policy-sound : policySound consolePolicy ≡ true
+pub policy-sound : policySound consolePolicy ≡ true
 unfolding computed
 policy-sound = refl
 
-console-sound : quickSound console ≡ true
+pub console-sound : quickSound console ≡ true
 unfolding computed
 console-sound = refl
 

@@ -63,7 +63,7 @@ left-alone : (s : Store) (x : Outcome) (r : Row) → r .leaves ≡ [] → rowHol
 unfolding rowHolds withAll
 left-alone s x r e h = same-store (x .store) s (rw e at (first-passes _ _ (rest-passes _ _ h)))
 
-step-act : (s : Store) (c : Call) → sound consolePolicy s ≡ true → step consolePolicy s c ≡ act consolePolicy s c
+pub step-act : (s : Store) (c : Call) → sound consolePolicy s ≡ true → step consolePolicy s c ≡ act consolePolicy s c
 unfolding step
 step-act s c e = rw e
 

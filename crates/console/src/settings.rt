@@ -8,10 +8,15 @@ use crate::words::print_record;
 use crate::words::unescape;
 use crate::words::word;
 use tables::layout::BLOCK;
+use tables::layout::CONTENTS_SIZE;
 use tables::layout::FILE;
+use tables::layout::FILES_SIZE;
 use tables::layout::LABELS;
 use tables::layout::OPEN;
+use tables::layout::OPENS_SIZE;
+use tables::layout::POLICY_SIZE;
 use tables::layout::PROCESS;
+use tables::layout::PROCESSES_SIZE;
 use tables::layout::RIGHTS;
 use tables::parts::after;
 use tables::parts::upto;
@@ -23,23 +28,23 @@ ghost use Prim.Native.Nat.{_<_};
 // The tables, and whether the last line was understood.
 pub struct Console {
     pub known: bool,
-    pub files: [u32; 448],
-    pub contents: [u8; 32768],
-    pub opens: [u32; 128],
-    pub processes: [u32; 88],
-    pub policy: [u8; 512],
+    pub files: [u32; FILES_SIZE],
+    pub contents: [u8; CONTENTS_SIZE],
+    pub opens: [u32; OPENS_SIZE],
+    pub processes: [u32; PROCESSES_SIZE],
+    pub policy: [u8; POLICY_SIZE],
 }
 
 // No files, no processes, no rights and no transitions.
 pub fn empty() -> Console {
-    let mut policy = [255u8; 512];
+    let mut policy = [255u8; POLICY_SIZE];
     zero_bytes(&mut policy, 0, RIGHTS);
     Console {
         known: true,
-        files: [0u32; 448],
-        contents: [0u8; 32768],
-        opens: [0u32; 128],
-        processes: [0u32; 88],
+        files: [0u32; FILES_SIZE],
+        contents: [0u8; CONTENTS_SIZE],
+        opens: [0u32; OPENS_SIZE],
+        processes: [0u32; PROCESSES_SIZE],
         policy: policy,
     }
 }

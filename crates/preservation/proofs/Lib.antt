@@ -46,4 +46,5 @@ pub mod RefusedLeaves
 pub mod BitsByOwner
 pub mod OpenStays
 pub mod NoWrap
+pub mod Sizes
 pub mod Proved

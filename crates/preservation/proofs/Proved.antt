@@ -6,6 +6,7 @@ use Rattle.preservation.proofs.RefusedLeaves.{refused-store, refused-bu
 use Rattle.preservation.proofs.BitsByOwner.{bits-by-owner}
 use Rattle.preservation.proofs.OpenStays.{open-stays, unlink-keeps-open}
 use Rattle.preservation.proofs.NoWrap.{length-goes-up, links-go-up, references-go-up, offset-goes-on, granted-sums}
+use Rattle.preservation.proofs.Sizes.{other-size}
 
 pub claims : Claims
 claims = record {
@@ -23,4 +24,5 @@ claims = record {
   references-up = λ Q s i e. references-go-up s (means-sound Q s .holds e .1) i;
   offset-plus = λ Q s i n e. offset-goes-on s (means-sound Q s .holds e .1) i n;
   granted-sums = granted-sums;
+  other-size-refused = other-size;
 }

@@ -144,6 +144,6 @@ pub record SoundBut (x : ℕ) (m : Tables) : Type 0 where
   pub refs : All OPENS (λ e. m .opened e REFERENCES ≡ holderCount (m .desc) e)
   pub procs : All PROCESSES (λ p. Process (m .proc p USED) (m .proc p USER) (m .proc p DOMAIN) (m .desc p))
 
--- sound: there is no slot 64
+-- sound: there is no slot SLOTS
 abbrev pub Sound : Tables → Type 0
 Sound m = SoundBut SLOTS m

@@ -1,12 +1,12 @@
 -- What may be relied on, for every policy Q, every store s and every call c: the record `Claims` below, which proofs/Proved.antt proves.
 -- `step Q s c` is the call: its reply, and the store after it. `A → ⊥` says that A does not hold.
-use Prim.Native.Nat.{ℕ, _+_, _≤_, _<_, max}
+use Prim.Native.Nat.{ℕ, _+_, _*_, _≤_, _<_, max}
 use mathlib.Core.Path.{_≡_}
 use mathlib.Core.Bool.{true}
 use mathlib.Core.Logic.{_⊎_}
 use mathlib.Core.List.{List, [], _∷_}
 use lib.ListN.{length}
-use Rattle.rules.specs.Layout.{SLOTS, BLOCK, OPENS, DESCRIPTORS, KIND, OWNER, BITS, LENGTH, LINKS, OFFSET, REFERENCES, USER, FREE, PLAIN}
+use Rattle.rules.specs.Layout.{SLOTS, FILE, BLOCK, OPENS, DESCRIPTORS, KIND, OWNER, BITS, LENGTH, LINKS, OFFSET, REFERENCES, USER, FREE, PLAIN}
 use Rattle.rules.specs.Scan.{repeat}
 use Rattle.rules.specs.Store.{Store, View, view, block, up, plus}
 use Rattle.rules.specs.Refusals.{GRANTED}
@@ -115,3 +115,5 @@ pub record Claims : Type 0 where
   pub offset-plus : (Q : List ℕ) (s : Store) (e n : ℕ) → sound Q s ≡ true → e < OPENS → n ≤ BLOCK → plus (view s .opened e OFFSET) n ≡ view s .opened e OFFSET + n
   -- and so in every granted decision.
   pub granted-sums : (Q : List ℕ) (s : Store) (c : Call) (n : ℕ) (o : Output) (e : Effect) → sound Q s ≡ true → decide Q (view s) c ≡ Granted n o e → PlainSums s c o e
+  -- 5. Tables of another number of slots, 64 among them, are not taken (paper 02, R-2): every call on them is refused with 1.
+  pub other-size-refused : (Q : List ℕ) (s : Store) (c : Call) → ((length (s .files) ≡ SLOTS * FILE → ⊥) ⊎ (length (s .contents) ≡ SLOTS * BLOCK → ⊥)) → step Q s c .reply .refusal ≡ 1

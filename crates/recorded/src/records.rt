@@ -1,20 +1,36 @@
 // The tables, and the records that set them.
 ghost use Prim.Native.Nat.{_<_};
+use tables::layout::CONTENTS_SIZE;
+use tables::layout::FILES_SIZE;
+use tables::layout::OPENS_SIZE;
+use tables::layout::POLICY_SIZE;
+use tables::layout::PROCESSES_SIZE;
 use tables::parts::after;
 use tables::words::byte;
 use tables::words::copy_bytes;
 use tables::words::put;
 
-// The tables have room for one word more than they should; `sizes` says how much of each is lent.
+// Room for one word more than the tables should have.
+const FILES_ROOM: usize = FILES_SIZE + 1;
+
+const CONTENTS_ROOM: usize = CONTENTS_SIZE + 1;
+
+const OPENS_ROOM: usize = OPENS_SIZE + 1;
+
+const PROCESSES_ROOM: usize = PROCESSES_SIZE + 1;
+
+const POLICY_ROOM: usize = POLICY_SIZE + 1;
+
+// `sizes` says how much of each table is lent.
 pub struct Tables {
     pub broken: bool,
     pub ended: bool,
     pub sizes: Sizes,
-    pub files: [u32; 449],
-    pub contents: [u8; 32769],
-    pub opens: [u32; 129],
-    pub processes: [u32; 89],
-    pub policy: [u8; 513],
+    pub files: [u32; FILES_ROOM],
+    pub contents: [u8; CONTENTS_ROOM],
+    pub opens: [u32; OPENS_ROOM],
+    pub processes: [u32; PROCESSES_ROOM],
+    pub policy: [u8; POLICY_ROOM],
 }
 
 pub struct Sizes {
@@ -30,17 +46,17 @@ pub fn empty() -> Tables {
         broken: false,
         ended: false,
         sizes: Sizes {
-            files: 448,
-            contents: 32768,
-            opens: 128,
-            processes: 88,
-            policy: 512,
+            files: FILES_SIZE,
+            contents: CONTENTS_SIZE,
+            opens: OPENS_SIZE,
+            processes: PROCESSES_SIZE,
+            policy: POLICY_SIZE,
         },
-        files: [0u32; 449],
-        contents: [0u8; 32769],
-        opens: [0u32; 129],
-        processes: [0u32; 89],
-        policy: [0u8; 513],
+        files: [0u32; FILES_ROOM],
+        contents: [0u8; CONTENTS_ROOM],
+        opens: [0u32; OPENS_ROOM],
+        processes: [0u32; PROCESSES_ROOM],
+        policy: [0u8; POLICY_ROOM],
     }
 }
 
@@ -72,10 +88,17 @@ fn word_at(bytes: &[u8], at: usize) -> u32 {
         + 16777216 * (byte(rest, 3) as u32)
 }
 
-// Words of 4 bytes, little end first, from the place that the first two bytes give.
+// A place or a size: 4 bytes, little end first.
+fn place_at(bytes: &[u8], at: usize) -> usize
+    ensures { λ r. ⌜ r < 4294967296 ⌝ }
+{
+    word_at(bytes, at) as usize
+}
+
+// Words of 4 bytes, little end first, from the place that the first four bytes give.
 fn put_words(words: &mut [u32], record: &[u8]) {
-    let mut a = short_at(record, 0);
-    let mut i = 2;
+    let mut a = place_at(record, 0);
+    let mut i = 4;
     while i < record.len() {
         if words.len() <= a {
             return;
@@ -87,7 +110,7 @@ fn put_words(words: &mut [u32], record: &[u8]) {
 }
 
 fn put_bytes(bytes: &mut [u8], record: &[u8]) {
-    copy_bytes(bytes, short_at(record, 0), after(record, 2));
+    copy_bytes(bytes, place_at(record, 0), after(record, 4));
 }
 
 fn set_files(s: Tables, record: &[u8]) -> Tables {
@@ -132,11 +155,11 @@ fn set_policy(s: Tables, record: &[u8]) -> Tables {
 
 fn set_sizes(s: Tables, record: &[u8]) -> Tables {
     let sizes = Sizes {
-        files: short_at(record, 0),
-        contents: short_at(record, 2),
-        opens: short_at(record, 4),
-        processes: short_at(record, 6),
-        policy: short_at(record, 8),
+        files: place_at(record, 0),
+        contents: place_at(record, 4),
+        opens: place_at(record, 8),
+        processes: place_at(record, 12),
+        policy: place_at(record, 16),
     };
     let mut t = s;
     t.sizes = sizes;

@@ -1,10 +1,10 @@
--- Every size, width, column and limit of the paper, named once. 64 slots to 128 is one line here.
+-- Every size, width, column and limit of the papers, named once. Another number of slots is one line here (paper 02, R-2).
 use Prim.Native.Nat.{ℕ, _+_, _*_}
 
 -- ---- "The store": how many there are of each
 
 abbrev pub SLOTS : ℕ
-SLOTS = 64
+SLOTS = 128
 
 -- bytes of a slot
 abbrev pub BLOCK : ℕ

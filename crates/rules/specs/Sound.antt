@@ -104,7 +104,7 @@ linksSound t s = cond (eqb s 0) (eqb (t .file s LINKS) 0) (eqb (t .file s LINKS)
 unfoldable pub isParent : Tree → ℕ → ℕ → Bool
 isParent t d u = every (isDirectory (t .file) (slot u) ∷ any (linksAt (t .shown u) d) 0 DIRENTS ∷ [])
 
--- the lowest directory that names d, 64 where none does
+-- the lowest directory that names d, SLOTS where none does
 abbrev pub parentOf : Tree → ℕ → ℕ
 parentOf t d = first (isParent t d) 0 SLOTS
 

@@ -11,7 +11,7 @@ use lib.ListN.{length, getD, length-append, replicate, getD-replicate, length-re
 use Rattle.rules.specs.Computing.{computing}
 use Rattle.rules.specs.Choice.{every, implies}
 use Rattle.rules.specs.Scan.{all}
-use Rattle.rules.specs.Layout.{SLOTS, BLOCK, FILE, LABEL, NONE, DOMAIN}
+use Rattle.rules.specs.Layout.{SLOTS, BLOCK, FILE, OPENS, OPEN, LABEL, NONE, DOMAIN}
 use Rattle.rules.specs.Rights.{transition}
 use Rattle.rules.specs.Store.{view, tab, procOf, zeros, slot}
 use Rattle.rules.specs.Directories.{dirent}
@@ -162,7 +162,7 @@ getD-zeros n i = go (decLt i n)
 
 nothing-open : (k : List ℕ) → OpenForReading (consoleWith k) 3 → ⊥
 unfolding consoleWith
-nothing-open k o = no-mode (rw (getD-zeros 128 (4 * o .entry + 1)) at (o .mode))
+nothing-open k o = no-mode (rw (getD-zeros (OPENS * OPEN) (4 * o .entry + 1)) at (o .mode))
 
 -- ---- all that is supposed
 

@@ -10,7 +10,7 @@ use borrow.Author.Tests.{eqb-true, leb-true, ltb-true}
 use lib.Dec.{ltb}
 use lib.ListN.{length, getD, List·getD-eq-default}
 use Rattle.rules.specs.Choice.{every}
-use Rattle.rules.specs.Layout.{SLOTS, FILE, KIND, LABEL, LENGTH, PLAIN, DESCRIPTORS}
+use Rattle.rules.specs.Layout.{SLOTS, FILE, OPENS, OPEN, PROCESSES, PROCESS, KIND, LABEL, LENGTH, PLAIN, DESCRIPTORS}
 use Rattle.rules.specs.Store.{Store, view, tab, descOf}
 use Rattle.rules.specs.Sound.{sound, storeSound, sizesSound, tablesSound, slotSound, recordSound, kindSound, plainSound}
 use Rattle.rules.proofs.Scans.{all-at}
@@ -31,15 +31,15 @@ module _ (Q : List ℕ) (s : Store) (h : sound Q s ≡ true) where
   unfolding sound storeSound
   parts = both _ _ (test 1 _ h)
 
-  pub files-size : length (s .files) ≡ 448
+  pub files-size : length (s .files) ≡ SLOTS * FILE
   unfolding sizesSound
   files-size = eqb-true _ _ (test 0 _ (parts .0))
 
-  pub opens-size : length (s .opens) ≡ 128
+  pub opens-size : length (s .opens) ≡ OPENS * OPEN
   unfolding sizesSound
   opens-size = eqb-true _ _ (test 2 _ (parts .0))
 
-  pub processes-size : length (s .processes) ≡ 88
+  pub processes-size : length (s .processes) ≡ PROCESSES * PROCESS
   unfolding sizesSound
   processes-size = eqb-true _ _ (test 3 _ (parts .0))
 
@@ -47,20 +47,20 @@ module _ (Q : List ℕ) (s : Store) (h : sound Q s ≡ true) where
   unfolding tablesSound
   based = record { root = test 0 _ (parts .1); eight = desc-eight (s .processes) }
 
-  slot-sound : (t : ℕ) → t < 64 → slotSound (view s) t ≡ true
+  slot-sound : (t : ℕ) → t < SLOTS → slotSound (view s) t ≡ true
   unfolding tablesSound
   slot-sound t lt = all-at (slotSound (view s)) 0 SLOTS (test 1 _ (parts .1)) t (omega arith) lt
 
-  record-sound : (t : ℕ) → t < 64 → recordSound (view s .tree) t ≡ true
+  record-sound : (t : ℕ) → t < SLOTS → recordSound (view s .tree) t ≡ true
   unfolding slotSound
   record-sound t lt = test 0 _ (slot-sound t lt)
 
   -- every program label is one of the sixteen
   pub small-label : (t : ℕ) → tab FILE (s .files) t LABEL < 16
   unfolding recordSound
-  small-label t = go (decLt t 64)
+  small-label t = go (decLt t SLOTS)
     where
-      go : Dec (t < 64) → tab FILE (s .files) t LABEL < 16
+      go : Dec (t < SLOTS) → tab FILE (s .files) t LABEL < 16
       go (yes lt) =
           let l : tab FILE (s .files) t LABEL ≤ 15 = leb-true _ _ (test 3 _ (record-sound t lt)) in
           omega arith
@@ -70,10 +70,10 @@ module _ (Q : List ℕ) (s : Store) (h : sound Q s ≡ true) where
 
   module _ (f : ℕ) (plain : tab FILE (s .files) f KIND ≡ PLAIN) where
     -- a plain file is in one of the slots
-    pub plain-slot : f < 64
-    plain-slot = go (decLt f 64)
+    pub plain-slot : f < SLOTS
+    plain-slot = go (decLt f SLOTS)
       where
-        go : Dec (f < 64) → f < 64
+        go : Dec (f < SLOTS) → f < SLOTS
         go (yes lt) = lt
         go (no ge) =
             let z : tab FILE (s .files) f KIND ≡ 0 = List·getD-eq-default (s .files) 0 (omega (arith, files-size)) in

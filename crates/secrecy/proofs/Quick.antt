@@ -103,14 +103,14 @@ unfolding cut
 length-cut zero C = refl
 length-cut (suc n) C = ap suc (length-cut n (drop 512 C))
 
-shown-quick : (F C : List ℕ) → length C ≡ 32768 → quickShown F C ≡ shownOf F C
+shown-quick : (F C : List ℕ) → length C ≡ SLOTS * BLOCK → quickShown F C ≡ shownOf F C
 unfolding quickShown shownOf
-shown-quick F C size = fun-ext (λ d. ap (λ (l : List ℕ). drop (hidden F d) l) (go d (decLt d 64)))
+shown-quick F C size = fun-ext (λ d. ap (λ (l : List ℕ). drop (hidden F d) l) (go d (decLt d SLOTS)))
   where
-    go : (d : ℕ) → Dec (d < 64) → getD (cut SLOTS C) d [] ≡ block C d
-    go d (yes lt) = cut-block 64 C d lt
+    go : (d : ℕ) → Dec (d < SLOTS) → getD (cut SLOTS C) d [] ≡ block C d
+    go d (yes lt) = cut-block SLOTS C d lt
     go d (no ge) =
-        let n : length (cut SLOTS C) ≤ d = omega (arith, length-cut 64 C) in
+        let n : length (cut SLOTS C) ≤ d = omega (arith, length-cut SLOTS C) in
         let m : length C ≤ 512 * d = omega arith in
         let z : drop (512 * d) C ≡ [] = drop-of-length-le C m in
         List·getD-eq-default (cut SLOTS C) [] n ∙ rw z refl
@@ -165,7 +165,7 @@ module _ (s : Store) (h : filesSound (s .files) (s .contents) ≡ true) (g : res
   unfolding filesSound restSound sizesSound
   sizes-quick = also _ _ (test 0 _ h) (also _ _ (test 1 _ h) (also _ _ (test 0 _ g) (also _ _ (test 1 _ g) none-left)))
 
-  contents-size : length (s .contents) ≡ 32768
+  contents-size : length (s .contents) ≡ SLOTS * BLOCK
   unfolding filesSound
   contents-size = eqb-true _ _ (test 1 _ h)
 

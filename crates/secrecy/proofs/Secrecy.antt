@@ -10,7 +10,7 @@ use borrow.Author.Tests.{eqb-false, lt-ltb, eq-eqb}
 use lib.Dec.{eqb}
 use lib.ListN.{List·getD-eq-default}
 use Rattle.rules.specs.Choice.{every, some}
-use Rattle.rules.specs.Layout.{FILE, OPEN, KIND, LABEL, LENGTH, PLAIN, NONE, MODE}
+use Rattle.rules.specs.Layout.{SLOTS, FILE, OPEN, KIND, LABEL, LENGTH, PLAIN, NONE, MODE}
 use Rattle.rules.specs.Rights.{reads, transition, moved}
 use Rattle.rules.specs.Store.{Store, view, tab}
 use Rattle.rules.specs.Calls.{Call}
@@ -52,7 +52,7 @@ labels-of Q s h = record { room = processes-size Q s h; used = λ p lt u. held _
 start : (Q : List ℕ) (f : ℕ) (s s′ : Store) → Supposed Q f s s′ → Related (Reached Q s) f (tab FILE (s .files) f LENGTH) (tab FILE (s .files) f LABEL) s s′
 start Q f s s′ h =
     let plain : tab FILE (s .files) f KIND ≡ PLAIN = h .differ .plain in
-    let slot : f < 64 = plain-slot Q s (h .sound-one) f plain in
+    let slot : f < SLOTS = plain-slot Q s (h .sound-one) f plain in
     apart (apart-of f s s′ (plain-length Q s (h .sound-one) f plain) (h .differ))
     (record {
       own = record { plain = plain; label = refl; within = omega arith; room = omega (arith, files-size Q s (h .sound-one)) };

@@ -1,4 +1,4 @@
-// The file table, 64 records of 7 words, and the contents, 512 bytes a slot.
+// The file table, a record of 7 words for each slot, and the contents, 512 bytes a slot.
 ghost use mathlib.Core.Path.{_≡_};
 ghost use lib.Dec.{eqb};
 ghost use Rattle.rules.specs.Layout.{FILE, KIND, OWNER, BITS, LABEL, LENGTH, LINKS, VERSION, FREE, PLAIN, DIRECTORY};

@@ -1,5 +1,5 @@
 // Every size, width and column of the tables, named once. The rules name them in specs/Layout.antt.
-pub const SLOTS: u32 = 64;
+pub const SLOTS: u32 = 128;
 
 pub const BLOCK: usize = 512;
 

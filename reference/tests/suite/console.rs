@@ -2,6 +2,9 @@
 
 use reference::{act, call, sound, Answer, Request};
 
+pub const SLOTS: usize = 128;
+pub const LAST_SLOT: usize = SLOTS - 1;
+
 pub const FREE: u32 = 0;
 pub const PLAIN: u32 = 1;
 pub const DIRECTORY: u32 = 2;
@@ -32,8 +35,8 @@ impl Console {
         let mut policy = vec![0; 256];
         policy.extend([255; 256]);
         let mut console = Console {
-            files: vec![0; 64 * 7],
-            contents: vec![0; 64 * 512],
+            files: vec![0; SLOTS * 7],
+            contents: vec![0; SLOTS * 512],
             open_files: vec![0; 32 * 4],
             processes: vec![0; 8 * 11],
             policy,

@@ -1,6 +1,6 @@
 //! What the calls on paths do.
 
-use crate::console::{Console, DIRECTORY, FREE, PLAIN};
+use crate::console::{Console, DIRECTORY, FREE, PLAIN, SLOTS};
 use crate::steps::{no, stopped};
 
 #[test]
@@ -63,19 +63,22 @@ fn a_removed_directory_is_freed_at_once() {
     assert_eq!(console.stamp(4), 1);
 }
 
+/// As many as all slots fill with 15 names in each.
+const DIRECTORIES: [&str; 9] = [
+    "/fares", "/fares/a", "/fares/b", "/fares/c", "/fares/d", "/fares/e", "/fares/f", "/fares/g",
+    "/fares/h",
+];
+
 #[test]
 fn a_link_needs_a_place_and_no_slot() {
     let mut console = Console::new();
-    for slot in 4..64 {
-        let directory = ["/fares", "/fares/a", "/fares/b", "/fares/c"][(slot - 4) / 15];
-        let path = format!("{directory}/{slot}");
-        if slot < 7 {
-            let name = ["a", "b", "c"][slot - 4];
-            let path = format!("/fares/{name}");
-            assert_eq!(console.make_directory(1, &path, 7), Ok(slot as u32));
-        } else {
-            assert_eq!(console.create(1, &path, 0), Ok(slot as u32));
-        }
+    for slot in 4..SLOTS {
+        let number = slot - 4;
+        let made = match DIRECTORIES[1..].get(number) {
+            Some(directory) => console.make_directory(1, directory, 7),
+            None => console.create(1, &format!("{}/{slot}", DIRECTORIES[number / 15]), 0),
+        };
+        assert_eq!(made, Ok(slot as u32));
     }
     assert_eq!(console.length(1), 16);
     assert_eq!(console.create(1, "/fares/a/x", 0), no(13));

@@ -1,6 +1,6 @@
 //! Many calls by chance: what holds of every call must hold of each of them.
 
-use crate::console::Console;
+use crate::console::{Console, SLOTS};
 use reference::Request;
 
 const NAMES: [&str; 5] = ["now", "key", "a", "b", "c"];
@@ -130,7 +130,7 @@ fn damage(console: &mut Console, chance: &mut Chance) {
         _ => chance.below(5) as u32,
     };
     match chance.below(5) {
-        0 => console.files[chance.below(64 * 7)] = word,
+        0 => console.files[chance.below(SLOTS * 7)] = word,
         1 => console.contents[chance.below(4 * 512)] = word as u8,
         2 => console.open_files[chance.below(32 * 4)] = word,
         3 => console.processes[chance.below(8 * 11)] = word,

@@ -1,15 +1,15 @@
 //! Each refusal, in the calls that can give it.
 
-use crate::console::{request, Console};
+use crate::console::{request, Console, SLOTS};
 use crate::steps::{no, outcome, stopped};
 use reference::Request;
 
 #[test]
 fn refusal_1_for_tables_of_another_size() {
-    let resized: [fn(&mut Console); 10] = [
-        |console| console.files.truncate(447),
+    let resized: [fn(&mut Console); 11] = [
+        |console| console.files.truncate(SLOTS * 7 - 1),
         |console| console.files.push(0),
-        |console| console.contents.truncate(32767),
+        |console| console.contents.truncate(SLOTS * 512 - 1),
         |console| console.contents.push(0),
         |console| console.open_files.truncate(127),
         |console| console.open_files.push(0),
@@ -17,6 +17,11 @@ fn refusal_1_for_tables_of_another_size() {
         |console| console.processes.push(0),
         |console| console.policy.truncate(511),
         |console| console.policy.push(255),
+        |console| {
+            // All that a store of 64 slots has.
+            console.files.truncate(64 * 7);
+            console.contents.truncate(64 * 512);
+        },
     ];
     for resize in resized {
         let mut console = Console::new();

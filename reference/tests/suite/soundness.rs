@@ -1,6 +1,6 @@
 //! Each clause of "Sound": one defect makes a sound store unsound.
 
-use crate::console::{Console, DIRECTORY, PLAIN};
+use crate::console::{Console, DIRECTORY, LAST_SLOT, PLAIN, SLOTS};
 
 /// A sound console with something of everything: /fares/d/x beside the rest,
 /// descriptors 0 and 1 of process 1 on entry 0, and a nameless open slot 6.
@@ -75,19 +75,19 @@ fn a_file_has_its_fields_in_range() {
 #[test]
 fn a_free_record_is_zero_but_for_its_stamp() {
     unsound(&[
-        |console| console.files[file(63, 1)] = 1,
-        |console| console.files[file(63, 2)] = 1,
-        |console| console.files[file(63, 3)] = 1,
-        |console| console.files[file(63, 4)] = 1,
-        |console| console.files[file(63, 5)] = 1,
+        |console| console.files[file(LAST_SLOT, 1)] = 1,
+        |console| console.files[file(LAST_SLOT, 2)] = 1,
+        |console| console.files[file(LAST_SLOT, 3)] = 1,
+        |console| console.files[file(LAST_SLOT, 4)] = 1,
+        |console| console.files[file(LAST_SLOT, 5)] = 1,
     ]);
-    still_sound(&[|console| console.files[file(63, 6)] = 1]);
+    still_sound(&[|console| console.files[file(LAST_SLOT, 6)] = 1]);
 }
 
 #[test]
 fn an_entry_has_its_fields_in_range() {
     unsound(&[
-        |console| console.open_files[0] = 64,
+        |console| console.open_files[0] = SLOTS as u32,
         |console| console.open_files[0] = u32::MAX,
         |console| console.open_files[1] = 0,
         |console| console.open_files[1] = 5,
@@ -214,7 +214,7 @@ fn a_directory_is_at_most_8_names_deep() {
     for depth in 0..=8 {
         assert!(chain(depth).is_sound());
     }
-    for depth in 9..=63 {
+    for depth in 9..=LAST_SLOT {
         assert!(!chain(depth).is_sound());
     }
 }
@@ -281,7 +281,7 @@ fn names_are_different_within_a_directory() {
 fn each_place_names_a_slot_in_use() {
     unsound(&[
         |console| console.contents[byte(0, 1, 14)] = 20,
-        |console| console.contents[byte(0, 1, 14)] = 64,
+        |console| console.contents[byte(0, 1, 14)] = SLOTS as u8,
         |console| console.contents[byte(0, 1, 14)] = 255,
         |console| console.contents[byte(0, 1, 14)] = 0,
         |console| {
@@ -361,8 +361,8 @@ fn the_zero_bytes_are_zero() {
         |console| console.contents[512 * 2 + 5] = 1, // past a plain file's length
         |console| console.contents[512 * 2 + 511] = 1,
         |console| console.contents[512 * 6] = 1, // in an empty file
-        |console| console.contents[512 * 63] = 1, // in a free slot
-        |console| console.contents[512 * 63 + 511] = 1,
+        |console| console.contents[512 * LAST_SLOT] = 1, // in a free slot
+        |console| console.contents[512 * LAST_SLOT + 511] = 1,
         |console| console.contents[byte(0, 0, 13)] = 1, // in a name's padding
         |console| console.contents[byte(0, 0, 15)] = 1, // after a place's slot
         |console| console.contents[byte(0, 5, 0)] = 1,  // in an empty place

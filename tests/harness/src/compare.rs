@@ -5,6 +5,7 @@ use crate::call::Call;
 use crate::chance::Chance;
 use crate::defects::{self, Defect};
 use crate::generate::{random_store, CallMaker};
+use crate::layout::SLOTS;
 use crate::programs::*;
 use crate::scripts::compare::Scripts;
 use crate::secrecy;
@@ -271,7 +272,7 @@ fn alter(tables: &mut Tables, chance: &mut Chance) {
     for _ in 0..chance.between(1, 3) {
         let any = chance.word() as u32;
         let small = chance.below(20) as u32;
-        let word = chance.pick(&[0, 1, 2, small, 64, 512, 1 << 31, u32::MAX, any]);
+        let word = chance.pick(&[0, 1, 2, small, SLOTS as u32, 512, 1 << 31, u32::MAX, any]);
         let table = chance.below(5);
         match table {
             0 => put(&mut tables.files, word, chance),

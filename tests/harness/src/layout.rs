@@ -1,6 +1,6 @@
 //! Sizes and columns of the lent tables.
 
-pub const SLOTS: usize = 64;
+pub const SLOTS: usize = 128;
 pub const FILE: usize = 7;
 pub const BLOCK: usize = 512;
 pub const DIRENTS: usize = 16;

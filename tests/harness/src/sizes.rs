@@ -1,11 +1,22 @@
 //! Tables of another size than the store's.
 
 use crate::chance::Chance;
+use crate::layout::{BLOCK, FILE};
 use crate::tables::Tables;
 
-pub const TABLES: [&str; 5] = ["files", "contents", "open files", "processes", "policy"];
+/// The slots that a store once had.
+const FORMER_SLOTS: usize = 64;
 
-/// Gives one table, whose number is answered, another size.
+pub const TABLES: [&str; 6] = [
+    "files",
+    "contents",
+    "open files",
+    "processes",
+    "policy",
+    "files and contents, of 64 slots",
+];
+
+/// Gives a table another size, or the two that have a record for each slot; answers which.
 pub fn resize(tables: &mut Tables, chance: &mut Chance) -> usize {
     let table = chance.below(TABLES.len());
     match table {
@@ -13,7 +24,11 @@ pub fn resize(tables: &mut Tables, chance: &mut Chance) -> usize {
         1 => resize_one(&mut tables.contents, 512, chance),
         2 => resize_one(&mut tables.open_files, 4, chance),
         3 => resize_one(&mut tables.processes, 11, chance),
-        _ => resize_one(&mut tables.policy, 256, chance),
+        4 => resize_one(&mut tables.policy, 256, chance),
+        _ => {
+            tables.files.truncate(FORMER_SLOTS * FILE);
+            tables.contents.truncate(FORMER_SLOTS * BLOCK);
+        }
     }
     table
 }

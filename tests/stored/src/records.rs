@@ -1,10 +1,18 @@
 //! The records that `crates/recorded` reads (docs/recorded.md).
 
-use crate::tables::Tables;
+use crate::tables::{Tables, SIZES};
 
 /// Room for one word more than the tables should have.
-pub const ROOM: [usize; 5] = [449, 32_769, 129, 89, 513];
-pub const SIZES: [usize; 5] = [448, 32_768, 128, 88, 512];
+pub const ROOM: [usize; 5] = {
+    let [files, contents, opens, processes, policy] = SIZES;
+    [
+        files + 1,
+        contents + 1,
+        opens + 1,
+        processes + 1,
+        policy + 1,
+    ]
+};
 pub const BUFFER: usize = 1024;
 pub const BUFFER_BYTE: u8 = 170;
 const CALL: u8 = 6;
@@ -24,7 +32,7 @@ pub fn record(kind: u8, bytes: &[u8]) -> Vec<u8> {
 pub fn sizes(sizes: [usize; 5]) -> Vec<u8> {
     let bytes: Vec<u8> = sizes
         .iter()
-        .flat_map(|&size| (size as u16).to_le_bytes())
+        .flat_map(|&size| (size as u32).to_le_bytes())
         .collect();
     record(0, &bytes)
 }
@@ -70,7 +78,7 @@ fn patches<T: PartialEq>(
     while let Some(skip) = (at..to.len()).position(|i| from[i] != to[i]) {
         let start = at + skip;
         let end = run_end(from, to, start);
-        let mut bytes = (start as u16).to_le_bytes().to_vec();
+        let mut bytes = (start as u32).to_le_bytes().to_vec();
         bytes.extend(to[start..end].iter().flat_map(&written));
         out.extend(record(kind, &bytes));
         at = end;

@@ -2,12 +2,24 @@
 
 use reference::{Answer, Request};
 
+const SLOTS: usize = 128;
 pub const FILE: usize = 7;
-pub const OPEN: usize = 4;
-pub const PROCESS: usize = 11;
 pub const BLOCK: usize = 512;
+const OPENS: usize = 32;
+pub const OPEN: usize = 4;
+const PROCESSES: usize = 8;
+pub const PROCESS: usize = 11;
 pub const LABELS: usize = 16;
-const RIGHTS: usize = 256;
+const RIGHTS: usize = LABELS * LABELS;
+
+/// The right sizes of files, contents, open files, processes and policy.
+pub const SIZES: [usize; 5] = [
+    SLOTS * FILE,
+    SLOTS * BLOCK,
+    OPENS * OPEN,
+    PROCESSES * PROCESS,
+    2 * RIGHTS,
+];
 
 /// The five tables.
 pub struct Tables {
@@ -20,13 +32,7 @@ pub struct Tables {
 
 impl Tables {
     /// Tables of 0 alone, in which the policy gives no right.
-    pub fn zero(
-        files: usize,
-        contents: usize,
-        opens: usize,
-        processes: usize,
-        policy: usize,
-    ) -> Tables {
+    pub fn zero([files, contents, opens, processes, policy]: [usize; 5]) -> Tables {
         Tables {
             files: vec![0; files],
             contents: vec![0; contents],
@@ -38,7 +44,7 @@ impl Tables {
 
     /// Tables of the right sizes, with no transitions.
     pub fn empty() -> Tables {
-        let mut tables = Tables::zero(64 * FILE, 64 * BLOCK, 32 * OPEN, 8 * PROCESS, 2 * RIGHTS);
+        let mut tables = Tables::zero(SIZES);
         tables.policy[RIGHTS..].fill(255);
         tables
     }

@@ -8,12 +8,12 @@ use crate::programs::{reference_sound, store_sound};
 
 const TURNS: usize = 500;
 
-/// The same four calls on /f00 in stores of three sizes.
+/// The same four calls on /f00 in stores of several sizes, the last ones counted with the root.
 pub fn print_by_size() {
     println!("\n## By the number of files: open, read, write, close of one file, and the soundness test\n");
     println!("| files | act, store | act, reference | call, store | call, reference | soundness, store | soundness, reference |");
     println!("|---:|---:|---:|---:|---:|---:|---:|");
-    for (files, slots) in [(1, 1), (16, 16), (SLOTS, SLOTS - 1)] {
+    for (files, slots) in [(1, 1), (16, 16), (64, 63), (SLOTS, SLOTS - 1)] {
         let start = sized(slots);
         assert!(store_sound(&start) && reference_sound(&start));
         let scene = [repeat(start, &cycle(b"/f00"), TURNS)];

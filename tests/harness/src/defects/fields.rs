@@ -14,7 +14,7 @@ pub const FIELDS: &[(&str, &str, Break)] = &[
     (RANGE, "owner over 65,535", owner),
     (RANGE, "bits over 7", bits),
     (RANGE, "file label over 15", file_label),
-    (RANGE, "open slot over 63", open_slot),
+    (RANGE, "open slot past the last", open_slot),
     (RANGE, "mode 0", mode_zero),
     (RANGE, "mode over 4", mode_over),
     (RANGE, "position over 512", position),
@@ -144,7 +144,7 @@ fn free_record(tables: &mut Tables, chance: &mut Chance) -> Option<()> {
 fn free_entry(tables: &mut Tables, chance: &mut Chance) -> Option<()> {
     let entry = open_file(tables, chance, false)?;
     let column = chance.pick(&[SLOT, MODE, OFFSET]);
-    let word = chance.pick(&[1, 2, 63, 512, u32::MAX]);
+    let word = chance.pick(&[1, 2, SLOTS as u32 - 1, 512, u32::MAX]);
     tables.set_open_file(entry, column, word);
     Some(())
 }

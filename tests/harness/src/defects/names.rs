@@ -36,7 +36,7 @@ pub const NAMES: &[(&str, &str, Break)] = &[
     (VALID, "byte after a name's end", byte_after_end),
     (DIFFERENT, "one name twice", same_name),
     (IN_USE, "place names a free slot", names_free),
-    (IN_USE, "place names a slot over 63", names_outside),
+    (IN_USE, "place names a slot past the last", names_outside),
     (IN_USE, "place names slot 0", names_root),
     (COUNTED, "count of names too high", links_high),
     (COUNTED, "count of names too low", links_low),
@@ -181,7 +181,7 @@ fn names_free(tables: &mut Tables, chance: &mut Chance) -> Option<()> {
 }
 
 fn names_outside(tables: &mut Tables, chance: &mut Chance) -> Option<()> {
-    let number = chance.pick(&[64, 65, 127, 128, 255]);
+    let number = chance.pick(&[SLOTS, SLOTS + 1, 200, 254, 255]);
     name_number(tables, chance, number)
 }
 

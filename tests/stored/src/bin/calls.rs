@@ -33,7 +33,8 @@ use call::Call;
 use chance::Chance;
 use generate::{random_store, CallMaker};
 use reference::Request;
-use stored::records::{self, BUFFER, ROOM, SIZES};
+use stored::records::{self, BUFFER, ROOM};
+use stored::tables::SIZES;
 use tables::Tables;
 
 const SEED: u64 = 20_261;
@@ -112,8 +113,7 @@ struct Writer {
 }
 
 fn zero() -> stored::tables::Tables {
-    let [files, contents, opens, processes, policy] = ROOM;
-    stored::tables::Tables::zero(files, contents, opens, processes, policy)
+    stored::tables::Tables::zero(ROOM)
 }
 
 impl Writer {

@@ -3,8 +3,8 @@
 use std::io::{Read, Write};
 
 use reference::{Answer, Request};
-use stored::records::{BUFFER, BUFFER_BYTE, ROOM, SIZES};
-use stored::tables::Tables;
+use stored::records::{BUFFER, BUFFER_BYTE, ROOM};
+use stored::tables::{Tables, SIZES};
 
 const READ: u8 = 11;
 
@@ -16,6 +16,11 @@ struct Recorded {
 fn short(bytes: &[u8], at: usize) -> usize {
     let byte = |at: usize| usize::from(bytes.get(at).copied().unwrap_or(0));
     byte(at) + 256 * byte(at + 1)
+}
+
+/// A place or a size.
+fn place(bytes: &[u8], at: usize) -> usize {
+    short(bytes, at) + 65_536 * short(bytes, at + 2)
 }
 
 fn words(bytes: &[u8]) -> Vec<u32> {
@@ -72,18 +77,17 @@ fn line(answer: &Answer, read: &[u8], digest: u32) -> String {
 
 impl Recorded {
     fn new() -> Recorded {
-        let [files, contents, opens, processes, policy] = ROOM;
         Recorded {
-            tables: Tables::zero(files, contents, opens, processes, policy),
+            tables: Tables::zero(ROOM),
             sizes: SIZES,
         }
     }
 
     fn set(&mut self, kind: u8, bytes: &[u8]) -> Option<()> {
-        let at = short(bytes, 0);
-        let values = bytes.get(2..).unwrap_or(&[]);
+        let at = place(bytes, 0);
+        let values = bytes.get(4..).unwrap_or(&[]);
         match kind {
-            0 => self.sizes = [0, 2, 4, 6, 8].map(|at| short(bytes, at)),
+            0 => self.sizes = [0, 4, 8, 12, 16].map(|at| place(bytes, at)),
             1 => put(&mut self.tables.files, at, &words(values)),
             2 => put(&mut self.tables.contents, at, values),
             3 => put(&mut self.tables.opens, at, &words(values)),

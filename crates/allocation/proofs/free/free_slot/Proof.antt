@@ -1,6 +1,7 @@
 use mathlib.Core.Path.{_≡_, refl}
 use Prim.Native.Nat.{_-_}
 use borrow.Author.Needs.{needs}
+use Rattle.rules.specs.Layout.{SLOTS, FILE}
 use Rattle.rules.specs.Scan.{first}
 use Rattle.rules.proofs.Scans.{first-yes, first-no, first-done}
 use Rattle.rules.specs.Checks.{slotFree}
@@ -9,10 +10,10 @@ use Rattle.allocation.proofs.free.free_slot.Statement.{statement}
 use Rattle.allocation.proofs.free.free_slot.Tie as tie
 
 abbrev Inv-loop : tie.InvT-loop
-Inv-loop files s₀ s = first (slotFree (tab 7 files)) s 64 ≡ first (slotFree (tab 7 files)) 0 64
+Inv-loop files s₀ s = first (slotFree (tab FILE files)) s SLOTS ≡ first (slotFree (tab FILE files)) 0 SLOTS
 
 abbrev μ-loop : tie.MeasureT-loop
-μ-loop files s₀ s = 64 - s
+μ-loop files s₀ s = SLOTS - s
 
 pub free-slot-spec : {M : Type 1} → statement M
 free-slot-spec =

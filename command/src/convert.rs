@@ -1,0 +1,12 @@
+//! `convert`: a store file of 64 slots as one of 128, in a new file. The old one is only read.
+
+use crate::check;
+use crate::failure::Failure;
+use crate::held;
+use std::path::Path;
+
+pub fn convert(old: &Path, new: &Path) -> Result<(), Failure> {
+    let tables = held::read_former(old)?;
+    check::require_sound(old, &tables)?;
+    held::create(new, &tables)
+}
