@@ -1,17 +1,12 @@
--- A call, a test and a run of a script as they cross to C.
+-- A test and a run of a script as they cross to C.
 use Prim.Native.Nat.{ℕ}
 use mathlib.Core.Bool.{Bool, cond}
 use mathlib.Core.List.{List}
 use Rattle.rules.specs.Store.{Store}
-use Rattle.rules.specs.Calls.{Call}
 use Rattle.script_rules.specs.Reasons.{reasonNumber}
 use Rattle.script_rules.specs.declared.replayed.Replayed.{Replayed}
 use Rattle.replay.specs.Runs.{Left}
 use Rattle.abi.specs.declared.Report.{Report}
-
--- a call from the numbers and bytes of its parts
-abbrev pub numbered : (process call fd number : ℕ) → (path bytes buffer : List ℕ) → Call
-numbered p c i n path bytes buffer = record { process = record { 0 = p }; call = c; fd = record { 0 = i }; number = n; path = path; bytes = bytes; buffer = buffer }
 
 -- a test as a number
 unfoldable pub flag : Bool → ℕ

@@ -1,13 +1,14 @@
-// The store for C. A slice crosses as a pointer and a number of elements; slices of any length are taken.
+// The store for C, but for `mritvelja_act`. A slice crosses as a pointer and a number of elements; slices of any length are taken.
 ghost use mathlib.Core.Path.{_≡_};
 ghost use Rattle.rules.specs.Store.{store};
 ghost use Rattle.rules.specs.Sound.{sound};
-ghost use Rattle.rules.specs.Step.{act, step};
+ghost use Rattle.rules.specs.Step.{step};
 ghost use Rattle.store.specs.Lent.{lent, lentOf};
 ghost use lib.ListN.{length};
 ghost use Rattle.script_rules.specs.Replay.{replay};
 ghost use Rattle.replay.specs.Runs.{leftBy};
-ghost use Rattle.abi.specs.Crossing.{numbered, flag, reported, crossed, crossedBy};
+ghost use Rattle.abi_act.specs.Numbered.{numbered};
+ghost use Rattle.abi.specs.Crossing.{flag, reported, crossed, crossedBy};
 use rules::answer::Answer;
 use rules::ids::Fd;
 use rules::ids::Pid;
@@ -58,42 +59,6 @@ pub extern "C" fn mritvelja_call(
     ensures { λ r. ⌜ lent r (now (buffer .exit)) (store (now (files .exit)) (now (contents .exit)) (now («open_files» .exit)) (now (processes .exit))) ≡ lentOf (step (now (policy .entry)) (store (now (files .entry)) (now (contents .entry)) (now («open_files» .entry)) (now (processes .entry))) (numbered process call descriptor number (now (path .entry)) (now («data» .entry)) (now (buffer .entry)))) ⌝ }
 {
     store::call::call(
-        files,
-        contents,
-        open_files,
-        processes,
-        policy,
-        Request {
-            process: Pid(process),
-            call: call,
-            fd: Fd(descriptor),
-            number: number,
-        },
-        path,
-        data,
-        buffer,
-    )
-}
-
-// One call on tables that are known to be sound: no test is made.
-#[no_mangle]
-pub extern "C" fn mritvelja_act(
-    files: &mut [u32],
-    contents: &mut [u8],
-    open_files: &mut [u32],
-    processes: &mut [u32],
-    policy: &[u8],
-    process: u8,
-    call: u8,
-    descriptor: u8,
-    number: u16,
-    path: &[u8],
-    data: &[u8],
-    buffer: &mut [u8],
-) -> Answer
-    ensures { λ r. ⌜ lent r (now (buffer .exit)) (store (now (files .exit)) (now (contents .exit)) (now («open_files» .exit)) (now (processes .exit))) ≡ lentOf (act (now (policy .entry)) (store (now (files .entry)) (now (contents .entry)) (now («open_files» .entry)) (now (processes .entry))) (numbered process call descriptor number (now (path .entry)) (now («data» .entry)) (now (buffer .entry)))) ⌝ }
-{
-    store::call::act(
         files,
         contents,
         open_files,

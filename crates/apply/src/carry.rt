@@ -1,12 +1,13 @@
 // An effect is carried out on the tables. Exit and fork go through the eight descriptors, each on the tables as they then are.
 ghost use mathlib.Core.Path.{_≡_};
-ghost use Prim.Native.Nat.{ℕ};
-ghost use mathlib.Core.List.{List};
-ghost use mathlib.Core.List.{[], _∷_};
+ghost use Prim.Native.Nat.{ℕ, _+_, _*_};
+ghost use lib.Dec.{eqb};
+ghost use lib.ListN.{getD};
+ghost use Rattle.rules.specs.Layout.{PROCESS, OWN};
+ghost use mathlib.Core.List.{List, [], _∷_};
 ghost use Rattle.rules.specs.Store.{store, applyAll, Change};
 ghost use Rattle.rules.specs.Store as change;
-ghost use Rattle.rules.specs.Paths.{names, lastName};
-ghost use Rattle.rules.specs.Effects.{shared, sharedAll, released, releasedAll, createChanges, linkChanges, forkChanges, carryOut};
+ghost use Rattle.rules.specs.Effects.{shared, sharedAll, released, releasedAll, forkChanges, carryOut};
 ghost use Rattle.rules.specs.Calls.{callOf};
 use descriptor_calls::fork::share;
 use descriptor_calls::release::release;
@@ -25,18 +26,24 @@ use file_effects::names::create_file;
 use file_effects::names::link_file;
 use file_effects::names::remove_directory;
 use file_effects::names::unlink_file;
-use resolution::paths::last_name;
-use rules::decision::DirChange;
 use rules::decision::Effect;
-use rules::decision::Record;
 use rules::ids::Fd;
 use rules::ids::Pid;
-use rules::ids::Slot;
 use rules::request::Request;
 use tables::layout::DESCRIPTORS;
+use tables::layout::OWN;
+use tables::layout::PROCESS;
+use tables::words::get;
+
+// The word of a descriptor is 0: it holds nothing.
+fn holds_nothing(processes: &[u32], p: Pid, i: u8) -> bool
+    ensures { λ r. ⌜ r ≡ eqb (getD (now (processes .entry)) (PROCESS * (p .0) + (OWN + i)) 0) 0 ⌝ }
+{
+    get(processes, PROCESS * (p.0 as usize) + (OWN + (i as usize))) == 0
+}
 
 // One descriptor of a process that ends.
-fn release_one(
+fn release_held(
     files: &mut [u32],
     contents: &mut [u8],
     opens: &mut [u32],
@@ -48,6 +55,23 @@ fn release_one(
 {
     let r = release(files, opens, processes, p, Fd(i));
     close_descriptor(files, contents, opens, processes, p, Fd(i), r);
+}
+
+// The same, and quicker where nothing is held: there nothing changes.
+fn release_one(
+    files: &mut [u32],
+    contents: &mut [u8],
+    opens: &mut [u32],
+    processes: &mut [u32],
+    p: Pid,
+    i: u8,
+)
+    ensures { λ _. ⌜ store (now (files .exit)) (now (contents .exit)) (now (opens .exit)) (now (processes .exit)) ≡ released p i (store (now (files .entry)) (now (contents .entry)) (now (opens .entry)) (now (processes .entry))) ⌝ }
+{
+    if holds_nothing(processes, p, i) {
+        return;
+    }
+    release_held(files, contents, opens, processes, p, i);
 }
 
 fn release_all(
@@ -67,94 +91,29 @@ fn release_all(
 }
 
 // One descriptor of a child.
-fn share_one(
-    files: &mut [u32],
-    contents: &mut [u8],
-    opens: &mut [u32],
-    processes: &mut [u32],
-    p: Pid,
-    q: Pid,
-    i: u8,
-)
-    ensures { λ _. ⌜ store (now (files .exit)) (now (contents .exit)) (now (opens .exit)) (now (processes .exit)) ≡ shared p q i (store (now (files .entry)) (now (contents .entry)) (now (opens .entry)) (now (processes .entry))) ⌝ }
+fn share_one(opens: &mut [u32], processes: &mut [u32], p: Pid, q: Pid, i: u8)
+    ensures { λ _. ⌜ ((F C : List ℕ) → store F C (now (opens .exit)) (now (processes .exit)) ≡ shared p q i (store F C (now (opens .entry)) (now (processes .entry)))) ⌝ }
 {
     let s = share(opens, processes, p, Fd(i));
-    share_descriptor(files, contents, opens, processes, q, Fd(i), s);
+    share_descriptor(opens, processes, q, Fd(i), s);
 }
 
-fn share_all(
-    files: &mut [u32],
-    contents: &mut [u8],
-    opens: &mut [u32],
-    processes: &mut [u32],
-    p: Pid,
-    q: Pid,
-)
-    ensures { λ _. ⌜ store (now (files .exit)) (now (contents .exit)) (now (opens .exit)) (now (processes .exit)) ≡ sharedAll p q (store (now (files .entry)) (now (contents .entry)) (now (opens .entry)) (now (processes .entry))) ⌝ }
+fn share_all(opens: &mut [u32], processes: &mut [u32], p: Pid, q: Pid)
+    ensures { λ _. ⌜ ((F C : List ℕ) → store F C (now (opens .exit)) (now (processes .exit)) ≡ sharedAll p q (store F C (now (opens .entry)) (now (processes .entry)))) ⌝ }
 {
     let mut i: u8 = 0;
     while i < DESCRIPTORS {
-        share_one(files, contents, opens, processes, p, q, i);
+        share_one(opens, processes, p, q, i);
         i += 1;
     }
 }
 
-// A new file or directory under the last name of the path.
-fn create(
-    files: &mut [u32],
-    contents: &mut [u8],
-    opens: &mut [u32],
-    processes: &mut [u32],
-    path: &[u8],
-    d: DirChange,
-    s: Slot,
-    r: Record,
-)
-    ensures { λ _. ⌜ store (now (files .exit)) (now (contents .exit)) (now (opens .exit)) (now (processes .exit)) ≡ applyAll (createChanges (lastName (names (now (path .entry)))) d s r) (store (now (files .entry)) (now (contents .entry)) (now (opens .entry)) (now (processes .entry))) ⌝ }
-{
-    create_file(files, contents, opens, processes, last_name(path), d, s, r);
-}
-
-// A new name, the last of the path, for a file.
-fn link(
-    files: &mut [u32],
-    contents: &mut [u8],
-    opens: &mut [u32],
-    processes: &mut [u32],
-    path: &[u8],
-    d: DirChange,
-    s: Slot,
-    links: u32,
-)
-    ensures { λ _. ⌜ store (now (files .exit)) (now (contents .exit)) (now (opens .exit)) (now (processes .exit)) ≡ applyAll (linkChanges (lastName (names (now (path .entry)))) d s links) (store (now (files .entry)) (now (contents .entry)) (now (opens .entry)) (now (processes .entry))) ⌝ }
-{
-    link_file(
-        files,
-        contents,
-        opens,
-        processes,
-        last_name(path),
-        d,
-        s,
-        links,
-    );
-}
-
 // A child, with its parent's descriptors.
-fn fork(
-    files: &mut [u32],
-    contents: &mut [u8],
-    opens: &mut [u32],
-    processes: &mut [u32],
-    p: Pid,
-    q: Pid,
-    user: u32,
-    label: u32,
-)
-    ensures { λ _. ⌜ store (now (files .exit)) (now (contents .exit)) (now (opens .exit)) (now (processes .exit)) ≡ applyAll (forkChanges q user label) (sharedAll p q (store (now (files .entry)) (now (contents .entry)) (now (opens .entry)) (now (processes .entry)))) ⌝ }
+fn fork(opens: &mut [u32], processes: &mut [u32], p: Pid, q: Pid, user: u32, label: u32)
+    ensures { λ _. ⌜ ((F C : List ℕ) → store F C (now (opens .exit)) (now (processes .exit)) ≡ applyAll (forkChanges q user label) (sharedAll p q (store F C (now (opens .entry)) (now (processes .entry))))) ⌝ }
 {
-    share_all(files, contents, opens, processes, p, q);
-    make_process(files, contents, opens, processes, q, user, label);
+    share_all(opens, processes, p, q);
+    make_process(processes, q, user, label);
 }
 
 // A process ends.
@@ -162,7 +121,7 @@ fn exit(files: &mut [u32], contents: &mut [u8], opens: &mut [u32], processes: &m
     ensures { λ _. ⌜ store (now (files .exit)) (now (contents .exit)) (now (opens .exit)) (now (processes .exit)) ≡ applyAll (change.procZero (p .0) ∷ []) (releasedAll p (store (now (files .entry)) (now (contents .entry)) (now (opens .entry)) (now (processes .entry)))) ⌝ }
 {
     release_all(files, contents, opens, processes, p);
-    free_process(files, contents, opens, processes, p);
+    free_process(processes, p);
 }
 
 // What an effect does.
@@ -181,19 +140,19 @@ pub fn carry_out(
     let p = c.process;
     match e {
         Effect::Nothing => {}
-        Effect::Opened(n) => open_file(files, contents, opens, processes, p, n),
+        Effect::Opened(n) => open_file(opens, processes, p, n),
         Effect::Truncated(n, r) => open_truncated(files, contents, opens, processes, p, n, r),
-        Effect::Created(d, s, r) => create(files, contents, opens, processes, path, d, s, r),
-        Effect::Unlinked(d, u) => unlink_file(files, contents, opens, processes, d, u),
-        Effect::Removed(d, s, r) => remove_directory(files, contents, opens, processes, d, s, r),
-        Effect::Linked(d, s, n) => link(files, contents, opens, processes, bytes, d, s, n),
-        Effect::BitsChanged(s, b) => change_bits(files, contents, opens, processes, s, b),
+        Effect::Created(d, s, r) => create_file(files, contents, path, d, s, r),
+        Effect::Unlinked(d, u) => unlink_file(files, contents, d, u),
+        Effect::Removed(d, s, r) => remove_directory(files, contents, d, s, r),
+        Effect::Linked(d, s, n) => link_file(files, contents, bytes, d, s, n),
+        Effect::BitsChanged(s, b) => change_bits(files, s, b),
         Effect::Closed(i, r) => close_descriptor(files, contents, opens, processes, p, i, r),
-        Effect::Stored(w) => write_bytes(files, contents, opens, processes, bytes, w),
-        Effect::Moved(o, at) => move_offset(files, contents, opens, processes, o, at),
-        Effect::Duplicated(i, o, n) => duplicate(files, contents, opens, processes, p, i, o, n),
-        Effect::Forked(q, u, l) => fork(files, contents, opens, processes, p, q, u, l),
+        Effect::Stored(w) => write_bytes(files, contents, opens, bytes, w),
+        Effect::Moved(o, at) => move_offset(opens, o, at),
+        Effect::Duplicated(i, o, n) => duplicate(opens, processes, p, i, o, n),
+        Effect::Forked(q, u, l) => fork(opens, processes, p, q, u, l),
         Effect::Exited => exit(files, contents, opens, processes, p),
-        Effect::Relabelled(l) => relabel_process(files, contents, opens, processes, p, l),
+        Effect::Relabelled(l) => relabel_process(processes, p, l),
     }
 }

@@ -21,15 +21,8 @@ use tables::numbers::up_one;
 use tables::words::put;
 use tables::words::zero_words;
 
-pub fn open_file(
-    files: &mut [u32],
-    contents: &mut [u8],
-    opens: &mut [u32],
-    processes: &mut [u32],
-    p: Pid,
-    n: NewOpen,
-)
-    ensures { λ _. ⌜ store (now (files .exit)) (now (contents .exit)) (now (opens .exit)) (now (processes .exit)) ≡ applyAll (openChanges p n) (store (now (files .entry)) (now (contents .entry)) (now (opens .entry)) (now (processes .entry))) ⌝ }
+pub fn open_file(opens: &mut [u32], processes: &mut [u32], p: Pid, n: NewOpen)
+    ensures { λ _. ⌜ ((F C : List ℕ) → store F C (now (opens .exit)) (now (processes .exit)) ≡ applyAll (openChanges p n) (store F C (now (opens .entry)) (now (processes .entry)))) ⌝ }
 {
     let s = n.slot;
     let mode = n.mode;
@@ -51,7 +44,7 @@ pub fn open_truncated(
     ensures { λ _. ⌜ store (now (files .exit)) (now (contents .exit)) (now (opens .exit)) (now (processes .exit)) ≡ applyAll (truncateChanges p n r) (store (now (files .entry)) (now (contents .entry)) (now (opens .entry)) (now (processes .entry))) ⌝ }
 {
     let s = n.slot;
-    open_file(files, contents, opens, processes, p, n);
+    open_file(opens, processes, p, n);
     clear_slot(files, contents, s, r);
 }
 
@@ -91,8 +84,6 @@ pub fn close_descriptor(
 
 // One descriptor more for an open file: its offset is shared.
 pub fn duplicate_descriptor(
-    files: &mut [u32],
-    contents: &mut [u8],
     opens: &mut [u32],
     processes: &mut [u32],
     p: Pid,
@@ -100,43 +91,28 @@ pub fn duplicate_descriptor(
     e: u32,
     references: u32,
 )
-    ensures { λ _. ⌜ store (now (files .exit)) (now (contents .exit)) (now (opens .exit)) (now (processes .exit)) ≡ applyAll (duplicateChanges p i e references) (store (now (files .entry)) (now (contents .entry)) (now (opens .entry)) (now (processes .entry))) ⌝ }
+    ensures { λ _. ⌜ ((F C : List ℕ) → store F C (now (opens .exit)) (now (processes .exit)) ≡ applyAll (duplicateChanges p i e references) (store F C (now (opens .entry)) (now (processes .entry)))) ⌝ }
 {
     put_descriptor(processes, p, i, up_one(e));
     put(opens, OPEN * (e as usize) + REFERENCES, references);
 }
 
 // A child gets what its parent's descriptor holds.
-pub fn share_descriptor(
-    files: &mut [u32],
-    contents: &mut [u8],
-    opens: &mut [u32],
-    processes: &mut [u32],
-    child: Pid,
-    i: Fd,
-    given: Share,
-)
-    ensures { λ _. ⌜ store (now (files .exit)) (now (contents .exit)) (now (opens .exit)) (now (processes .exit)) ≡ applyAll (shareChanges child i given) (store (now (files .entry)) (now (contents .entry)) (now (opens .entry)) (now (processes .entry))) ⌝ }
+pub fn share_descriptor(opens: &mut [u32], processes: &mut [u32], child: Pid, i: Fd, given: Share)
+    ensures { λ _. ⌜ ((F C : List ℕ) → store F C (now (opens .exit)) (now (processes .exit)) ≡ applyAll (shareChanges child i given) (store F C (now (opens .entry)) (now (processes .entry)))) ⌝ }
 {
     match given {
         Share::Nothing => {
             put_descriptor(processes, child, i, 0);
         }
         Share::Held(e, references) => {
-            duplicate_descriptor(files, contents, opens, processes, child, i, e, references);
+            duplicate_descriptor(opens, processes, child, i, e, references);
         }
     }
 }
 
-pub fn move_offset(
-    files: &mut [u32],
-    contents: &mut [u8],
-    opens: &mut [u32],
-    processes: &mut [u32],
-    e: u32,
-    offset: u32,
-)
-    ensures { λ _. ⌜ store (now (files .exit)) (now (contents .exit)) (now (opens .exit)) (now (processes .exit)) ≡ applyAll (openWord e OFFSET offset ∷ []) (store (now (files .entry)) (now (contents .entry)) (now (opens .entry)) (now (processes .entry))) ⌝ }
+pub fn move_offset(opens: &mut [u32], e: u32, offset: u32)
+    ensures { λ _. ⌜ ((F C P : List ℕ) → store F C (now (opens .exit)) P ≡ applyAll (openWord e OFFSET offset ∷ []) (store F C (now (opens .entry)) P)) ⌝ }
 {
     put(opens, OPEN * (e as usize) + OFFSET, offset);
 }

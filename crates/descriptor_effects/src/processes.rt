@@ -1,6 +1,7 @@
 // Processes: made, freed, relabelled. Fork and exit go through the descriptors first, by `opens`.
 ghost use mathlib.Core.Path.{_≡_};
-ghost use mathlib.Core.List.{[], _∷_};
+ghost use mathlib.Core.List.{List, [], _∷_};
+ghost use Prim.Native.Nat.{ℕ};
 ghost use Rattle.rules.specs.Layout.{DOMAIN};
 ghost use Rattle.rules.specs.Store.{store, procWord, procZero, applyAll};
 ghost use Rattle.rules.specs.Effects.{forkChanges};
@@ -12,16 +13,8 @@ use tables::layout::USER;
 use tables::words::put;
 use tables::words::zero_words;
 
-pub fn make_process(
-    files: &mut [u32],
-    contents: &mut [u8],
-    opens: &mut [u32],
-    processes: &mut [u32],
-    child: Pid,
-    user: u32,
-    label: u32,
-)
-    ensures { λ _. ⌜ store (now (files .exit)) (now (contents .exit)) (now (opens .exit)) (now (processes .exit)) ≡ applyAll (forkChanges child user label) (store (now (files .entry)) (now (contents .entry)) (now (opens .entry)) (now (processes .entry))) ⌝ }
+pub fn make_process(processes: &mut [u32], child: Pid, user: u32, label: u32)
+    ensures { λ _. ⌜ ((F C E : List ℕ) → store F C E (now (processes .exit)) ≡ applyAll (forkChanges child user label) (store F C E (now (processes .entry)))) ⌝ }
 {
     let at = PROCESS * (child.0 as usize);
     put(processes, at + USED, 1);
@@ -29,27 +22,14 @@ pub fn make_process(
     put(processes, at + DOMAIN, label);
 }
 
-pub fn free_process(
-    files: &mut [u32],
-    contents: &mut [u8],
-    opens: &mut [u32],
-    processes: &mut [u32],
-    p: Pid,
-)
-    ensures { λ _. ⌜ store (now (files .exit)) (now (contents .exit)) (now (opens .exit)) (now (processes .exit)) ≡ applyAll (procZero (p .0) ∷ []) (store (now (files .entry)) (now (contents .entry)) (now (opens .entry)) (now (processes .entry))) ⌝ }
+pub fn free_process(processes: &mut [u32], p: Pid)
+    ensures { λ _. ⌜ ((F C E : List ℕ) → store F C E (now (processes .exit)) ≡ applyAll (procZero (p .0) ∷ []) (store F C E (now (processes .entry)))) ⌝ }
 {
     zero_words(processes, PROCESS * (p.0 as usize) + 0, PROCESS);
 }
 
-pub fn relabel_process(
-    files: &mut [u32],
-    contents: &mut [u8],
-    opens: &mut [u32],
-    processes: &mut [u32],
-    p: Pid,
-    label: u32,
-)
-    ensures { λ _. ⌜ store (now (files .exit)) (now (contents .exit)) (now (opens .exit)) (now (processes .exit)) ≡ applyAll (procWord (p .0) DOMAIN label ∷ []) (store (now (files .entry)) (now (contents .entry)) (now (opens .entry)) (now (processes .entry))) ⌝ }
+pub fn relabel_process(processes: &mut [u32], p: Pid, label: u32)
+    ensures { λ _. ⌜ ((F C E : List ℕ) → store F C E (now (processes .exit)) ≡ applyAll (procWord (p .0) DOMAIN label ∷ []) (store F C E (now (processes .entry)))) ⌝ }
 {
     put(processes, PROCESS * (p.0 as usize) + DOMAIN, label);
 }

@@ -1,7 +1,7 @@
 // A file's bytes and permission bits.
 ghost use mathlib.Core.Path.{_≡_};
-ghost use mathlib.Core.List.{[], _∷_};
-ghost use Prim.Native.Nat.{_+_, _*_};
+ghost use mathlib.Core.List.{List, [], _∷_};
+ghost use Prim.Native.Nat.{ℕ, _+_, _*_};
 ghost use lib.Seq.{sets};
 ghost use Rattle.rules.specs.Layout.{BITS, BLOCK};
 ghost use Rattle.rules.specs.Store.{store, zeros, fileWord, applyAll};
@@ -34,11 +34,10 @@ pub fn write_bytes(
     files: &mut [u32],
     contents: &mut [u8],
     opens: &mut [u32],
-    processes: &mut [u32],
     bytes: &[u8],
     w: Placement,
 )
-    ensures { λ _. ⌜ store (now (files .exit)) (now (contents .exit)) (now (opens .exit)) (now (processes .exit)) ≡ applyAll (storeChanges (now (bytes .entry)) w) (store (now (files .entry)) (now (contents .entry)) (now (opens .entry)) (now (processes .entry))) ⌝ }
+    ensures { λ _. ⌜ ((P : List ℕ) → store (now (files .exit)) (now (contents .exit)) (now (opens .exit)) P ≡ applyAll (storeChanges (now (bytes .entry)) w) (store (now (files .entry)) (now (contents .entry)) (now (opens .entry)) P)) ⌝ }
 {
     let s = w.slot;
     put_bytes(contents, bytes, w);
@@ -47,15 +46,8 @@ pub fn write_bytes(
     put(opens, OPEN * (w.ofd as usize) + OFFSET, w.offset);
 }
 
-pub fn change_bits(
-    files: &mut [u32],
-    contents: &mut [u8],
-    opens: &mut [u32],
-    processes: &mut [u32],
-    s: Slot,
-    bits: Bits,
-)
-    ensures { λ _. ⌜ store (now (files .exit)) (now (contents .exit)) (now (opens .exit)) (now (processes .exit)) ≡ applyAll (fileWord (s .0) BITS (bits .0) ∷ []) (store (now (files .entry)) (now (contents .entry)) (now (opens .entry)) (now (processes .entry))) ⌝ }
+pub fn change_bits(files: &mut [u32], s: Slot, bits: Bits)
+    ensures { λ _. ⌜ ((C E P : List ℕ) → store (now (files .exit)) C E P ≡ applyAll (fileWord (s .0) BITS (bits .0) ∷ []) (store (now (files .entry)) C E P)) ⌝ }
 {
     put(files, FILE * (s.0 as usize) + BITS, bits.0);
 }

@@ -3,7 +3,9 @@ ghost use mathlib.Core.Path.{_≡_};
 ghost use mathlib.Core.List.{List};
 ghost use Prim.Native.Nat.{ℕ};
 ghost use Rattle.rules.specs.Store.{store, applyAll};
+ghost use Rattle.rules.specs.Paths.{names, lastName};
 ghost use Rattle.rules.specs.Effects.{nameChanges, unnameChanges, createChanges, linkChanges, unnamedChanges, unlinkChanges, removeChanges};
+use resolution::paths::last_name;
 use rows::rows::clear_slot;
 use rows::rows::put_directory;
 use rows::rows::put_dirent;
@@ -41,38 +43,34 @@ fn remove_name(files: &mut [u32], contents: &mut [u8], d: DirChange)
     put_directory(files, d);
 }
 
-// A new file or directory.
+// A new file or directory, under the last name of the path.
 pub fn create_file(
     files: &mut [u32],
     contents: &mut [u8],
-    opens: &mut [u32],
-    processes: &mut [u32],
-    name: &[u8],
+    path: &[u8],
     d: DirChange,
     s: Slot,
     r: Record,
 )
-    ensures { λ _. ⌜ store (now (files .exit)) (now (contents .exit)) (now (opens .exit)) (now (processes .exit)) ≡ applyAll (createChanges (now (name .entry)) d s r) (store (now (files .entry)) (now (contents .entry)) (now (opens .entry)) (now (processes .entry))) ⌝ }
+    ensures { λ _. ⌜ ((E P : List ℕ) → store (now (files .exit)) (now (contents .exit)) E P ≡ applyAll (createChanges (lastName (names (now (path .entry)))) d s r) (store (now (files .entry)) (now (contents .entry)) E P)) ⌝ }
 {
     put_record(files, s, r);
-    add_name(files, contents, name, s, d);
+    add_name(files, contents, last_name(path), s, d);
 }
 
-// One name more for a file.
+// One name more for a file, the last of the path.
 pub fn link_file(
     files: &mut [u32],
     contents: &mut [u8],
-    opens: &mut [u32],
-    processes: &mut [u32],
-    name: &[u8],
+    path: &[u8],
     d: DirChange,
     s: Slot,
     links: u32,
 )
-    ensures { λ _. ⌜ store (now (files .exit)) (now (contents .exit)) (now (opens .exit)) (now (processes .exit)) ≡ applyAll (linkChanges (now (name .entry)) d s links) (store (now (files .entry)) (now (contents .entry)) (now (opens .entry)) (now (processes .entry))) ⌝ }
+    ensures { λ _. ⌜ ((E P : List ℕ) → store (now (files .exit)) (now (contents .exit)) E P ≡ applyAll (linkChanges (lastName (names (now (path .entry)))) d s links) (store (now (files .entry)) (now (contents .entry)) E P)) ⌝ }
 {
     put(files, FILE * (s.0 as usize) + LINKS, links);
-    add_name(files, contents, name, s, d);
+    add_name(files, contents, last_name(path), s, d);
 }
 
 // A plain file has one name less, or is freed.
@@ -89,30 +87,15 @@ fn lose_name(files: &mut [u32], contents: &mut [u8], u: Unnamed)
     }
 }
 
-pub fn unlink_file(
-    files: &mut [u32],
-    contents: &mut [u8],
-    opens: &mut [u32],
-    processes: &mut [u32],
-    d: DirChange,
-    u: Unnamed,
-)
-    ensures { λ _. ⌜ store (now (files .exit)) (now (contents .exit)) (now (opens .exit)) (now (processes .exit)) ≡ applyAll (unlinkChanges d u) (store (now (files .entry)) (now (contents .entry)) (now (opens .entry)) (now (processes .entry))) ⌝ }
+pub fn unlink_file(files: &mut [u32], contents: &mut [u8], d: DirChange, u: Unnamed)
+    ensures { λ _. ⌜ ((E P : List ℕ) → store (now (files .exit)) (now (contents .exit)) E P ≡ applyAll (unlinkChanges d u) (store (now (files .entry)) (now (contents .entry)) E P)) ⌝ }
 {
     remove_name(files, contents, d);
     lose_name(files, contents, u);
 }
 
-pub fn remove_directory(
-    files: &mut [u32],
-    contents: &mut [u8],
-    opens: &mut [u32],
-    processes: &mut [u32],
-    d: DirChange,
-    s: Slot,
-    r: Record,
-)
-    ensures { λ _. ⌜ store (now (files .exit)) (now (contents .exit)) (now (opens .exit)) (now (processes .exit)) ≡ applyAll (removeChanges d s r) (store (now (files .entry)) (now (contents .entry)) (now (opens .entry)) (now (processes .entry))) ⌝ }
+pub fn remove_directory(files: &mut [u32], contents: &mut [u8], d: DirChange, s: Slot, r: Record)
+    ensures { λ _. ⌜ ((E P : List ℕ) → store (now (files .exit)) (now (contents .exit)) E P ≡ applyAll (removeChanges d s r) (store (now (files .entry)) (now (contents .entry)) E P)) ⌝ }
 {
     remove_name(files, contents, d);
     clear_slot(files, contents, s, r);

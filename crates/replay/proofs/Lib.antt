@@ -1,4 +1,2 @@
 -- Laws of a run.
-pub mod TurnLaws
-pub mod BlockTurns
 pub mod RunLaws

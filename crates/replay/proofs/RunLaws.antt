@@ -19,10 +19,10 @@ use Rattle.script_rules.specs.declared.line.Line.{Line}
 use Rattle.script_rules.specs.declared.line.Line.the-variants as line
 use Rattle.script_rules.specs.declared.replayed.Reason.{Reason}
 use Rattle.script_rules.specs.declared.replayed.Reason.the-variants as reason
-use Rattle.replay.specs.Turns.{Turned, turned, turnOf}
+use Rattle.script_turn.specs.Turns.{Turned, turned, turnOf}
 use Rattle.replay.specs.Runs.{Left, left, leftBy}
-use Rattle.replay.specs.declared.turn.Turn.{Turn}
-use Rattle.replay.specs.declared.turn.Turn.the-variants as turn
+use Rattle.script_turn.specs.declared.turn.Turn.{Turn}
+use Rattle.script_turn.specs.declared.turn.Turn.the-variants as turn
 
 -- ---- what is left of a script is a part of it
 

@@ -1,3 +1,2 @@
 // Scripts replayed on the lent tables.
 pub mod run;
-mod turn;

@@ -4,9 +4,9 @@ ghost use lib.ListN.{length};
 ghost use Rattle.rules.specs.Store.{store};
 ghost use Rattle.script_rules.specs.Replay.{replay};
 ghost use Rattle.replay.specs.Runs.{left, leftBy};
-use crate::turn::Turn;
-use crate::turn::take_turn;
 use script_rules::replayed::Replayed;
+use script_turn::turn::Turn;
+use script_turn::turn::take_turn;
 use tables::parts::after;
 
 // The calls of a script, from its start on. The result has how many were answered, where the next begins, how much of the output holds answers,

@@ -1,4 +1,4 @@
--- The proof of demand 3, `secrecy` of Secrecy; that it is not empty, Console; and that each supposition is needed, Needed.
+-- The proof of demand 3, `secrecy` of Secrecy.
 pub mod Agree
 pub mod Tables
 pub mod Related
@@ -8,6 +8,3 @@ pub mod Facts
 pub mod Kept
 pub mod Alike
 pub mod Secrecy
-pub mod Quick
-pub mod Needed
-pub mod Console

@@ -1,3 +1,2 @@
--- Demand 3, stated; and the runs by which each of its suppositions is needed.
+-- Demand 3, stated.
 pub mod Claim
-pub mod Needed

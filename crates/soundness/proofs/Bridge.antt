@@ -15,10 +15,10 @@ use Rattle.rules.specs.Paths.{sameAt, sameName}
 use Rattle.rules.specs.Directories.{isEmpty, isPadding}
 use Rattle.rules.specs.Sound.{differs, isNew, linksTo, linksSound, isParent, parentOf, climbs, directorySound, kindSound, slotSound, holders, openSound}
 use Rattle.rules.proofs.Scans.{all-yes, all-no, all-done, all-of}
-use Rattle.soundness.specs.Census.{PLACES, links, parents, held}
+use Rattle.census.specs.Census.{PLACES, links, parents, held}
 use Rattle.soundness.specs.Counted.{otherThan, linksSoundBy, climbsBy, directorySoundBy, kindSoundBy, slotSoundBy, openSoundBy}
-use Rattle.soundness.proofs.Counting.{first-le}
-use Rattle.soundness.proofs.Counts.{links-at, parents-at, held-at}
+use Rattle.census.proofs.Counting.{first-le}
+use Rattle.census.proofs.Counts.{links-at, parents-at, held-at}
 
 -- two tests that agree on each number agree on all
 all-same-from : (p q : ℕ → Bool) (k i n : ℕ) → n - i ≡ k → ((j : ℕ) → j < n → p j ≡ q j) → all p i n ≡ all q i n

@@ -1,7 +1,4 @@
--- Laws of the loops of this crate, and that what is counted is what the rules count.
+-- Laws of the loops of this crate, and that its tests are the rules'.
 pub mod Bridge
-pub mod Counts
 pub mod Climbs
-pub mod Counting
 pub mod Flags
-pub mod Folds

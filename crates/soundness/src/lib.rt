@@ -1,6 +1,5 @@
 // "Sound": the test that runs before every call, of the store and of the policy apart.
 mod bytes;
-mod census;
 mod directories;
 mod fields;
 mod files;

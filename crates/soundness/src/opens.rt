@@ -9,10 +9,10 @@ ghost use Rattle.rules.specs.Layout.{OPEN, OPENS, SLOT, REFERENCES, SLOTS, PLAI
 ghost use Rattle.rules.specs.Store.{tab, view, store};
 ghost use Rattle.rules.specs.Sound.{openFree, openUsed, openSound};
 ghost use Rattle.soundness.specs.Counted.{openSoundBy};
-use crate::census::count_held;
 use crate::fields::at_least;
 use crate::fields::at_most;
 use crate::fields::is_word;
+use census::count::count_held;
 use tables::layout::FILE;
 use tables::layout::KIND;
 use tables::layout::LENGTH_MAX;

@@ -3,37 +3,16 @@ ghost use mathlib.Core.Path.{_≡_};
 ghost use Rattle.rules.specs.Store.{store};
 ghost use Rattle.rules.specs.Step.{outcomeOf, act, step};
 ghost use Rattle.rules.specs.Calls.{callOf};
-ghost use Rattle.store.specs.Lent.{lent, lentOf, granting};
+ghost use Rattle.store.specs.Lent.{lent, lentOf};
 use apply::carry::carry_out;
 use reply::answer::refused_answer;
 use reply::answer::say;
 use rules::answer::Answer;
 use rules::decision::Decision;
-use rules::decision::Effect;
-use rules::decision::Output;
 use rules::refusal::Refusal;
 use rules::request::Request;
 
-fn grant(
-    files: &mut [u32],
-    contents: &mut [u8],
-    opens: &mut [u32],
-    processes: &mut [u32],
-    c: Request,
-    path: &[u8],
-    bytes: &[u8],
-    buffer: &mut [u8],
-    value: u32,
-    o: Output,
-    e: Effect,
-) -> Answer
-    ensures { λ r. ⌜ lent r (now (buffer .exit)) (store (now (files .exit)) (now (contents .exit)) (now (opens .exit)) (now (processes .exit))) ≡ granting (store (now (files .entry)) (now (contents .entry)) (now (opens .entry)) (now (processes .entry))) (callOf c (now (path .entry)) (now (bytes .entry)) (now (buffer .entry))) value o e ⌝ }
-{
-    let a = say(files, contents, opens, processes, buffer, value, o);
-    carry_out(files, contents, opens, processes, c, path, bytes, e);
-    a
-}
-
+// What a decision is answered, and what it does.
 fn settle(
     files: &mut [u32],
     contents: &mut [u8],
@@ -49,19 +28,11 @@ fn settle(
 {
     match d {
         Decision::Refused(why, stop) => refused_answer(why, stop),
-        Decision::Granted(value, o, e) => grant(
-            files,
-            contents,
-            opens,
-            processes,
-            c,
-            path,
-            bytes,
-            buffer,
-            value,
-            o,
-            e,
-        ),
+        Decision::Granted(value, o, e) => {
+            let a = say(files, contents, opens, processes, buffer, value, o);
+            carry_out(files, contents, opens, processes, c, path, bytes, e);
+            a
+        }
     }
 }
 

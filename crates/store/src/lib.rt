@@ -1,3 +1,2 @@
-// The store: one call on the lent tables, whole or in its stages.
+// The store: one call on the lent tables.
 pub mod call;
-pub mod stages;

@@ -2,6 +2,9 @@ use borrow.Author.Needs.{needs}
 use Rattle.apply.proofs.carry.fork.Statement.{statement}
 use Rattle.apply.proofs.carry.fork.Tie as tie
 
+returns : tie.Need-returns
+returns c = λ F C. rw (← c .before .before .before .before .before .before .before .before .share-all .ensures F C) (c .before .before .make-process .ensures F C _)
+
 pub fork-spec : {M : Type 1} → statement M
 fork-spec =
     tie.close
@@ -10,6 +13,4 @@ fork-spec =
     (λ c κs. tt)
     (λ c. search needs)
     (λ c. search needs)
-    (λ c. search needs)
-    (λ c. search needs)
-    (λ c. rw (c .before .before .before .before .before .before .before .before .before .before .before .before .before .before .before .before .before .before .before .before .before .share-all .ensures) at (c .before .before .before .before .before .before .before .before .make-process .ensures)))
+    returns)

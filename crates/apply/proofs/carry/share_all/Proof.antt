@@ -1,6 +1,7 @@
 use borrow.Author.Needs.{needs}
 use mathlib.Core.Path.{_≡_, refl}
-use Prim.Native.Nat.{_-_}
+use mathlib.Core.List.{List}
+use Prim.Native.Nat.{ℕ, _-_}
 use lib.ListN.{length}
 use Rattle.rules.specs.Scan.{repeat}
 use Rattle.rules.specs.Store.{store}
@@ -10,19 +11,19 @@ use Rattle.apply.proofs.carry.share_all.Statement.{statement}
 use Rattle.apply.proofs.carry.share_all.Tie as tie
 
 abbrev Inv-loop : tie.InvT-loop
-Inv-loop files₀ contents₀ opens₀ processes₀ p q i₀ files contents opens processes i =
-    (length files ≡ length files₀) × (length contents ≡ length contents₀) × (length opens ≡ length opens₀) × (length processes ≡ length processes₀)
-    × (repeat (shared p q) i 8 (store files contents opens processes) ≡ repeat (shared p q) 0 8 (store files₀ contents₀ opens₀ processes₀))
+Inv-loop opens₀ processes₀ p q i₀ opens processes i =
+    (length opens ≡ length opens₀) × (length processes ≡ length processes₀)
+    × ((F C : List ℕ) → repeat (shared p q) i 8 (store F C opens processes) ≡ repeat (shared p q) 0 8 (store F C opens₀ processes₀))
 
 abbrev μ-loop : tie.MeasureT-loop
-μ-loop files₀ contents₀ opens₀ processes₀ p q i₀ files contents opens processes i = 8 - i
+μ-loop opens₀ processes₀ p q i₀ opens processes i = 8 - i
 
 loop-again : tie.Need-loop-again Inv-loop μ-loop
-loop-again c = (search needs, search needs, search needs, search needs, rw (c .before .before .before .before .before .before .before .before .share-one .ensures) (repeat-step _ _ _ _ (c .before .before .before .before .before .before .before .before .before .before .before .before .before .before .loop .inv .4) (c .before .before .before .before .before .before .before .before .before .before .before .before .before .loop-test .taken)))
+loop-again c = (search needs, search needs, λ F C. rw (c .before .before .before .before .share-one .ensures F C) (repeat-step _ _ _ _ (c .before .before .before .before .before .before .before .before .loop .inv .2 F C) (c .before .before .before .before .before .before .before .loop-test .taken)))
 
 returns : tie.Need-returns Inv-loop μ-loop
 unfolding sharedAll
-returns c = repeat-done _ _ _ _ (c .before .loop .inv .4) (c .loop-test .left)
+returns c = λ F C. repeat-done _ _ _ _ (c .before .loop .inv .2 F C) (c .loop-test .left)
 
 pub share-all-spec : {M : Type 1} → statement M
 share-all-spec =
@@ -30,13 +31,11 @@ share-all-spec =
     (tie.spec
     Inv-loop
     μ-loop
-    (λ c. search needs)
+    (λ c. (refl, refl, λ F C. refl))
     (λ c κs. search needs)
     (λ c. search needs)
     (λ c. search needs)
     loop-again
-    (λ c. search needs)
-    (λ c. search needs)
     (λ c. search needs)
     (λ c. search needs)
     returns)

@@ -16,4 +16,4 @@ duplicate-descriptor-spec =
     (λ c κs. tt)
     (λ c. search needs)
     (λ c. search needs)
-    (λ c. rw (c .before .before .put .ensures, c .before .before .before .before .before .before .put-descriptor .ensures, c .before .before .before .before .before .before .before .up-one .ensures)))
+    (λ c. λ F C. rw (c .before .before .put .ensures, c .before .before .before .before .before .before .put-descriptor .ensures, c .before .before .before .before .before .before .before .up-one .ensures)))

@@ -12,4 +12,4 @@ move-offset-spec =
     (λ c. search needs)
     (λ c κs. tt)
     (λ c. search needs)
-    (λ c. rw (c .before .before .put .ensures)))
+    (λ c. λ F C P. rw (c .before .before .put .ensures)))

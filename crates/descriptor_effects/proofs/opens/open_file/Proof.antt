@@ -14,4 +14,4 @@ open-file-spec =
     (λ c κs. tt)
     (λ c. search needs)
     (λ c. search needs)
-    (λ c. rw (c .before .before .put-descriptor .ensures, c .before .before .before .up-one .ensures, c .before .before .before .before .before .before .before .put-open .ensures)))
+    (λ c. λ F C. rw (c .before .before .put-descriptor .ensures, c .before .before .before .up-one .ensures, c .before .before .before .before .before .before .before .put-open .ensures)))

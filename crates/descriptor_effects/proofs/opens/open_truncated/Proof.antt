@@ -15,4 +15,4 @@ open-truncated-spec =
     (λ c. search needs)
     (λ c. search needs)
     (λ c. search needs)
-    (λ c. in-turn _ _ _ (c .before .before .before .before .clear-slot .ensures _ _) (c .before .before .before .before .before .before .before .before .before .before .before .before .before .before .before .open-file .ensures)))
+    (λ c. in-turn _ _ _ (c .before .before .before .before .clear-slot .ensures _ _) (c .before .before .before .before .before .before .before .before .before .before .before .open-file .ensures _ _)))

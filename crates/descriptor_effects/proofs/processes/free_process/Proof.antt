@@ -13,4 +13,4 @@ free-process-spec =
     (λ c. search needs)
     (λ c κs. tt)
     (λ c. search needs)
-    (λ c. rw (c .before .before .zero-words .ensures)))
+    (λ c. λ F C E. rw (c .before .before .zero-words .ensures)))

@@ -13,4 +13,4 @@ relabel-process-spec =
     (λ c. search needs)
     (λ c κs. tt)
     (λ c. search needs)
-    (λ c. rw (c .before .before .put .ensures)))
+    (λ c. λ F C E. rw (c .before .before .put .ensures)))

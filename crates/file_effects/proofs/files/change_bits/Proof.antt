@@ -13,4 +13,4 @@ change-bits-spec =
     (λ c. search needs)
     (λ c κs. tt)
     (λ c. search needs)
-    (λ c. rw (c .before .before .put .ensures)))
+    (λ c. λ C E P. rw (c .before .before .put .ensures)))

@@ -14,6 +14,7 @@ link-file-spec =
     (λ c. search needs)
     (λ c κs. tt)
     (λ c κs. tt)
+    (λ c κs. tt)
     (λ c. search needs)
     (λ c. search needs)
-    (λ c. after-change _ _ _ (c .before .before .before .before .add-name .ensures _ _) (rw (c .before .before .before .before .before .before .before .before .before .put .ensures))))
+    (λ c. λ E P. after-change _ _ _ (rw (c .before .before .before .before .before .last-name .ensures) at (c .before .before .before .before .add-name .ensures E P)) (rw (c .before .before .before .before .before .before .before .before .before .before .put .ensures))))

@@ -13,4 +13,4 @@ remove-directory-spec =
     (λ c κs. tt)
     (λ c. search needs)
     (λ c. search needs)
-    (λ c. in-turn _ _ _ (c .before .before .before .before .clear-slot .ensures _ _) (c .before .before .before .before .before .before .before .before .before .before .before .remove-name .ensures _ _)))
+    (λ c. λ E P. in-turn _ _ _ (c .before .before .before .before .clear-slot .ensures _ _) (c .before .before .before .before .before .before .before .before .before .before .before .remove-name .ensures _ _)))

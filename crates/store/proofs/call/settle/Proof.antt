@@ -1,17 +1,32 @@
+use Prim.Native.Nat.{ℕ}
+use mathlib.Core.Path.{_≡_, ap, _∙_}
+use mathlib.Core.List.{List}
 use borrow.Author.Needs.{needs}
+use Rattle.rules.specs.Store.{Store}
+use Rattle.rules.specs.Calls.{Call}
+use Rattle.rules.specs.Effects.{carryOut}
 use Rattle.rules.specs.Step.{outcomeOf, replyTo, storeAfter}
-use Rattle.reply.specs.Answers.{saidOf}
-use Rattle.store.specs.Lent.{granting}
+use Rattle.rules.specs.declared.answer.Answer.{Answer}
+use Rattle.rules.specs.declared.decision.Output.{Output}
+use Rattle.rules.specs.declared.decision.Effect.{Effect}
+use Rattle.rules.specs.declared.decision.Decision.the-variants.{Granted}
+use Rattle.reply.specs.Answers.{Said, said, saidOf}
+use Rattle.store.specs.Lent.{Lent, lent, lentOf}
 use Rattle.store.proofs.call.settle.Statement.{statement}
 use Rattle.store.proofs.call.settle.Tie as tie
 
 returns : tie.Need-returns
-unfolding outcomeOf replyTo storeAfter granting saidOf
+unfolding outcomeOf replyTo storeAfter
 returns c = rw (c .before .before .d .given .1, c .refused-answer .ensures)
 
+-- what the output says, and then what the effect does
+granted : (s : Store) (c : Call) (n : ℕ) (o : Output) (e : Effect) {a : Answer} {b : List ℕ} {t : Store}
+    → said a b ≡ saidOf s n o (c .buffer) → t ≡ carryOut c e s → lent a b t ≡ lentOf (outcomeOf s c (Granted n o e))
+unfolding outcomeOf replyTo storeAfter saidOf
+granted s c n o e {a} {b} {t} h k = ap (λ (x : Said). lent (x .answer) (x .buffer) t) h ∙ ap (λ (x : Store). lent (saidOf s n o (c .buffer) .answer) (saidOf s n o (c .buffer) .buffer) x) k
+
 returns-2 : tie.Need-returns-2
-unfolding outcomeOf replyTo storeAfter granting saidOf
-returns-2 c = rw (c .before .before .before .before .before .before .before .before .before .before .before .before .before .before .before .before .before .d2 .given .1) (c .before .before .before .before .before .before .before .before .before .before .grant .ensures)
+returns-2 c = rw (c .before .before .before .before .before .before .before .before .before .before .before .before .before .before .before .before .before .before .before .before .before .before .d2 .given .1) (granted _ _ _ _ _ (c .before .before .before .before .before .before .before .before .before .before .before .before .before .before .before .say .ensures) (c .before .before .before .before .before .before .before .before .carry-out .ensures (c .before .before .before .before .before .before .before .before .before .before .before .before .before .before .before .before .before .before .before .before .before .before .before .before .before .before .before .before .before .before .before .args .buffer .now)))
 
 pub settle-spec : {M : Type 1} → statement M
 settle-spec =
@@ -20,6 +35,7 @@ settle-spec =
     (λ c. search needs)
     (λ c κs. tt)
     (λ c. search needs)
+    (λ c κs. tt)
     (λ c κs. tt)
     returns
     (λ c. search needs)

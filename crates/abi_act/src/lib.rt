@@ -1,0 +1,47 @@
+// The call without a soundness test, for C. It is compiled apart from the rest of the store: where nothing else calls them, the compiler makes one piece of
+// the decision, the answer and the effect, and hands nothing over in memory.
+ghost use mathlib.Core.Path.{_≡_};
+ghost use Rattle.rules.specs.Store.{store};
+ghost use Rattle.rules.specs.Step.{act};
+ghost use Rattle.store.specs.Lent.{lent, lentOf};
+ghost use Rattle.abi_act.specs.Numbered.{numbered};
+use rules::answer::Answer;
+use rules::ids::Fd;
+use rules::ids::Pid;
+use rules::request::Request;
+
+// One call on tables that are known to be sound: no test is made.
+#[no_mangle]
+pub extern "C" fn mritvelja_act(
+    files: &mut [u32],
+    contents: &mut [u8],
+    open_files: &mut [u32],
+    processes: &mut [u32],
+    policy: &[u8],
+    process: u8,
+    call: u8,
+    descriptor: u8,
+    number: u16,
+    path: &[u8],
+    data: &[u8],
+    buffer: &mut [u8],
+) -> Answer
+    ensures { λ r. ⌜ lent r (now (buffer .exit)) (store (now (files .exit)) (now (contents .exit)) (now («open_files» .exit)) (now (processes .exit))) ≡ lentOf (act (now (policy .entry)) (store (now (files .entry)) (now (contents .entry)) (now («open_files» .entry)) (now (processes .entry))) (numbered process call descriptor number (now (path .entry)) (now («data» .entry)) (now (buffer .entry)))) ⌝ }
+{
+    store::call::act(
+        files,
+        contents,
+        open_files,
+        processes,
+        policy,
+        Request {
+            process: Pid(process),
+            call: call,
+            fd: Fd(descriptor),
+            number: number,
+        },
+        path,
+        data,
+        buffer,
+    )
+}

@@ -1,0 +1,2 @@
+-- Laws of exit.
+pub mod Exits

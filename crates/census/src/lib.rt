@@ -1,0 +1,2 @@
+// What the soundness test needs counted: the links of every slot, its parent, the holders of every open file.
+pub mod count;

@@ -1,7 +1,0 @@
-use Rattle.script_rules.specs.Text.{hexOk}
-use Rattle.script.proofs.blocks.is_even.Statement.{statement}
-use Rattle.script.proofs.blocks.is_even.Tie as tie
-
-pub is-even-spec : {M : Type 1} → statement M
-unfolding hexOk
-is-even-spec = tie.close (tie.spec (λ c. cc))

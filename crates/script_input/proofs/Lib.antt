@@ -1,0 +1,2 @@
+-- Laws of blocks as they are read.
+pub mod BlockLaws

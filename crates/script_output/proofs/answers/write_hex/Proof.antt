@@ -1,0 +1,15 @@
+use native.Mathlib.Omega.{arith}
+use borrow.Author.Needs.{needs}
+use Rattle.script_output.proofs.HexLaws.{length-hex, hex-room, hex-wrote}
+use Rattle.script_output.proofs.answers.write_hex.Statement.{statement}
+use Rattle.script_output.proofs.answers.write_hex.Tie as tie
+
+pub write-hex-spec : {M : Type 1} → statement M
+write-hex-spec =
+    tie.close
+    (tie.spec
+    (λ c κs. search hex-room)
+    (λ c. search needs)
+    (λ c. omega (arith, length-hex (c .before .before .before .before .before .before .args .bytes .now)))
+    (λ c. search needs)
+    (λ c. search hex-wrote))

@@ -1,0 +1,2 @@
+// A script's output: an answer is written.
+pub mod answers;

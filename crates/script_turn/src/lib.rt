@@ -1,0 +1,2 @@
+// One block of a script, served on the lent tables.
+pub mod turn;

@@ -1,0 +1,1 @@
+// Theorems alone: the runs of specs/, computed.

@@ -1,0 +1,27 @@
+-- The stages of a call, put together, are the rules' call.
+use Prim.Native.Nat.{ℕ}
+use mathlib.Core.Path.{_≡_, refl}
+use mathlib.Core.Bool.{Bool, true, false}
+use mathlib.Core.List.{List}
+use Rattle.rules.specs.Store.{Store}
+use Rattle.rules.specs.Sound.{sound}
+use Rattle.rules.specs.Calls.{Call}
+use Rattle.rules.specs.Step.{replyTo, storeAfter, outcomeOf, act, step, answerOf}
+use Rattle.rules.specs.declared.decision.Decision.{Decision}
+use Rattle.rules.specs.declared.decision.Decision.the-variants.{Refused, Granted}
+use Rattle.reply.specs.Answers.{said, saidOf}
+use Rattle.stages.specs.Judged.{judged, answeredBy}
+
+-- a call is decided, answered and done
+pub step-judged : (Q : List ℕ) (s : Store) (c : Call) → step Q s c ≡ outcomeOf s c (judged Q s c)
+unfolding step act judged outcomeOf replyTo storeAfter
+step-judged Q s c = by (sound Q s) refl
+  where
+    by : (t : Bool) → sound Q s ≡ t → step Q s c ≡ outcomeOf s c (judged Q s c)
+    by true e = rw e
+    by false e = rw e
+
+pub reply-answered : (s : Store) (c : Call) (d : Decision) → answeredBy s d (c .buffer) ≡ said (answerOf (outcomeOf s c d .reply)) (outcomeOf s c d .reply .buffer)
+unfolding answeredBy saidOf outcomeOf replyTo
+reply-answered s c (Refused r k) = refl
+reply-answered s c (Granted n o e) = refl

@@ -1,0 +1,87 @@
+// The stages of a call: what is decided, what is answered, what is done. A run of a script asks for room before the last; `call` goes through them at
+// once, which is quicker.
+ghost use mathlib.Core.Path.{_≡_};
+ghost use mathlib.Core.List.{List};
+ghost use Prim.Native.Nat.{ℕ};
+ghost use Rattle.rules.specs.Store.{store};
+ghost use Rattle.rules.specs.Step.{storeAfter};
+ghost use Rattle.rules.specs.Calls.{callOf};
+ghost use Rattle.reply.specs.Answers.{said};
+ghost use Rattle.stages.specs.Judged.{judged, answeredBy};
+use apply::carry::carry_out;
+use decision::decide::decide_call;
+use reply::answer::refused_answer;
+use reply::answer::say;
+use rules::answer::Answer;
+use rules::decision::Decision;
+use rules::refusal::Refusal;
+use rules::request::Request;
+use soundness::store::sound;
+
+// What is decided: refused with 1 where the tables or the policy are not sound. Nothing is written.
+pub fn judge(
+    files: &[u32],
+    contents: &[u8],
+    opens: &[u32],
+    processes: &[u32],
+    policy: &[u8],
+    c: Request,
+    path: &[u8],
+    bytes: &[u8],
+    buffer: &[u8],
+) -> Decision
+    ensures { λ r. ⌜ r ≡ judged (now (policy .entry)) (store (now (files .entry)) (now (contents .entry)) (now (opens .entry)) (now (processes .entry))) (callOf c (now (path .entry)) (now (bytes .entry)) (now (buffer .entry))) ⌝ }
+{
+    if !sound(files, contents, opens, processes, policy) {
+        return Decision::Refused(Refusal::Unsound, 0);
+    }
+    decide_call(
+        files,
+        contents,
+        opens,
+        processes,
+        policy,
+        c,
+        path,
+        bytes,
+        buffer,
+    )
+}
+
+// What is answered, and the reader's buffer.
+pub fn answer(
+    files: &[u32],
+    contents: &[u8],
+    opens: &[u32],
+    processes: &[u32],
+    buffer: &mut [u8],
+    d: Decision,
+) -> Answer
+    ensures { λ r. ⌜ said r (now (buffer .exit)) ≡ answeredBy (store (now (files .entry)) (now (contents .entry)) (now (opens .entry)) (now (processes .entry))) d (now (buffer .entry)) ⌝ }
+{
+    match d {
+        Decision::Refused(why, stop) => refused_answer(why, stop),
+        Decision::Granted(value, o, e) => say(files, contents, opens, processes, buffer, value, o),
+    }
+}
+
+// What is done: nothing if it is refused.
+pub fn carry(
+    files: &mut [u32],
+    contents: &mut [u8],
+    opens: &mut [u32],
+    processes: &mut [u32],
+    c: Request,
+    path: &[u8],
+    bytes: &[u8],
+    d: Decision,
+)
+    ensures { λ _. ⌜ ((buffer : List ℕ) → store (now (files .exit)) (now (contents .exit)) (now (opens .exit)) (now (processes .exit)) ≡ storeAfter (store (now (files .entry)) (now (contents .entry)) (now (opens .entry)) (now (processes .entry))) (callOf c (now (path .entry)) (now (bytes .entry)) buffer) d) ⌝ }
+{
+    match d {
+        Decision::Refused(why, stop) => {}
+        Decision::Granted(value, o, e) => {
+            carry_out(files, contents, opens, processes, c, path, bytes, e)
+        }
+    }
+}

@@ -1,0 +1,2 @@
+// The stages of a call, one at a time.
+pub mod call;
