@@ -1,5 +1,6 @@
 -- Laws of paths.
 pub mod FirstBytes
+pub mod SameWords
 pub mod Spans
 pub mod Names
 pub mod Words

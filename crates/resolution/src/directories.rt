@@ -3,23 +3,81 @@ ghost use mathlib.Core.Path.{_≡_};
 ghost use mathlib.Core.Bool.{not};
 ghost use mathlib.Core.List.{[], _∷_};
 ghost use lib.Dec.{eqb, ltb};
-ghost use lib.ListN.{getD};
+ghost use lib.ListN.{getD, length};
+ghost use Prim.Native.Nat.{_*_, _<_, _≤_};
 ghost use Rattle.rules.specs.Choice.{every};
 ghost use Rattle.rules.specs.Scan.{count, first};
-ghost use Rattle.rules.specs.Layout.{NAME, DIRENTS};
+ghost use Rattle.rules.specs.Layout.{NAME, DIRENTS, DIRENT};
 ghost use Rattle.rules.specs.Directories.{direntAt, isEmpty, hasName, direntOf, freeDirent, differsAt, difference, precedes, isBefore, isRanked, direntRanked, isPadding, direntName};
+ghost use Rattle.resolution.specs.NameWords.{lowWord, highWord};
+use crate::name_words::eight_of;
+use crate::name_words::high_word;
+use crate::name_words::low_word;
+use crate::name_words::six_of;
 use tables::directories::dirent_at;
 use tables::directories::is_empty;
 use tables::directories::is_padding;
+use tables::layout::DIRENT;
 use tables::layout::DIRENTS;
 use tables::layout::NAME;
 use tables::parts::upto;
 use tables::words::byte;
 
-fn begins_with(dir: &[u8], i: u32, b: u8) -> bool
-    ensures { λ r. ⌜ r ≡ eqb (getD (direntAt (now (dir .entry)) i) 0 0) b ⌝ }
+// The first eight bytes of entry i are those of the word.
+fn has_low(dir: &[u8], i: u32, low: u64) -> bool
+    requires { ⌜ i < DIRENTS ⌝ }
+    requires { ⌜ DIRENTS * DIRENT ≤ length (now dir) ⌝ }
+    ensures { λ r. ⌜ r ≡ eqb (lowWord (direntAt (now (dir .entry)) i)) low ⌝ }
 {
-    byte(dirent_at(dir, i), 0) == b
+    let at = DIRENT * (i as usize);
+    eight_of(
+        dir[at],
+        dir[at + 1],
+        dir[at + 2],
+        dir[at + 3],
+        dir[at + 4],
+        dir[at + 5],
+        dir[at + 6],
+        dir[at + 7],
+    )
+        == low
+}
+
+// The six after them.
+fn has_high(dir: &[u8], i: u32, high: u64) -> bool
+    requires { ⌜ i < DIRENTS ⌝ }
+    requires { ⌜ DIRENTS * DIRENT ≤ length (now dir) ⌝ }
+    ensures { λ r. ⌜ r ≡ eqb (highWord (direntAt (now (dir .entry)) i)) high ⌝ }
+{
+    let at = DIRENT * (i as usize);
+    six_of(
+        dir[at + 8],
+        dir[at + 9],
+        dir[at + 10],
+        dir[at + 11],
+        dir[at + 12],
+        dir[at + 13],
+    )
+        == high
+}
+
+// The entries of a directory that is whole, by the words of their names.
+fn dirent_by_words(dir: &[u8], name: &[u8]) -> u32
+    requires { ⌜ DIRENTS * DIRENT ≤ length (now dir) ⌝ }
+    ensures { λ r. ⌜ r ≡ direntOf (now (dir .entry)) (now (name .entry)) ⌝ }
+{
+    let low = low_word(name);
+    let high = high_word(name);
+    let mut i: u32 = 0;
+    while i < DIRENTS {
+        if has_low(dir, i, low) {
+            if has_high(dir, i, high) {
+                return i;
+            }
+        }
+        i += 1;
+    }
+    DIRENTS
 }
 
 fn has_name(dir: &[u8], name: &[u8], i: u32) -> bool
@@ -28,21 +86,27 @@ fn has_name(dir: &[u8], name: &[u8], i: u32) -> bool
     tables::names::same_name(dirent_at(dir, i), name)
 }
 
-// The entry that has the name, 16 where none has. Most entries are told apart by their first byte.
-pub fn dirent_of(dir: &[u8], name: &[u8]) -> u32
+fn dirent_by_names(dir: &[u8], name: &[u8]) -> u32
     ensures { λ r. ⌜ r ≡ direntOf (now (dir .entry)) (now (name .entry)) ⌝ }
 {
-    let b = byte(name, 0);
     let mut i: u32 = 0;
     while i < DIRENTS {
-        if begins_with(dir, i, b) {
-            if has_name(dir, name, i) {
-                return i;
-            }
+        if has_name(dir, name, i) {
+            return i;
         }
         i += 1;
     }
     DIRENTS
+}
+
+// The entry that has the name, 16 where none has.
+pub fn dirent_of(dir: &[u8], name: &[u8]) -> u32
+    ensures { λ r. ⌜ r ≡ direntOf (now (dir .entry)) (now (name .entry)) ⌝ }
+{
+    if (DIRENTS as usize) * DIRENT <= dir.len() {
+        return dirent_by_words(dir, name);
+    }
+    dirent_by_names(dir, name)
 }
 
 // The lowest free entry, 16 where there is none.

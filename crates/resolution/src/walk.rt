@@ -1,13 +1,13 @@
 // A path is resolved one name at a time, from the root.
 ghost use mathlib.Core.Path.{_≡_};
-ghost use Prim.Native.Nat.{_+_, _<_};
+ghost use Prim.Native.Nat.{_+_};
 ghost use lib.ListN.{drop};
 ghost use Rattle.rules.specs.Layout.{FILE};
 ghost use Rattle.rules.specs.Store.{tab, tree};
 ghost use Rattle.rules.specs.Paths.{firstNames};
 ghost use Rattle.rules.specs.Directories.{direntOf};
 ghost use Rattle.rules.specs.Walk.{reached, entered, found, lookup, walk, ROOT, walkPath, enterParent, walkParent};
-ghost use Rattle.resolution.specs.Parents.{toParent, NameStarts};
+ghost use Rattle.resolution.specs.Parents.{walkIn, toParent, NameStarts};
 use crate::paths::ByteClass;
 use crate::paths::span_end;
 use crate::rights::bits_allow;
@@ -88,31 +88,31 @@ fn root() -> Location
     }
 }
 
-// The first `left` names of the path from `end` on, of which the first is the k-th, are walked from a location.
+// The k-th name of the path starts at `start`, and at most `left` names follow it: it is looked up in directory d, and those that follow from there.
 fn walk_from(
     files: &[u32],
     contents: &[u8],
     policy: &[u8],
     who: Subject,
     path: &[u8],
-    end: usize,
+    start: usize,
     left: u8,
     k: u32,
-    at: Location,
+    d: Slot,
 ) -> Walk
-    requires { ⌜ k + left < 256 ⌝ }
-    ensures { λ r. ⌜ r ≡ walk (tree (now (files .entry)) (now (contents .entry))) (now (policy .entry)) who at k (firstNames left (drop end (now (path .entry)))) ⌝ }
+    requires { ⌜ NameStarts (now path) start k left ⌝ }
+    ensures { λ r. ⌜ r ≡ walkIn (tree (now (files .entry)) (now (contents .entry))) (now (policy .entry)) who d k (firstNames (left + 1) (drop start (now (path .entry)))) ⌝ }
 {
+    let end = span_end(path, start, ByteClass::NotSlash);
+    let next = span_end(path, end, ByteClass::Slash);
+    let w = look_up(files, contents, policy, who, d, &path[start..end], k);
     if left == 0 {
-        return Walk::Reached(at);
+        return w;
     }
-    let start = span_end(path, end, ByteClass::Slash);
-    if path.len() <= start {
-        return Walk::Reached(at);
+    if path.len() <= next {
+        return w;
     }
-    let next = span_end(path, start, ByteClass::NotSlash);
-    let d = at.slot;
-    match look_up(files, contents, policy, who, d, &path[start..next], k) {
+    match w {
         Walk::Reached(to) => walk_from(
             files,
             contents,
@@ -122,7 +122,7 @@ fn walk_from(
             next,
             left - 1,
             k + 1,
-            to,
+            to.slot,
         ),
         Walk::Stopped(r, n) => Walk::Stopped(r, n),
     }
@@ -132,7 +132,11 @@ fn walk_from(
 pub fn walk_path(files: &[u32], contents: &[u8], policy: &[u8], who: Subject, path: &[u8]) -> Walk
     ensures { λ r. ⌜ r ≡ walkPath (tree (now (files .entry)) (now (contents .entry))) (now (policy .entry)) who (now (path .entry)) ⌝ }
 {
-    walk_from(files, contents, policy, who, path, 0, NAMES + 1, 1, root())
+    let start = span_end(path, 0, ByteClass::Slash);
+    if path.len() <= start {
+        return Walk::Reached(root());
+    }
+    walk_from(files, contents, policy, who, path, start, NAMES, 1, Slot(0))
 }
 
 fn enter_parent(files: &[u32], policy: &[u8], who: Subject, k: u32, at: Location) -> Walk

@@ -1,7 +1,7 @@
 -- The walk calls itself. The measure is the number of names left.
 use Prim.Native.Nat.{ℕ, suc, _+_, _-_, _≤_, _<_}
-use mathlib.Core.Path.{_≡_}
-use mathlib.Core.List.{List}
+use mathlib.Core.Path.{_≡_, refl, sym, _∙_}
+use mathlib.Core.List.{List, []}
 use native.Mathlib.Nat.{le-of-lt}
 use native.Mathlib.Omega.{arith}
 use borrow.Author.Needs.{needs}
@@ -16,8 +16,10 @@ use Rattle.rules.specs.declared.refusal.Refusal.{Refusal}
 use Rattle.rules.specs.declared.decision.Location.{Location}
 use Rattle.rules.specs.declared.decision.Walk.{Walk}
 use Rattle.rules.specs.declared.decision.Walk.the-variants.{Reached, Stopped}
+use Rattle.rules.specs.declared.ids.Slot.{Slot}
+use Rattle.resolution.specs.Parents.{walkIn, NameStarts}
 use Rattle.resolution.proofs.Spans.{within}
-use Rattle.resolution.proofs.Names.{names-zero, no-names, more-names}
+use Rattle.resolution.proofs.Names.{names-zero, no-names, more-names, no-slashes, skip-names}
 use Rattle.resolution.proofs.walk.walk_from.Reads as walk-from
 use Rattle.resolution.proofs.walk.walk_from.Kinds as walk-from-kinds
 use Rattle.resolution.proofs.walk.+walk_from.Lts-walk_from as walk-from-lts
@@ -35,27 +37,56 @@ walk-from-at t = and 4 walk-from-kinds.ps (is 4 walk-from-kinds.ps μ-walk-from 
 abbrev walk-from-below : ℕ → In 4 walk-from-kinds.ps
 walk-from-below t = and 4 walk-from-kinds.ps (falls 4 walk-from-kinds.ps _<_ μ-walk-from t) walk-from.Pre
 
-module _ (F C Q : List ℕ) (who : Subject) (p : List ℕ) (end left k : ℕ) (at : Location) where
+module _ (F C Q : List ℕ) (who : Subject) (p : List ℕ) (start left k : ℕ) (d : Slot) (n : NameStarts p start k left) where
   abbrev goal : Walk
-  goal = walk (tree F C) Q who at k (firstNames left (drop end p))
+  goal = walkIn (tree F C) Q who d k (firstNames (left + 1) (drop start p))
 
-  past : left ≡ 0 → Reached at ≡ goal
-  unfolding walk
-  past e = rw (e, names-zero)
+  own : start ≡ start + span isSlash (drop start p)
+  own = omega (arith, n .no-slash)
 
-  module _ (s : ℕ) (a : s ≡ end + span isSlash (drop end p)) where
-    stop : length p ≤ s → Reached at ≡ goal
-    unfolding walk
-    stop h = rw (no-names p end s a left h)
+  module _ (e : ℕ) (b : e ≡ start + span notSlash (drop start p)) (s : ℕ) (a : s ≡ e + span isSlash (drop e p)) (w : Walk) (v : w ≡ lookup (tree F C) Q who d (take (e - start) (drop start p)) k) where
+    looked : goal ≡ onReached w (λ (at : Location). walk (tree F C) Q who at (k + 1) (firstNames left (drop e p)))
+    unfolding walkIn walk
+    looked = rw (more-names p start start own e b (left + 1) left (n .inside) (omega arith), ← v)
 
-    module _ (h : s < length p) (some : left ≡ 0 → ⊥) (e : ℕ) (b : e ≡ s + span notSlash (drop s p)) (w : Walk) (v : w ≡ lookup (tree F C) Q who (at .slot) (take (e - s) (drop s p)) k) where
-      on : (next : Location) (r : Walk) → w ≡ Reached next → r ≡ walk (tree F C) Q who next (k + 1) (firstNames (left - 1) (drop e p)) → r ≡ goal
-      unfolding walk onReached
-      on next r g d = rw (more-names p end s a e b left (left - 1) h (omega arith), ← v, g) d
+    none : firstNames left (drop e p) ≡ [] → w ≡ goal
+    unfolding onReached walk
+    none q = rw (looked, q) (by w)
+      where
+        by : (u : Walk) → u ≡ onReached u (λ (at : Location). walk (tree F C) Q who at (k + 1) [])
+        by (Reached at) = refl
+        by (Stopped r j) = refl
 
-      refuse : (r : Refusal) (n : ℕ) → w ≡ Stopped r n → Stopped r n ≡ goal
-      unfolding walk onReached
-      refuse r n g = rw (more-names p end s a e b left (left - 1) h (omega arith), ← v, g)
+    past : left ≡ 0 → w ≡ goal
+    past l = none (rw l (names-zero (drop e p)))
+
+    stop : length p ≤ s → w ≡ goal
+    stop g = none (no-names p e s a left g)
+
+    module _ (g : s < length p) (some : left ≡ 0 → ⊥) where
+      starts : NameStarts p s (k + 1) (left - 1)
+      starts = record { inside = g; no-slash = no-slashes p e s a g; few = omega (arith, n .few) }
+
+      own-next : s ≡ s + span isSlash (drop s p)
+      own-next = omega (arith, no-slashes p e s a g)
+
+      -- where a name is left, the directory alone counts
+      same-in : (to : Location) → walk (tree F C) Q who to (k + 1) (firstNames left (drop s p)) ≡ walkIn (tree F C) Q who (to .slot) (k + 1) (firstNames left (drop s p))
+      unfolding walkIn walk
+      same-in to = rw (more-names p s s own-next _ refl left (left - 1) g (omega arith))
+
+      on : (to : Location) (r : Walk) → w ≡ Reached to → r ≡ walkIn (tree F C) Q who (to .slot) (k + 1) (firstNames (left - 1 + 1) (drop s p)) → r ≡ goal
+      unfolding onReached
+      on to r q x =
+          let m : left - 1 + 1 ≡ left = omega arith in
+          rw (looked, q) (rw m at x ∙ sym (same-in to) ∙ rw (skip-names p e s a g left))
+
+      refuse : (r : Refusal) (j : ℕ) → w ≡ Stopped r j → Stopped r j ≡ goal
+      unfolding onReached
+      refuse r j q = rw (looked, q)
+
+ends : (p : List ℕ) (start left k e : ℕ) → NameStarts p start k left → e ≡ start + span notSlash (drop start p) → e ≤ length p
+ends p start left k e n b = within notSlash p start e b (le-of-lt (n .inside))
 
 pub +walk-from-spec : {M : Type 1} → statement M
 +walk-from-spec = close μ-walk-from λ t. walk-from-lts.spec (
@@ -68,18 +99,18 @@ pub +walk-from-spec : {M : Type 1} → statement M
 )
     (walk-from-at t)
     walk-from.Post
+    (λ c κs. tt)
+    (λ c κs. tt)
+    (λ c. search needs)
+    (λ c. search needs)
+    (λ c. search ends)
+    (λ c κs. tt)
     (λ c. search past)
-    (λ c κs. tt)
     (λ c. search stop)
-    (λ c κs. tt)
-    (λ c. search needs)
-    (λ c. search needs)
-    (λ c. search (within, le-of-lt))
-    (λ c κs. tt)
     (λ c. search needs)
     (λ c. search needs)
     (λ c. search needs)
-    (λ c κs. search needs)
+    (λ c κs. search (needs, starts))
     (λ c. search needs)
     (λ c. search on)
     (λ c. search refuse)

@@ -1,0 +1,19 @@
+use Rattle.resolution.specs.NameWords.{lowWord}
+use Rattle.resolution.proofs.name_words.low_word.Statement.{statement}
+use Rattle.resolution.proofs.name_words.low_word.Tie as tie
+
+pub low-word-spec : {M : Type 1} → statement M
+unfolding lowWord
+low-word-spec =
+    tie.close
+    (tie.spec
+    (λ c κs. tt)
+    (λ c κs. tt)
+    (λ c κs. tt)
+    (λ c κs. tt)
+    (λ c κs. tt)
+    (λ c κs. tt)
+    (λ c κs. tt)
+    (λ c κs. tt)
+    (λ c κs. tt)
+    (λ c. cc))
