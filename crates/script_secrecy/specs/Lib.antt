@@ -1,0 +1,2 @@
+-- Demand 3 of a script's runs, stated.
+pub mod Claim
