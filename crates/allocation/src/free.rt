@@ -3,11 +3,10 @@ ghost use mathlib.Core.Path.{_≡_};
 ghost use lib.Dec.{eqb};
 ghost use Rattle.rules.specs.Layout.{FILE, OPEN};
 ghost use Rattle.rules.specs.Store.{tab, procOf, descOf};
-ghost use Rattle.rules.specs.Checks.{slotFree, ofdFree, fdFree, pidFree, freeSlot, freeOfd, freeFd, freePid};
-use rules::ids::Fd;
+ghost use Rattle.rules.specs.Checks.{slotFree, ofdFree, pidFree, freeSlot, freeOfd, freeFd, freePid};
+use crate::used::used_descriptors;
 use rules::ids::Pid;
 use rules::ids::Slot;
-use tables::layout::DESCRIPTORS;
 use tables::layout::OPENS;
 use tables::layout::PROCESSES;
 use tables::layout::SLOTS;
@@ -50,23 +49,11 @@ pub fn free_ofd(opens: &[u32]) -> u32
     OPENS
 }
 
-fn fd_free(processes: &[u32], p: Pid, i: u8) -> bool
-    ensures { λ r. ⌜ r ≡ fdFree (descOf (now (processes .entry))) p i ⌝ }
-{
-    tables::processes::descriptor(processes, p, Fd(i)) == 0
-}
-
+// The zeros below the lowest bit that is not set; eight where all are, which callers refuse with 13.
 pub fn free_fd(processes: &[u32], p: Pid) -> u8
     ensures { λ r. ⌜ r ≡ freeFd (descOf (now (processes .entry))) p ⌝ }
 {
-    let mut i: u8 = 0;
-    while i < DESCRIPTORS {
-        if fd_free(processes, p, i) {
-            return i;
-        }
-        i += 1;
-    }
-    DESCRIPTORS
+    u8::trailing_zeros(!used_descriptors(processes, p)) as u8
 }
 
 fn pid_free(processes: &[u32], q: u8) -> bool

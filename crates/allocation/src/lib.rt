@@ -2,3 +2,4 @@
 pub mod free;
 pub mod held;
 pub mod last;
+pub mod used;

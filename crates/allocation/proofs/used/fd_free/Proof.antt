@@ -1,6 +1,6 @@
 use Rattle.rules.specs.Checks.{fdFree}
-use Rattle.allocation.proofs.free.fd_free.Statement.{statement}
-use Rattle.allocation.proofs.free.fd_free.Tie as tie
+use Rattle.allocation.proofs.used.fd_free.Statement.{statement}
+use Rattle.allocation.proofs.used.fd_free.Tie as tie
 
 pub fd-free-spec : {M : Type 1} → statement M
 unfolding fdFree

@@ -1,0 +1,3 @@
+-- Laws of the word of used descriptors.
+pub mod Bits
+pub mod Descriptors

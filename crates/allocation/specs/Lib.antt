@@ -1,0 +1,2 @@
+-- What this crate promises beyond the rules' own terms.
+pub mod Word
