@@ -110,8 +110,8 @@ fn parts(call: u32) -> Option<[bool; 4]> {
 #[cfg(test)]
 mod tests {
     use super::*;
-    use crate::boundary;
     use crate::console::test_console;
+    use mritvelja::reasons;
 
     fn block(call: u32, descriptor: &str, number: &str, path: &str, data: &str) -> String {
         format!("proc=2\ncall={call}\nfd={descriptor}\narg={number}\npath={path}\ndata={data}\n")
@@ -119,8 +119,8 @@ mod tests {
 
     fn is_broken(block: &str) -> bool {
         let mut output = [0; 2048];
-        let run = boundary::replay(&mut test_console(), block.as_bytes(), 1, &mut output);
-        run.reason == boundary::BROKEN
+        let run = mritvelja::replay(&mut test_console(), block.as_bytes(), 1, &mut output);
+        run.reason == reasons::BROKEN
     }
 
     #[test]

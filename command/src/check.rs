@@ -1,11 +1,10 @@
 //! `check`: the verdict is the proved store's; the diagnosis says where and why.
 
-use crate::boundary;
 use crate::diagnosis::{self, Defect};
 use crate::failure::Failure;
 use crate::held;
 use crate::output;
-use crate::tables::Tables;
+use mritvelja::Tables;
 use std::path::Path;
 
 /// Says whether a store is sound, and answers that.
@@ -26,7 +25,7 @@ pub fn require_sound(store: &Path, tables: &Tables) -> Result<(), Failure> {
 
 /// What is wrong with a store, nothing if it is sound.
 fn defect(tables: &Tables) -> Result<Option<Defect>, Failure> {
-    agreed(boundary::sound(tables), diagnosis::first_defect(tables))
+    agreed(mritvelja::sound(tables), diagnosis::first_defect(tables))
 }
 
 /// The verdict, which the diagnosis must not contradict.
@@ -48,10 +47,13 @@ fn agreed(is_sound: bool, defect: Option<Defect>) -> Result<Option<Defect>, Fail
 #[cfg(test)]
 mod tests {
     use super::*;
+    use mritvelja::layout::{FREE, KIND, ROOT};
 
     #[test]
     fn a_diagnosis_that_contradicts_the_verdict_is_an_internal_error() {
-        let some_defect = || diagnosis::first_defect(&Tables::zero());
+        let mut tables = Tables::empty();
+        tables.file_mut(ROOT)[KIND] = FREE;
+        let some_defect = || diagnosis::first_defect(&tables);
         assert_eq!(agreed(true, None).unwrap(), None);
         assert_eq!(agreed(false, some_defect()).unwrap(), some_defect());
         for contradiction in [agreed(false, None), agreed(true, some_defect())] {

@@ -1,7 +1,7 @@
 //! The papers' test console, the store that `new` writes.
 
-use crate::layout::*;
-use crate::tables::Tables;
+use mritvelja::layout::*;
+use mritvelja::Tables;
 
 const FARES: usize = 1;
 const NOW: usize = 2;
@@ -9,7 +9,7 @@ const KEY: usize = 3;
 const KEY_LABEL: usize = 3;
 
 pub fn test_console() -> Tables {
-    let mut tables = Tables::zero();
+    let mut tables = Tables::empty();
     set_files(&mut tables);
     set_processes(&mut tables);
     set_policy(&mut tables);
@@ -17,21 +17,13 @@ pub fn test_console() -> Tables {
 }
 
 fn set_files(tables: &mut Tables) {
-    tables
-        .file_mut(ROOT)
-        .copy_from_slice(&[DIRECTORY, 0, 5, 0, 2, 0, 0]);
-    tables
-        .file_mut(FARES)
-        .copy_from_slice(&[DIRECTORY, 10, 5, 0, 1, 1, 0]);
-    tables
-        .file_mut(NOW)
-        .copy_from_slice(&[PLAIN, 10, 4, 0, 5, 1, 0]);
-    tables
-        .file_mut(KEY)
-        .copy_from_slice(&[PLAIN, 10, 0, KEY_LABEL as u32, 4, 1, 0]);
-    tables.set_place(ROOT, 0, b"fares", FARES as u8);
-    tables.set_place(ROOT, 1, b"key", KEY as u8);
-    tables.set_place(FARES, 0, b"now", NOW as u8);
+    *tables.file_mut(ROOT) = [DIRECTORY, 0, 5, 0, 2, 0, 0];
+    *tables.file_mut(FARES) = [DIRECTORY, 10, 5, 0, 1, 1, 0];
+    *tables.file_mut(NOW) = [PLAIN, 10, 4, 0, 5, 1, 0];
+    *tables.file_mut(KEY) = [PLAIN, 10, 0, KEY_LABEL as u32, 4, 1, 0];
+    tables.set_dirent(ROOT, 0, b"fares", FARES);
+    tables.set_dirent(ROOT, 1, b"key", KEY);
+    tables.set_dirent(FARES, 0, b"now", NOW);
     tables.block_mut(NOW)[..5].copy_from_slice(b"2.40\n");
     tables.block_mut(KEY)[..4].copy_from_slice(&[1, 2, 3, 4]);
 }
@@ -46,7 +38,6 @@ fn set_processes(tables: &mut Tables) {
 }
 
 fn set_policy(tables: &mut Tables) {
-    tables.policy[RIGHTS..].fill(NO_TRANSITION);
     for (label, rights) in [7, 7, 5].into_iter().enumerate() {
         tables.set_rights(label, 0, rights);
     }
@@ -56,10 +47,9 @@ fn set_policy(tables: &mut Tables) {
 #[cfg(test)]
 mod tests {
     use super::*;
-    use crate::boundary;
 
     #[test]
     fn the_test_console_is_sound() {
-        assert!(boundary::sound(&test_console()));
+        assert!(mritvelja::sound(&test_console()));
     }
 }

@@ -1,22 +1,25 @@
 //! The bytes of a store file (`docs/store-file.md`): a header, the tables, the policy.
 
-use crate::layout::*;
-use crate::tables::Tables;
 use crate::text;
+use mritvelja::layout::{BLOCK, FILE_WIDTH, OPEN_FILES_SIZE, POLICY_SIZE, PROCESSES_SIZE, SLOTS};
+use mritvelja::Tables;
 
 const MAGIC: &[u8; 7] = b"MRITVEL";
 const VERSION: u8 = 1;
 const WORD: usize = 4;
 const HEADER: usize = MAGIC.len() + 1 + WORD;
 
-const OPEN_FILES: usize = WORD * OPENS * OPEN;
-const PROCESS_TABLE: usize = WORD * PROCESSES * PROCESS;
+const OPEN_FILES: usize = WORD * OPEN_FILES_SIZE;
+const PROCESSES: usize = WORD * PROCESSES_SIZE;
+
+/// The slots of a store that `convert` takes.
+pub const FORMER_SLOTS: usize = 64;
 
 /// How many bytes a store file has.
 pub const SIZE: usize = size(SLOTS);
 
 const fn files(slots: usize) -> usize {
-    WORD * slots * FILE
+    WORD * slots * FILE_WIDTH
 }
 
 const fn contents(slots: usize) -> usize {
@@ -24,7 +27,7 @@ const fn contents(slots: usize) -> usize {
 }
 
 const fn size(slots: usize) -> usize {
-    HEADER + files(slots) + contents(slots) + OPEN_FILES + PROCESS_TABLE + POLICY
+    HEADER + files(slots) + contents(slots) + OPEN_FILES + PROCESSES + POLICY_SIZE
 }
 
 /// Why a file's bytes are no store that this version takes.
@@ -64,7 +67,7 @@ pub fn decode_former(bytes: &[u8], length: u64) -> Result<Tables, String> {
     match read_header(bytes, length, FORMER_SLOTS)? {
         FORMER_SLOTS => {
             let mut tables = take_tables(bytes, length, FORMER_SLOTS)?;
-            tables.files.resize(SLOTS * FILE, 0);
+            tables.files.resize(SLOTS * FILE_WIDTH, 0);
             tables.contents.resize(SLOTS * BLOCK, 0);
             Ok(tables)
         }
@@ -91,8 +94,8 @@ fn take_tables(bytes: &[u8], length: u64, slots: usize) -> Result<Tables, String
         files: to_words(take(files(slots))),
         contents: take(contents(slots)).to_vec(),
         open_files: to_words(take(OPEN_FILES)),
-        processes: to_words(take(PROCESS_TABLE)),
-        policy: take(POLICY).to_vec(),
+        processes: to_words(take(PROCESSES)),
+        policy: take(POLICY_SIZE).to_vec(),
     })
 }
 
@@ -216,7 +219,7 @@ mod tests {
             let changed = changed(&former, at, former[at] ^ 0x80);
             let tables = decode_whole_former(&changed).unwrap();
             assert_eq!(encode_former(&tables), changed);
-            assert!(tables.files[FORMER_SLOTS * FILE..]
+            assert!(tables.files[FORMER_SLOTS * FILE_WIDTH..]
                 .iter()
                 .all(|&word| word == 0));
             assert!(tables.contents[FORMER_SLOTS * BLOCK..]

@@ -1,10 +1,10 @@
 //! A store file as it lies on the disk: read, made, and held while it is changed.
 
 use crate::failure::Failure;
-use crate::format::{self, Refused};
-use crate::layout::{FORMER_SLOTS, SLOTS};
+use crate::format::{self, Refused, FORMER_SLOTS};
 use crate::save;
-use crate::tables::Tables;
+use mritvelja::layout::SLOTS;
+use mritvelja::Tables;
 use std::fs::{self, File, OpenOptions};
 use std::io::{ErrorKind, Read, Write};
 use std::os::unix::fs::{MetadataExt, OpenOptionsExt};

@@ -2,7 +2,6 @@
 //! (`docs/command.md`), over the proved store.
 
 mod arguments;
-mod boundary;
 mod broken;
 mod check;
 mod console;
@@ -11,13 +10,11 @@ mod diagnosis;
 mod failure;
 mod format;
 mod held;
-mod layout;
 mod output;
 mod pieces;
 mod replay;
 mod save;
 mod show;
-mod tables;
 mod text;
 
 use arguments::{Command, HELP, USAGE};

@@ -1,7 +1,7 @@
 //! A script run in pieces, so that the output's size is never a reason to stop.
 
-use crate::boundary::{self, ALLOWANCE, BROKEN, END, ROOM};
-use crate::tables::Tables;
+use mritvelja::reasons::{ALLOWANCE, BROKEN, END, ROOM};
+use mritvelja::Tables;
 
 /// Room for some sixty of the longest answers, a read of 512 bytes.
 const OUTPUT: usize = 65_536;
@@ -44,7 +44,7 @@ fn run_within(
     loop {
         let left = allowed.map_or(u64::MAX, |allowed| allowed - run.calls);
         let allowance = u32::try_from(left).unwrap_or(u32::MAX);
-        let piece = boundary::replay(tables, &script[run.next..], allowance, &mut output);
+        let piece = mritvelja::replay(tables, &script[run.next..], allowance, &mut output);
         run.answers.extend(&output[..piece.written]);
         run.calls += u64::from(piece.calls);
         run.next += piece.next;

@@ -1,6 +1,6 @@
 //! Bytes, rights and counts as text that a person and a screen reader can read.
 
-use crate::layout::{EXECUTE, READ, WRITE};
+use mritvelja::layout::{EXECUTE, READ, WRITE};
 use std::fmt::Write;
 
 /// Bytes as printable ASCII; every other byte and the backslash as `\xNN`.

@@ -1,7 +1,14 @@
 //! "All fields in range."
 
-use crate::layout::*;
-use crate::tables::Tables;
+use mritvelja::layout::*;
+use mritvelja::modes;
+use mritvelja::Tables;
+
+const LAST_USER: u32 = 65_535;
+const LAST_LABEL: u32 = LABELS as u32 - 1;
+const ALL_RIGHTS: u32 = READ | WRITE | EXECUTE;
+const FIRST_MODE: u32 = modes::READ as u32;
+const LAST_MODE: u32 = modes::APPEND as u32;
 
 pub fn out_of_range(tables: &Tables) -> Option<String> {
     (0..SLOTS)
@@ -41,7 +48,7 @@ fn open_file(tables: &Tables, entry: usize) -> Option<String> {
     let ranges = [
         (SLOT, "slot", 0, SLOTS as u32 - 1),
         (MODE, "mode", FIRST_MODE, LAST_MODE),
-        (POSITION, "position", 0, BLOCK as u32),
+        (OFFSET, "position", 0, BLOCK as u32),
     ];
     ranges.into_iter().find_map(|(column, field, first, last)| {
         outside(
@@ -71,7 +78,7 @@ fn descriptors(tables: &Tables, process: usize) -> Option<String> {
     let words = tables.descriptors(process).iter().enumerate();
     words.into_iter().find_map(|(descriptor, &word)| {
         let owner = format!("process {process}, descriptor {descriptor}");
-        outside(owner, "its word", word, 0, OPENS as u32)
+        outside(owner, "its word", word, 0, OPEN_FILES as u32)
     })
 }
 

@@ -1,7 +1,7 @@
 //! The clauses of lengths, and of plain files without a name.
 
-use crate::layout::*;
-use crate::tables::Tables;
+use mritvelja::layout::*;
+use mritvelja::Tables;
 
 pub fn wrong_length(tables: &Tables) -> Option<String> {
     (0..SLOTS).find_map(|slot| {
@@ -24,7 +24,7 @@ pub fn wrong_length(tables: &Tables) -> Option<String> {
 
 pub fn neither_named_nor_open(tables: &Tables) -> Option<String> {
     (0..SLOTS)
-        .filter(|&slot| tables.is_kind(slot, PLAIN) && tables.file(slot)[NAMES] == 0)
+        .filter(|&slot| tables.is_kind(slot, PLAIN) && tables.file(slot)[LINKS] == 0)
         .find(|&slot| !is_open(tables, slot))
         .map(|slot| format!("slot {slot}: a plain file that no place names and no open entry has"))
 }

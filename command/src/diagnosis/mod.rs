@@ -13,7 +13,7 @@ mod zeros;
 #[cfg(test)]
 mod tests;
 
-use crate::tables::Tables;
+use mritvelja::Tables;
 use std::fmt;
 
 /// A test of one clause: where it fails and how, nothing if it holds.

@@ -1,7 +1,7 @@
 //! The clauses of the open entries.
 
-use crate::layout::*;
-use crate::tables::Tables;
+use mritvelja::layout::*;
+use mritvelja::Tables;
 
 pub fn not_on_a_plain_file(tables: &Tables) -> Option<String> {
     tables.open_entries().find_map(|entry| {
@@ -12,7 +12,7 @@ pub fn not_on_a_plain_file(tables: &Tables) -> Option<String> {
 }
 
 pub fn references_not_as_counted(tables: &Tables) -> Option<String> {
-    let miscounted = (0..OPENS).find_map(|entry| {
+    let miscounted = (0..OPEN_FILES).find_map(|entry| {
         let references = tables.open_file(entry)[REFERENCES];
         let held = holders(tables, entry);
         (references as usize != held).then(|| {

@@ -1,16 +1,15 @@
 //! A defect for each clause, and the diagnosis beside the proved test on spoilt stores.
 
 use super::*;
-use crate::boundary;
 use crate::console::test_console;
-use crate::layout::*;
+use mritvelja::layout::*;
 
 type Spoil = fn(&mut Tables);
 
 /// The test console with /fares/now open: entry 0, held by descriptor 0 of process 2.
 fn console_with_open_file() -> Tables {
     let mut tables = test_console();
-    tables.open_file_mut(0).copy_from_slice(&[2, 1, 0, 1]);
+    *tables.open_file_mut(0) = [2, 1, 0, 1];
     tables.process_mut(2)[FIRST_DESCRIPTOR] = 1;
     tables
 }
@@ -19,11 +18,9 @@ fn console_with_open_file() -> Tables {
 fn dig(tables: &mut Tables, depth: usize) {
     for level in 0..depth {
         let (slot, parent) = (10 + level, if level == 0 { ROOT } else { 9 + level });
-        tables
-            .file_mut(slot)
-            .copy_from_slice(&[DIRECTORY, 0, 5, 0, 0, 1, 0]);
+        *tables.file_mut(slot) = [DIRECTORY, 0, 5, 0, 0, 1, 0];
         let place = if level == 0 { 2 } else { 0 };
-        tables.set_place(parent, place, b"d", slot as u8);
+        tables.set_dirent(parent, place, b"d", slot);
         tables.file_mut(parent)[LENGTH] += 1;
     }
 }
@@ -35,7 +32,7 @@ fn sound_stores_have_no_defect() {
         dig(&mut tables, 8);
         tables
     }] {
-        assert!(boundary::sound(&tables));
+        assert!(mritvelja::sound(&tables));
         assert_eq!(first_defect(&tables), None);
     }
 }
@@ -47,7 +44,7 @@ fn assert_defects(defects: &[(usize, &str, Spoil)]) {
         let defect = first_defect(&tables).expect(place);
         assert_eq!(defect.clause, CLAUSES[clause - 1].0, "{defect}");
         assert!(defect.place.contains(place), "{defect}");
-        assert!(!boundary::sound(&tables), "{defect}");
+        assert!(!mritvelja::sound(&tables), "{defect}");
     }
 }
 
@@ -69,7 +66,7 @@ fn fields_of_files_out_of_range() {
             t.open_file_mut(0)[MODE] = 5
         }),
         (1, "open entry 0: position is 513", |t| {
-            t.open_file_mut(0)[POSITION] = 513
+            t.open_file_mut(0)[OFFSET] = 513
         }),
     ]);
 }
@@ -97,7 +94,7 @@ fn fields_of_processes_and_policy_out_of_range() {
         (
             1,
             "process label 1 by program label 2: the cell is 16",
-            |t| t.policy[RIGHTS + 18] = 16,
+            |t| t.policy[RIGHTS_SIZE + 18] = 16,
         ),
     ]);
 }
@@ -106,11 +103,11 @@ fn fields_of_processes_and_policy_out_of_range() {
 fn the_root_and_the_tree() {
     assert_defects(&[
         (2, "slot 0: kind is 1", |t| t.file_mut(0)[KIND] = PLAIN),
-        (2, "slot 0: names is 1", |t| t.file_mut(0)[NAMES] = 1),
+        (2, "slot 0: names is 1", |t| t.file_mut(0)[LINKS] = 1),
         (
             3,
             "slot 1: a directory; the places that name it are 2",
-            |t| t.set_place(0, 2, b"too", 1),
+            |t| t.set_dirent(0, 2, b"too", 1),
         ),
         (
             3,
@@ -119,9 +116,8 @@ fn the_root_and_the_tree() {
         ),
         (3, "slot 18: a directory 9 names deep", |t| dig(t, 9)),
         (4, "slot 8: a directory from which no way", |t| {
-            t.file_mut(8)
-                .copy_from_slice(&[DIRECTORY, 0, 5, 0, 1, 1, 0]);
-            t.set_place(8, 0, b"self", 8);
+            *t.file_mut(8) = [DIRECTORY, 0, 5, 0, 1, 1, 0];
+            t.set_dirent(8, 0, b"self", 8);
         }),
     ]);
 }
@@ -130,33 +126,33 @@ fn the_root_and_the_tree() {
 fn the_places() {
     assert_defects(&[
         (5, "slot 1, place 0, name \"\\xff/\": it has a slash", |t| {
-            t.set_place(1, 0, b"\xff/", 2)
+            t.set_dirent(1, 0, b"\xff/", 2)
         }),
         (5, "name \"..\": it is no name", |t| {
-            t.set_place(1, 0, b"..", 2)
+            t.set_dirent(1, 0, b"..", 2)
         }),
         (5, "name \"\": it has no bytes", |t| {
-            t.set_place(1, 0, b"", 2)
+            t.set_dirent(1, 0, b"", 2)
         }),
         (
             5,
             "place 1, name \"fares\": it stands at place 0 too",
-            |t| t.set_place(0, 1, b"fares", 3),
+            |t| t.set_dirent(0, 1, b"fares", 3),
         ),
         (6, "slot 1, place 1: it names slot 0", |t| {
-            t.set_place(1, 1, b"x", 0)
+            t.set_dirent(1, 1, b"x", 0)
         }),
         (6, "slot 1, place 1: it names slot 128", |t| {
-            t.set_place(1, 1, b"x", SLOTS as u8)
+            t.set_dirent(1, 1, b"x", SLOTS)
         }),
         (6, "slot 1, place 1: it names slot 4, which is free", |t| {
-            t.set_place(1, 1, b"x", 4)
+            t.set_dirent(1, 1, b"x", 4)
         }),
         (7, "slot 2: names is 2, but the places counted are 1", |t| {
-            t.file_mut(2)[NAMES] = 2
+            t.file_mut(2)[LINKS] = 2
         }),
         (7, "slot 4: names is 1, but the places counted are 0", |t| {
-            t.file_mut(4)[NAMES] = 1
+            t.file_mut(4)[LINKS] = 1
         }),
     ]);
 }
@@ -207,13 +203,13 @@ fn the_zero_bytes() {
             t.block_mut(2)[5] = 1
         }),
         (12, "slot 1, place 0: a byte after the name's end", |t| {
-            t.place_mut(1, 0)[13] = 1
+            t.dirent_mut(1, 0)[13] = 1
         }),
         (12, "slot 1, place 0: the byte after its slot", |t| {
-            t.place_mut(1, 0)[15] = 1
+            t.dirent_mut(1, 0)[15] = 1
         }),
         (12, "slot 1, place 9: an empty place", |t| {
-            t.place_mut(1, 9)[15] = 1
+            t.dirent_mut(1, 9)[15] = 1
         }),
         (12, "slot 1: a directory whose byte 256", |t| {
             t.block_mut(1)[256] = 1
@@ -246,10 +242,10 @@ impl Chance {
 fn spoil(tables: &mut Tables, chance: &mut Chance) {
     let word = chance.word();
     match chance.below(6) {
-        0 => tables.files[chance.below(FILE * 20)] = word,
-        1 => tables.open_files[chance.below(OPEN * 3)] = word,
-        2 => tables.processes[chance.below(PROCESS * PROCESSES)] = word,
-        3 => tables.policy[chance.below(POLICY)] = word as u8,
+        0 => tables.files[chance.below(FILE_WIDTH * 20)] = word,
+        1 => tables.open_files[chance.below(OPEN_FILE_WIDTH * 3)] = word,
+        2 => tables.processes[chance.below(PROCESS_WIDTH * PROCESSES)] = word,
+        3 => tables.policy[chance.below(POLICY_SIZE)] = word as u8,
         4 => {
             tables.block_mut(chance.below(4))[chance.below(64)] =
                 [word as u8, b'/', b'.', b'x'][chance.below(4)]
@@ -270,7 +266,7 @@ fn the_diagnosis_agrees_with_the_proved_test() {
         for _ in 0..=chance.below(3) {
             spoil(&mut tables, &mut chance);
         }
-        let is_sound = boundary::sound(&tables);
+        let is_sound = mritvelja::sound(&tables);
         assert_eq!(first_defect(&tables).is_none(), is_sound, "round {round}");
         sound += u32::from(is_sound);
     }

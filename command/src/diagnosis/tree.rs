@@ -1,8 +1,8 @@
 //! The clauses of the root, of the directories' names and of their way to the root.
 
 use super::names;
-use crate::layout::*;
-use crate::tables::Tables;
+use mritvelja::layout::*;
+use mritvelja::Tables;
 
 pub fn root(tables: &Tables) -> Option<String> {
     let record = tables.file(ROOT);
@@ -12,7 +12,7 @@ pub fn root(tables: &Tables) -> Option<String> {
             record[KIND]
         ));
     }
-    (record[NAMES] != 0).then(|| format!("slot 0: names is {}, not 0", record[NAMES]))
+    (record[LINKS] != 0).then(|| format!("slot 0: names is {}, not 0", record[LINKS]))
 }
 
 pub fn named_once_and_not_too_deep(tables: &Tables) -> Option<String> {

@@ -2,8 +2,8 @@
 //! file's length, and in a directory around its names.
 
 use super::names;
-use crate::layout::*;
-use crate::tables::Tables;
+use mritvelja::layout::*;
+use mritvelja::Tables;
 
 pub fn not_zero(tables: &Tables) -> Option<String> {
     (0..SLOTS)
@@ -21,7 +21,7 @@ fn first_byte(bytes: &[u8], start: usize) -> Option<usize> {
 }
 
 fn in_free_record(tables: &Tables, slot: usize) -> Option<String> {
-    let record = &tables.file(slot)[..STAMP];
+    let record = &tables.file(slot)[..VERSION];
     record
         .iter()
         .any(|&word| word != 0)
@@ -42,10 +42,10 @@ fn past_length(tables: &Tables, slot: usize) -> Option<String> {
 }
 
 fn in_directory(tables: &Tables, slot: usize) -> Option<String> {
-    (0..PLACES)
+    (0..DIRENTS)
         .find_map(|place| in_place(tables, slot, place))
         .or_else(|| {
-            let at = first_byte(tables.block(slot), PLACES * PLACE)?;
+            let at = first_byte(tables.block(slot), DIRENTS * DIRENT_WIDTH)?;
             Some(format!(
                 "slot {slot}: a directory whose byte {at}, past its places, is not 0"
             ))
@@ -53,11 +53,11 @@ fn in_directory(tables: &Tables, slot: usize) -> Option<String> {
 }
 
 fn in_place(tables: &Tables, directory: usize, place: usize) -> Option<String> {
-    let bytes = tables.place(directory, place);
+    let bytes = tables.dirent(directory, place);
     let at = names::at(directory, place);
-    if tables.named_slot(directory, place) == 0 {
+    if tables.dirent_slot(directory, place) == 0 {
         first_byte(bytes, 0).map(|_| format!("{at}: an empty place that is not all 0"))
-    } else if first_byte(&bytes[..NAME], tables.name(directory, place).len()).is_some() {
+    } else if first_byte(&bytes[..NAME], tables.dirent_name(directory, place).len()).is_some() {
         Some(format!("{at}: a byte after the name's end is not 0"))
     } else {
         first_byte(bytes, NAME + 1).map(|_| format!("{at}: the byte after its slot is not 0"))
@@ -66,7 +66,7 @@ fn in_place(tables: &Tables, directory: usize, place: usize) -> Option<String> {
 
 fn in_free_process(tables: &Tables) -> Option<String> {
     let is_spoilt = |&process: &usize| {
-        tables.process(process)[USED] == 0 && tables.process(process) != [0; PROCESS]
+        tables.process(process)[USED] == 0 && *tables.process(process) != [0; PROCESS_WIDTH]
     };
     let process = (0..PROCESSES).find(is_spoilt)?;
     Some(format!("process {process}: not in use, and not all 0"))

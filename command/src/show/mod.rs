@@ -8,7 +8,7 @@ use crate::check;
 use crate::failure::Failure;
 use crate::held;
 use crate::output;
-use crate::tables::Tables;
+use mritvelja::Tables;
 use std::path::Path;
 
 pub fn show(store: &Path) -> Result<(), Failure> {
@@ -52,7 +52,7 @@ fn part(heading: &str, lines: Vec<String>) -> Vec<String> {
 mod tests {
     use super::*;
     use crate::console::test_console;
-    use crate::layout::*;
+    use mritvelja::layout::*;
 
     #[test]
     fn the_test_console_is_shown() {
@@ -63,18 +63,16 @@ mod tests {
     #[test]
     fn what_is_open_and_what_has_no_name_is_shown() {
         let mut tables = test_console();
-        tables
-            .file_mut(4)
-            .copy_from_slice(&[PLAIN, 20, 7, 1, 2, 0, 9]);
+        *tables.file_mut(4) = [PLAIN, 20, 7, 1, 2, 0, 9];
         tables.block_mut(4)[..2].copy_from_slice(b"hi");
-        tables.open_file_mut(0).copy_from_slice(&[4, 3, 1, 2]);
-        tables.open_file_mut(1).copy_from_slice(&[2, 4, 0, 1]);
+        *tables.open_file_mut(0) = [4, 3, 1, 2];
+        *tables.open_file_mut(1) = [2, 4, 0, 1];
         tables.process_mut(2)[FIRST_DESCRIPTOR] = 1;
         tables.process_mut(2)[FIRST_DESCRIPTOR + 7] = 1;
         tables.process_mut(1)[FIRST_DESCRIPTOR] = 2;
-        tables.policy[RIGHTS + 16 + 3] = 4;
-        tables.set_place(1, 0, b"a\\ \x80", 2);
-        assert!(crate::boundary::sound(&tables));
+        tables.policy[RIGHTS_SIZE + 16 + 3] = 4;
+        tables.set_dirent(1, 0, b"a\\ \x80", 2);
+        assert!(mritvelja::sound(&tables));
         let lines = describe(&tables);
         for line in [
             "/fares/a\\x5c \\x80: plain file, slot 2, owner 10, bits 4 (read), label 0, length 5, names 1, stamp 0",

@@ -1,9 +1,9 @@
 //! The policy: the rights that there are, and the transitions.
 
 use super::part;
-use crate::layout::*;
-use crate::tables::Tables;
 use crate::text;
+use mritvelja::layout::*;
+use mritvelja::Tables;
 
 fn label_pairs() -> impl Iterator<Item = (usize, usize)> {
     (0..LABELS).flat_map(|process| (0..LABELS).map(move |file| (process, file)))

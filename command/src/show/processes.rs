@@ -1,9 +1,9 @@
 //! The open files, and the processes with their descriptors.
 
 use super::part;
-use crate::layout::*;
-use crate::tables::Tables;
 use crate::text;
+use mritvelja::layout::*;
+use mritvelja::Tables;
 
 pub fn describe_open_files(tables: &Tables, paths: &[(String, usize)]) -> Vec<String> {
     let lines = tables.open_entries().map(|entry| {
@@ -15,7 +15,7 @@ pub fn describe_open_files(tables: &Tables, paths: &[(String, usize)]) -> Vec<St
             path.map_or("which has no name", |(path, _)| path),
             record[MODE],
             text::mode(record[MODE]),
-            record[POSITION],
+            record[OFFSET],
             record[REFERENCES]
         )
     });

@@ -1,9 +1,9 @@
 //! The files: those in the tree by their full paths, and those without a name.
 
 use super::part;
-use crate::layout::*;
-use crate::tables::Tables;
 use crate::text;
+use mritvelja::layout::*;
+use mritvelja::Tables;
 
 /// Every path of the tree with its slot: a directory, then what it names in byte order.
 pub fn paths(tables: &Tables) -> Vec<(String, usize)> {
@@ -14,10 +14,13 @@ pub fn paths(tables: &Tables) -> Vec<(String, usize)> {
 
 fn add_names(tables: &Tables, directory: usize, prefix: &str, paths: &mut Vec<(String, usize)>) {
     let mut places: Vec<usize> = tables.named_places(directory).collect();
-    places.sort_by_key(|&place| tables.name(directory, place));
+    places.sort_by_key(|&place| tables.dirent_name(directory, place));
     for place in places {
-        let slot = tables.named_slot(directory, place);
-        let path = format!("{prefix}/{}", text::readable(tables.name(directory, place)));
+        let slot = tables.dirent_slot(directory, place);
+        let path = format!(
+            "{prefix}/{}",
+            text::readable(tables.dirent_name(directory, place))
+        );
         paths.push((path.clone(), slot));
         if tables.is_kind(slot, DIRECTORY) {
             add_names(tables, slot, &path, paths);
@@ -42,7 +45,7 @@ pub fn describe(tables: &Tables, paths: &[(String, usize)]) -> Vec<String> {
 
 pub fn describe_nameless(tables: &Tables) -> Vec<String> {
     let nameless =
-        (0..SLOTS).filter(|&slot| tables.is_kind(slot, PLAIN) && tables.file(slot)[NAMES] == 0);
+        (0..SLOTS).filter(|&slot| tables.is_kind(slot, PLAIN) && tables.file(slot)[LINKS] == 0);
     let lines = nameless.map(|slot| {
         format!(
             "Slot {slot}: {}, {}",
@@ -69,7 +72,7 @@ fn fields(tables: &Tables, slot: usize) -> String {
         text::rights(record[BITS]),
         record[LABEL],
         record[LENGTH],
-        record[NAMES],
-        record[STAMP]
+        record[LINKS],
+        record[VERSION]
     )
 }

@@ -1,17 +1,17 @@
 //! Both programs on the same stores and calls, compared after each call.
 
-use crate::answer::Answer;
 use crate::call::Call;
 use crate::chance::Chance;
 use crate::defects::{self, Defect};
+use crate::difference::first_difference;
 use crate::generate::{random_store, CallMaker};
-use crate::layout::SLOTS;
 use crate::programs::*;
 use crate::scripts::compare::Scripts;
 use crate::secrecy;
 use crate::sizes;
-use crate::tables::Tables;
 use crate::tally::Tally;
+use mritvelja::layout::SLOTS;
+use mritvelja::{Answer, Tables};
 
 /// After so many differences the run ends: more would say the same.
 const MOST_DIFFERENCES: u64 = 10;
@@ -39,9 +39,9 @@ impl Comparison {
             tally: Tally::new(defects.len()),
             scripts: Scripts::new(seed),
             defects,
-            store: Tables::blank(),
-            reference: Tables::blank(),
-            before: Tables::blank(),
+            store: Tables::empty(),
+            reference: Tables::empty(),
+            before: Tables::empty(),
         }
     }
 
@@ -83,8 +83,8 @@ impl Comparison {
             self.report("a store made to be sound is not", None, None);
             return;
         }
-        self.store.copy_from(&self.before);
-        self.reference.copy_from(&self.before);
+        self.store.clone_from(&self.before);
+        self.reference.clone_from(&self.before);
         let mut maker = CallMaker::new(&self.before);
         for _ in 0..self.chance.between(20, 400) {
             if self.tally.calls() >= calls || !self.step(&mut maker) {
@@ -111,7 +111,7 @@ impl Comparison {
             return false;
         }
         if answer.is_granted() {
-            self.before.copy_from(&self.store);
+            self.before.clone_from(&self.store);
             if call.changes_names() {
                 maker.refresh(&self.before);
             }
@@ -123,7 +123,7 @@ impl Comparison {
     fn call_both(&mut self, call: &Call) -> Option<Answer> {
         let (mut ours, mut theirs) = (call.buffer.clone(), call.buffer.clone());
         let answer = store_call(&mut self.store, call, &mut ours);
-        let other = Answer::from(reference_call(&mut self.reference, call, &mut theirs));
+        let other = store_form(reference_call(&mut self.reference, call, &mut theirs));
         self.tally.count(call.row(), answer.refusal);
         self.judge("", call, [(&answer, &ours), (&other, &theirs)])
             .then_some(answer)
@@ -134,7 +134,7 @@ impl Comparison {
         self.tally.acts += 1;
         let (mut ours, mut theirs) = (call.buffer.clone(), call.buffer.clone());
         let answer = store_act(&mut self.store, call, &mut ours);
-        let other = Answer::from(reference_act(&mut self.reference, call, &mut theirs));
+        let other = store_form(reference_act(&mut self.reference, call, &mut theirs));
         let results = [(&answer, &ours), (&other, &theirs)];
         let alike = self.judge("without the soundness test, ", call, results);
         self.restore();
@@ -161,8 +161,8 @@ impl Comparison {
 
     /// Puts both stores back to what they were before the call.
     fn restore(&mut self) {
-        self.store.copy_from(&self.before);
-        self.reference.copy_from(&self.before);
+        self.store.clone_from(&self.before);
+        self.reference.clone_from(&self.before);
     }
 
     /// The call on a store with a defect, of another size or altered by chance.
@@ -227,7 +227,7 @@ impl Comparison {
                 self.tally.defects[number] += 1;
                 return format!("{}: {}", defect.clause, defect.name);
             }
-            self.before.copy_from(&sound);
+            self.before.clone_from(&sound);
             number = self.chance.below(self.defects.len());
         }
     }
@@ -240,8 +240,8 @@ impl Comparison {
         for _ in 0..self.chance.between(10, 100) {
             self.tally.pair_calls += 1;
             if let Err((what, call)) = pair.step(&mut self.chance) {
-                self.store.copy_from(&pair.one);
-                self.reference.copy_from(&pair.other);
+                self.store.clone_from(&pair.one);
+                self.reference.clone_from(&pair.other);
                 let what = format!("secrecy of slot {}: {what}", pair.slot);
                 self.report(&what, Some(&call), None);
                 return;
@@ -260,7 +260,7 @@ impl Comparison {
         if let Some((store, reference)) = answers {
             println!("  store:     {store:?}\n  reference: {reference:?}");
         }
-        match self.store.first_difference(&self.reference) {
+        match first_difference(&self.store, &self.reference) {
             Some(word) => println!("  first differing word: {word}"),
             None => println!("  the tables are equal"),
         }

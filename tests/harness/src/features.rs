@@ -1,8 +1,8 @@
 //! What the stores made by chance have: shows that the generator gets there.
 
-use crate::layout::*;
-use crate::tables::Tables;
 use crate::tree;
+use mritvelja::layout::*;
+use mritvelja::Tables;
 
 type Test = fn(&Tables) -> bool;
 
@@ -44,7 +44,7 @@ fn eight_deep(tables: &Tables) -> bool {
 
 fn full_directory(tables: &Tables) -> bool {
     (0..SLOTS)
-        .any(|slot| tables.is_kind(slot, DIRECTORY) && tables.file(slot, LENGTH) == DIRENTS as u32)
+        .any(|slot| tables.is_kind(slot, DIRECTORY) && tables.file(slot)[LENGTH] == DIRENTS as u32)
 }
 
 fn no_free_slot(tables: &Tables) -> bool {
@@ -52,27 +52,27 @@ fn no_free_slot(tables: &Tables) -> bool {
 }
 
 fn no_free_entry(tables: &Tables) -> bool {
-    (0..OPENS).all(|entry| tables.open_file(entry, REFERENCES) > 0)
+    (0..OPEN_FILES).all(|entry| tables.open_file(entry)[REFERENCES] > 0)
 }
 
 fn no_free_process(tables: &Tables) -> bool {
-    (0..PROCESSES).all(|process| tables.process(process, USED) == 1)
+    (0..PROCESSES).all(|process| tables.process(process)[USED] == 1)
 }
 
 fn shared_entry(tables: &Tables) -> bool {
-    (0..OPENS).any(|entry| tables.open_file(entry, REFERENCES) > 1)
+    (0..OPEN_FILES).any(|entry| tables.open_file(entry)[REFERENCES] > 1)
 }
 
 fn unnamed(tables: &Tables) -> bool {
-    (0..SLOTS).any(|slot| tables.is_kind(slot, PLAIN) && tables.file(slot, LINKS) == 0)
+    (0..SLOTS).any(|slot| tables.is_kind(slot, PLAIN) && tables.file(slot)[LINKS] == 0)
 }
 
 fn at_wrap(tables: &Tables) -> bool {
-    (0..SLOTS).any(|slot| tables.file(slot, VERSION) == u32::MAX)
+    (0..SLOTS).any(|slot| tables.file(slot)[VERSION] == u32::MAX)
 }
 
 fn has_transition(tables: &Tables) -> bool {
-    tables.policy[RIGHTS..]
+    tables.policy[RIGHTS_SIZE..]
         .iter()
         .any(|&label| label != NO_TRANSITION)
 }

@@ -1,182 +1,37 @@
-//! The two programs, lent the same tables: the proved store through its C
-//! boundary, and the second program.
+//! The two programs, lent the same tables: the proved store and the second
+//! program, with one form of answer.
 
-use crate::answer::Answer;
 use crate::call::Call;
-use crate::replayed::Replayed;
-use crate::tables::Tables;
-use reference::Request;
+use mritvelja::{Answer, Replayed, Request, Tables};
 
-type CallFunction = unsafe extern "C" fn(
-    *mut u32,
-    usize,
-    *mut u8,
-    usize,
-    *mut u32,
-    usize,
-    *mut u32,
-    usize,
-    *const u8,
-    usize,
-    u8,
-    u8,
-    u8,
-    u16,
-    *const u8,
-    usize,
-    *const u8,
-    usize,
-    *mut u8,
-    usize,
-) -> Answer;
-
-mod boundary {
-    use super::{Answer, Replayed};
-
-    macro_rules! call_functions {
-        ($($name:ident)*) => {
-            unsafe extern "C" {
-                $(pub fn $name(
-                    files: *mut u32, file_words: usize,
-                    contents: *mut u8, content_bytes: usize,
-                    open_files: *mut u32, open_words: usize,
-                    processes: *mut u32, process_words: usize,
-                    policy: *const u8, policy_bytes: usize,
-                    process: u8, call: u8, descriptor: u8, number: u16,
-                    path: *const u8, path_bytes: usize,
-                    data: *const u8, data_bytes: usize,
-                    buffer: *mut u8, buffer_bytes: usize,
-                ) -> Answer;)*
-            }
-        };
-    }
-
-    call_functions!(mritvelja_call mritvelja_act);
-
-    unsafe extern "C" {
-        pub fn mritvelja_sound(
-            files: *const u32,
-            file_words: usize,
-            contents: *const u8,
-            content_bytes: usize,
-            open_files: *const u32,
-            open_words: usize,
-            processes: *const u32,
-            process_words: usize,
-            policy: *const u8,
-            policy_bytes: usize,
-        ) -> u32;
-
-        pub fn mritvelja_replay(
-            files: *mut u32,
-            file_words: usize,
-            contents: *mut u8,
-            content_bytes: usize,
-            open_files: *mut u32,
-            open_words: usize,
-            processes: *mut u32,
-            process_words: usize,
-            policy: *const u8,
-            policy_bytes: usize,
-            script: *const u8,
-            script_bytes: usize,
-            allowance: u32,
-            output: *mut u8,
-            output_bytes: usize,
-        ) -> Replayed;
-    }
-}
-
-#[inline(always)]
-fn cross(function: CallFunction, tables: &mut Tables, call: &Call, buffer: &mut [u8]) -> Answer {
-    // SAFETY: every pointer comes with the length of its own allocation, and no two overlap.
-    unsafe {
-        function(
-            tables.files.as_mut_ptr(),
-            tables.files.len(),
-            tables.contents.as_mut_ptr(),
-            tables.contents.len(),
-            tables.open_files.as_mut_ptr(),
-            tables.open_files.len(),
-            tables.processes.as_mut_ptr(),
-            tables.processes.len(),
-            tables.policy.as_ptr(),
-            tables.policy.len(),
-            call.process,
-            call.call,
-            call.descriptor,
-            call.number,
-            call.path.as_ptr(),
-            call.path.len(),
-            call.data.as_ptr(),
-            call.data.len(),
-            buffer.as_mut_ptr(),
-            buffer.len(),
-        )
-    }
-}
+pub use mritvelja::{replay as store_replay, sound as store_sound};
 
 /// One call on the proved store.
+#[inline]
 pub fn store_call(tables: &mut Tables, call: &Call, buffer: &mut [u8]) -> Answer {
-    cross(boundary::mritvelja_call, tables, call, buffer)
+    mritvelja::call(tables, &store_request(call), buffer)
 }
 
 /// One call on the proved store without the soundness test.
+#[inline]
 pub fn store_act(tables: &mut Tables, call: &Call, buffer: &mut [u8]) -> Answer {
-    cross(boundary::mritvelja_act, tables, call, buffer)
+    mritvelja::act(tables, &store_request(call), buffer)
 }
 
-/// The proved store's soundness test.
-pub fn store_sound(tables: &Tables) -> bool {
-    // SAFETY: as in `cross`; nothing is written.
-    let answer = unsafe {
-        boundary::mritvelja_sound(
-            tables.files.as_ptr(),
-            tables.files.len(),
-            tables.contents.as_ptr(),
-            tables.contents.len(),
-            tables.open_files.as_ptr(),
-            tables.open_files.len(),
-            tables.processes.as_ptr(),
-            tables.processes.len(),
-            tables.policy.as_ptr(),
-            tables.policy.len(),
-        )
-    };
-    answer == 1
-}
-
-/// A script on the proved store.
-pub fn store_replay(
-    tables: &mut Tables,
-    script: &[u8],
-    allowance: u32,
-    output: &mut [u8],
-) -> Replayed {
-    // SAFETY: as in `cross`.
-    unsafe {
-        boundary::mritvelja_replay(
-            tables.files.as_mut_ptr(),
-            tables.files.len(),
-            tables.contents.as_mut_ptr(),
-            tables.contents.len(),
-            tables.open_files.as_mut_ptr(),
-            tables.open_files.len(),
-            tables.processes.as_mut_ptr(),
-            tables.processes.len(),
-            tables.policy.as_ptr(),
-            tables.policy.len(),
-            script.as_ptr(),
-            script.len(),
-            allowance,
-            output.as_mut_ptr(),
-            output.len(),
-        )
+#[inline]
+fn store_request(call: &Call) -> Request<'_> {
+    Request {
+        process: call.process,
+        call: call.call,
+        descriptor: call.descriptor,
+        number: call.number,
+        path: &call.path,
+        data: &call.data,
     }
 }
 
-fn request(call: &Call) -> Request {
-    Request {
+fn reference_request(call: &Call) -> reference::Request {
+    reference::Request {
         process: call.process,
         call: call.call,
         descriptor: call.descriptor,
@@ -192,7 +47,7 @@ pub fn reference_call(tables: &mut Tables, call: &Call, buffer: &mut [u8]) -> re
         &mut tables.open_files,
         &mut tables.processes,
         &tables.policy,
-        request(call),
+        reference_request(call),
         &call.path,
         &call.data,
         buffer,
@@ -207,7 +62,7 @@ pub fn reference_act(tables: &mut Tables, call: &Call, buffer: &mut [u8]) -> ref
         &mut tables.open_files,
         &mut tables.processes,
         &tables.policy,
-        request(call),
+        reference_request(call),
         &call.path,
         &call.data,
         buffer,
@@ -242,5 +97,28 @@ pub fn reference_replay(
         allowance,
         output,
     );
-    Replayed::from(replayed)
+    Replayed {
+        next: replayed.next,
+        written: replayed.written,
+        calls: replayed.calls,
+        reason: replayed.reason.number(),
+    }
+}
+
+/// The second program's answer in the store's form.
+pub fn store_form(answer: reference::Answer) -> Answer {
+    let mut name = [0; 16];
+    name[..answer.name.len()].copy_from_slice(&answer.name);
+    let mut fields = [0; 8];
+    if let Some(stat) = answer.fields {
+        fields[..stat.len()].copy_from_slice(&stat);
+    }
+    Answer {
+        refusal: answer.refusal,
+        stop: answer.stop,
+        value: answer.value,
+        name_length: answer.name.len() as u32,
+        name,
+        fields,
+    }
 }

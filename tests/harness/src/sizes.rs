@@ -1,8 +1,8 @@
 //! Tables of another size than the store's.
 
 use crate::chance::Chance;
-use crate::layout::{BLOCK, FILE};
-use crate::tables::Tables;
+use mritvelja::layout::{BLOCK, FILE_WIDTH};
+use mritvelja::Tables;
 
 /// The slots that a store once had.
 const FORMER_SLOTS: usize = 64;
@@ -26,7 +26,7 @@ pub fn resize(tables: &mut Tables, chance: &mut Chance) -> usize {
         3 => resize_one(&mut tables.processes, 11, chance),
         4 => resize_one(&mut tables.policy, 256, chance),
         _ => {
-            tables.files.truncate(FORMER_SLOTS * FILE);
+            tables.files.truncate(FORMER_SLOTS * FILE_WIDTH);
             tables.contents.truncate(FORMER_SLOTS * BLOCK);
         }
     }

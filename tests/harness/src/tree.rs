@@ -1,7 +1,7 @@
 //! Every name in a store, with its path from the root.
 
-use crate::layout::*;
-use crate::tables::Tables;
+use mritvelja::layout::*;
+use mritvelja::Tables;
 
 #[derive(Clone, Debug)]
 pub struct Node {

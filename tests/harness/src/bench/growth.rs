@@ -3,8 +3,8 @@
 use super::mix::*;
 use super::stores::*;
 use super::timing::side_by_side;
-use crate::layout::{DEEPEST, SLOTS};
 use crate::programs::{reference_sound, store_sound};
+use mritvelja::layout::{DEEPEST, SLOTS};
 
 const TURNS: usize = 500;
 

@@ -6,7 +6,7 @@ use super::timing::{nanoseconds, print_head, print_row, side_by_side};
 use super::undo::Undo;
 use crate::call::{name_of, Call, CALLS};
 use crate::programs::reference_act;
-use crate::tables::Tables;
+use mritvelja::Tables;
 use std::hint::black_box;
 
 const SAMPLES_IN_A_SCENE: usize = 6;

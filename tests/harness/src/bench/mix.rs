@@ -5,7 +5,7 @@ use crate::call::Call;
 use crate::chance::Chance;
 use crate::generate::{random_store, CallMaker};
 use crate::programs::*;
-use crate::tables::Tables;
+use mritvelja::Tables;
 use std::hint::black_box;
 
 /// A store, and calls that follow each other on it.
@@ -63,12 +63,12 @@ pub fn reference_acts(tables: &mut Tables, call: &Call, buffer: &mut [u8]) {
 /// Nanoseconds for a call, over all calls of the scenes; stores are put back
 /// outside the measured time.
 pub fn time_scenes(side: Side, scenes: &[Scene]) -> f64 {
-    let mut tables = Tables::blank();
+    let mut tables = Tables::empty();
     let mut buffer = vec![0; 1024];
     let mut total = 0.0;
     let mut calls = 0;
     for scene in scenes {
-        tables.copy_from(&scene.start);
+        tables.clone_from(&scene.start);
         calls += scene.calls.len();
         total += nanoseconds(|| {
             for call in &scene.calls {

@@ -1,9 +1,10 @@
 //! Stores of a known size and depth for the benchmark, and calls on them.
 
 use super::mix::Scene;
+use crate::building::{add_name, blank};
 use crate::call::Call;
-use crate::layout::*;
-use crate::tables::Tables;
+use mritvelja::layout::*;
+use mritvelja::Tables;
 
 /// Bytes in each file, and bytes that each call reads or writes.
 pub const FILE_BYTES: usize = 128;
@@ -11,22 +12,22 @@ pub const CALL_BYTES: usize = 64;
 
 /// A store with one process, user 0, that may do everything.
 fn open_store() -> Tables {
-    let mut tables = Tables::blank();
-    tables.policy[..RIGHTS].fill(7);
-    tables.set_process(0, USED, 1);
+    let mut tables = blank();
+    tables.policy[..RIGHTS_SIZE].fill(7);
+    tables.process_mut(0)[USED] = 1;
     tables
 }
 
 fn add_file(tables: &mut Tables, directory: usize, place: usize, name: &[u8], slot: usize) {
     let length = FILE_BYTES as u32;
-    tables.set_record(slot, [PLAIN, 0, 7, 0, length, 0, 0]);
+    *tables.file_mut(slot) = [PLAIN, 0, 7, 0, length, 0, 0];
     tables.block_mut(slot)[..FILE_BYTES].fill(7);
-    tables.add_name(directory, place, name, slot);
+    add_name(tables, directory, place, name, slot);
 }
 
 fn add_directory(tables: &mut Tables, parent: usize, place: usize, name: &[u8], slot: usize) {
-    tables.set_record(slot, [DIRECTORY, 0, 7, 0, 0, 0, 0]);
-    tables.add_name(parent, place, name, slot);
+    *tables.file_mut(slot) = [DIRECTORY, 0, 7, 0, 0, 0, 0];
+    add_name(tables, parent, place, name, slot);
 }
 
 pub fn file_name(number: usize) -> String {

@@ -1,7 +1,7 @@
 //! What one call changed, to be put back quickly between measurements.
 
-use crate::layout::BLOCK;
-use crate::tables::Tables;
+use mritvelja::layout::BLOCK;
+use mritvelja::Tables;
 
 pub struct Undo {
     files: Patch<u32>,

@@ -3,8 +3,8 @@
 use super::pick::*;
 use super::Break;
 use crate::chance::Chance;
-use crate::layout::*;
-use crate::tables::Tables;
+use mritvelja::layout::*;
+use mritvelja::Tables;
 
 const RANGE: &str = "all fields in range";
 const FREE_ZERO: &str = "free ones are zero";
@@ -41,14 +41,14 @@ pub const FIELDS: &[(&str, &str, Break)] = &[
 fn kind(tables: &mut Tables, chance: &mut Chance) -> Option<()> {
     let slot = chance.below(SLOTS);
     let word = over(chance, DIRECTORY);
-    tables.set_file(slot, KIND, word);
+    tables.file_mut(slot)[KIND] = word;
     Some(())
 }
 
 fn file_field(tables: &mut Tables, chance: &mut Chance, column: usize, highest: u32) -> Option<()> {
     let slot = slot_in_use(tables, chance)?;
     let word = over(chance, highest);
-    tables.set_file(slot, column, word);
+    tables.file_mut(slot)[column] = word;
     Some(())
 }
 
@@ -67,7 +67,7 @@ fn file_label(tables: &mut Tables, chance: &mut Chance) -> Option<()> {
 fn open_field(tables: &mut Tables, chance: &mut Chance, column: usize, highest: u32) -> Option<()> {
     let entry = open_file(tables, chance, true)?;
     let word = over(chance, highest);
-    tables.set_open_file(entry, column, word);
+    tables.open_file_mut(entry)[column] = word;
     Some(())
 }
 
@@ -75,13 +75,13 @@ fn open_field(tables: &mut Tables, chance: &mut Chance, column: usize, highest: 
 fn open_slot(tables: &mut Tables, chance: &mut Chance) -> Option<()> {
     let entry = open_by_someone(tables, chance, 0)?;
     let word = over(chance, SLOTS as u32 - 1);
-    tables.set_open_file(entry, SLOT, word);
+    tables.open_file_mut(entry)[SLOT] = word;
     Some(())
 }
 
 fn mode_zero(tables: &mut Tables, chance: &mut Chance) -> Option<()> {
     let entry = open_file(tables, chance, true)?;
-    tables.set_open_file(entry, MODE, 0);
+    tables.open_file_mut(entry)[MODE] = 0;
     Some(())
 }
 
@@ -101,7 +101,7 @@ fn process_field(
 ) -> Option<()> {
     let process = process(tables, chance, true)?;
     let word = over(chance, highest);
-    tables.set_process(process, column, word);
+    tables.process_mut(process)[column] = word;
     Some(())
 }
 
@@ -114,30 +114,30 @@ fn user(tables: &mut Tables, chance: &mut Chance) -> Option<()> {
 }
 
 fn process_label(tables: &mut Tables, chance: &mut Chance) -> Option<()> {
-    process_field(tables, chance, DOMAIN, 15)
+    process_field(tables, chance, PROCESS_LABEL, 15)
 }
 
 fn descriptor(tables: &mut Tables, chance: &mut Chance) -> Option<()> {
     let (process, descriptor) = free_descriptor(tables, chance)?;
-    let word = over(chance, OPENS as u32);
-    tables.set_descriptor(process, descriptor, word);
+    let word = over(chance, OPEN_FILES as u32);
+    tables.descriptors_mut(process)[descriptor] = word;
     Some(())
 }
 
 fn rights(tables: &mut Tables, chance: &mut Chance) -> Option<()> {
-    tables.policy[chance.below(RIGHTS)] = chance.pick(&[8, 9, 15, 16, 128, 255]);
+    tables.policy[chance.below(RIGHTS_SIZE)] = chance.pick(&[8, 9, 15, 16, 128, 255]);
     Some(())
 }
 
 fn policy_transition(tables: &mut Tables, chance: &mut Chance) -> Option<()> {
-    tables.policy[RIGHTS + chance.below(RIGHTS)] = chance.pick(&[16, 17, 100, 128, 254]);
+    tables.policy[RIGHTS_SIZE + chance.below(RIGHTS_SIZE)] = chance.pick(&[16, 17, 100, 128, 254]);
     Some(())
 }
 
 fn free_record(tables: &mut Tables, chance: &mut Chance) -> Option<()> {
     let slot = slot_of(tables, chance, FREE)?;
     let column = chance.pick(&[OWNER, BITS, LABEL, LENGTH, LINKS]);
-    tables.set_file(slot, column, 1);
+    tables.file_mut(slot)[column] = 1;
     Some(())
 }
 
@@ -145,14 +145,14 @@ fn free_entry(tables: &mut Tables, chance: &mut Chance) -> Option<()> {
     let entry = open_file(tables, chance, false)?;
     let column = chance.pick(&[SLOT, MODE, OFFSET]);
     let word = chance.pick(&[1, 2, SLOTS as u32 - 1, 512, u32::MAX]);
-    tables.set_open_file(entry, column, word);
+    tables.open_file_mut(entry)[column] = word;
     Some(())
 }
 
 fn free_process(tables: &mut Tables, chance: &mut Chance) -> Option<()> {
     let process = process(tables, chance, false)?;
-    let column = chance.pick(&[USER, DOMAIN]);
-    tables.set_process(process, column, 1);
+    let column = chance.pick(&[USER, PROCESS_LABEL]);
+    tables.process_mut(process)[column] = 1;
     Some(())
 }
 
@@ -160,8 +160,8 @@ fn free_process(tables: &mut Tables, chance: &mut Chance) -> Option<()> {
 fn free_process_holds(tables: &mut Tables, chance: &mut Chance) -> Option<()> {
     let process = process(tables, chance, false)?;
     let entry = open_file(tables, chance, true)?;
-    let references = tables.open_file(entry, REFERENCES);
-    tables.set_descriptor(process, chance.below(DESCRIPTORS), entry as u32 + 1);
-    tables.set_open_file(entry, REFERENCES, references + 1);
+    let references = tables.open_file(entry)[REFERENCES];
+    tables.descriptors_mut(process)[chance.below(DESCRIPTORS)] = entry as u32 + 1;
+    tables.open_file_mut(entry)[REFERENCES] = references + 1;
     Some(())
 }

@@ -7,7 +7,7 @@ mod pick;
 mod zeros;
 
 use crate::chance::Chance;
-use crate::tables::Tables;
+use mritvelja::Tables;
 
 /// Breaks a sound store in one way; `None` where this store has no place for it,
 /// and then the store may be half changed.

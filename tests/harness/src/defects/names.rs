@@ -2,10 +2,11 @@
 
 use super::pick::*;
 use super::Break;
+use crate::building::{add_name, add_to_file, blank};
 use crate::chance::Chance;
-use crate::layout::*;
-use crate::tables::Tables;
 use crate::tree;
+use mritvelja::layout::*;
+use mritvelja::Tables;
 
 const ROOT: &str = "root a directory with no name";
 const ONCE: &str = "every other directory named exactly once";
@@ -47,28 +48,22 @@ pub const NAMES: &[(&str, &str, Break)] = &[
 /// On a store with nothing else in it; open, so that nothing but the kind is wrong.
 fn root_plain(tables: &mut Tables, chance: &mut Chance) -> Option<()> {
     let policy = std::mem::take(&mut tables.policy);
-    *tables = Tables {
-        policy,
-        ..Tables::blank()
-    };
-    tables.set_file(0, KIND, PLAIN);
-    tables.set_process(chance.below(PROCESSES), USED, 1);
+    *tables = Tables { policy, ..blank() };
+    tables.file_mut(0)[KIND] = PLAIN;
+    tables.process_mut(chance.below(PROCESSES))[USED] = 1;
     open_by_someone(tables, chance, 0)?;
     Some(())
 }
 
 fn root_free(tables: &mut Tables, _: &mut Chance) -> Option<()> {
     let policy = std::mem::take(&mut tables.policy);
-    *tables = Tables {
-        policy,
-        ..Tables::blank()
-    };
-    tables.set_record(0, [0; FILE]);
+    *tables = Tables { policy, ..blank() };
+    *tables.file_mut(0) = [0; FILE_WIDTH];
     Some(())
 }
 
 fn root_named(tables: &mut Tables, _: &mut Chance) -> Option<()> {
-    tables.set_file(0, LINKS, 1);
+    tables.file_mut(0)[LINKS] = 1;
     Some(())
 }
 
@@ -76,13 +71,13 @@ fn named_twice(tables: &mut Tables, chance: &mut Chance) -> Option<()> {
     let slot = subdirectory(tables, chance)?;
     let (directory, place) = dirent(tables, chance, false)?;
     let name = fresh_name(tables, directory);
-    tables.add_name(directory, place, &name, slot);
+    add_name(tables, directory, place, &name, slot);
     Some(())
 }
 
 fn not_named(tables: &mut Tables, chance: &mut Chance) -> Option<()> {
     let slot = slot_of(tables, chance, FREE)?;
-    tables.set_file(slot, KIND, DIRECTORY);
+    tables.file_mut(slot)[KIND] = DIRECTORY;
     Some(())
 }
 
@@ -91,7 +86,7 @@ fn nine_deep(tables: &mut Tables, chance: &mut Chance) -> Option<()> {
     let directories = nodes
         .iter()
         .filter(|node| tables.is_kind(node.slot, DIRECTORY));
-    let roomy = directories.filter(|node| tables.file(node.slot, LENGTH) < DIRENTS as u32);
+    let roomy = directories.filter(|node| tables.file(node.slot)[LENGTH] < DIRENTS as u32);
     let deepest = roomy.max_by_key(|node| node.depth)?;
     let (mut parent, mut depth) = (deepest.slot, deepest.depth);
     while depth <= DEEPEST {
@@ -99,8 +94,8 @@ fn nine_deep(tables: &mut Tables, chance: &mut Chance) -> Option<()> {
         let empty = |place| tables.dirent_slot(parent, place) == 0;
         let place = chance.pick_where(DIRENTS, empty)?;
         let name = fresh_name(tables, parent);
-        tables.set_file(slot, KIND, DIRECTORY);
-        tables.add_name(parent, place, &name, slot);
+        tables.file_mut(slot)[KIND] = DIRECTORY;
+        add_name(tables, parent, place, &name, slot);
         (parent, depth) = (slot, depth + 1);
     }
     Some(())
@@ -108,18 +103,18 @@ fn nine_deep(tables: &mut Tables, chance: &mut Chance) -> Option<()> {
 
 fn names_itself(tables: &mut Tables, chance: &mut Chance) -> Option<()> {
     let slot = slot_of(tables, chance, FREE)?;
-    tables.set_file(slot, KIND, DIRECTORY);
-    tables.add_name(slot, chance.below(DIRENTS), b"me", slot);
+    tables.file_mut(slot)[KIND] = DIRECTORY;
+    add_name(tables, slot, chance.below(DIRENTS), b"me", slot);
     Some(())
 }
 
 fn names_each_other(tables: &mut Tables, chance: &mut Chance) -> Option<()> {
     let one = slot_of(tables, chance, FREE)?;
-    tables.set_file(one, KIND, DIRECTORY);
+    tables.file_mut(one)[KIND] = DIRECTORY;
     let other = slot_of(tables, chance, FREE)?;
-    tables.set_file(other, KIND, DIRECTORY);
-    tables.add_name(one, chance.below(DIRENTS), b"you", other);
-    tables.add_name(other, chance.below(DIRENTS), b"you", one);
+    tables.file_mut(other)[KIND] = DIRECTORY;
+    add_name(tables, one, chance.below(DIRENTS), b"you", other);
+    add_name(tables, other, chance.below(DIRENTS), b"you", one);
     Some(())
 }
 
@@ -155,7 +150,7 @@ fn byte_after_end(tables: &mut Tables, chance: &mut Chance) -> Option<()> {
 }
 
 fn same_name(tables: &mut Tables, chance: &mut Chance) -> Option<()> {
-    let two_names = |slot| tables.is_kind(slot, DIRECTORY) && tables.file(slot, LENGTH) > 1;
+    let two_names = |slot| tables.is_kind(slot, DIRECTORY) && tables.file(slot)[LENGTH] > 1;
     let directory = chance.pick_where(SLOTS, two_names)?;
     let named = |place| tables.dirent_slot(directory, place) != 0;
     let one = chance.pick_where(DIRENTS, named)?;
@@ -171,7 +166,7 @@ fn name_number(tables: &mut Tables, chance: &mut Chance, number: usize) -> Optio
     let (directory, place) = dirent(tables, chance, false)?;
     let name = fresh_name(tables, directory);
     tables.set_dirent(directory, place, &name, number);
-    tables.add_to_file(directory, LENGTH, 1);
+    add_to_file(tables, directory, LENGTH, 1);
     Some(())
 }
 
@@ -189,7 +184,7 @@ fn names_outside(tables: &mut Tables, chance: &mut Chance) -> Option<()> {
 fn names_root(tables: &mut Tables, chance: &mut Chance) -> Option<()> {
     name_number(tables, chance, 0)?;
     if chance.one_in(2) {
-        tables.set_file(0, LINKS, 1);
+        tables.file_mut(0)[LINKS] = 1;
     }
     Some(())
 }
@@ -197,29 +192,29 @@ fn names_root(tables: &mut Tables, chance: &mut Chance) -> Option<()> {
 fn links_high(tables: &mut Tables, chance: &mut Chance) -> Option<()> {
     let slot = slot_of(tables, chance, PLAIN)?;
     let change = chance.pick(&[1, 2, 256, 65_536]);
-    tables.add_to_file(slot, LINKS, change);
+    add_to_file(tables, slot, LINKS, change);
     Some(())
 }
 
 /// Of a file with at least two names, so that it still has one.
 fn links_low(tables: &mut Tables, chance: &mut Chance) -> Option<()> {
     let slot = chance.pick_where(SLOTS, |slot| {
-        tables.is_kind(slot, PLAIN) && tables.file(slot, LINKS) > 1
+        tables.is_kind(slot, PLAIN) && tables.file(slot)[LINKS] > 1
     })?;
-    tables.add_to_file(slot, LINKS, -1);
+    add_to_file(tables, slot, LINKS, -1);
     Some(())
 }
 
 fn plain_length(tables: &mut Tables, chance: &mut Chance) -> Option<()> {
     let slot = slot_of(tables, chance, PLAIN)?;
     let word = over(chance, BLOCK as u32);
-    tables.set_file(slot, LENGTH, word);
+    tables.file_mut(slot)[LENGTH] = word;
     Some(())
 }
 
 fn directory_length(tables: &mut Tables, chance: &mut Chance) -> Option<()> {
     let slot = slot_of(tables, chance, DIRECTORY)?;
     let change = chance.pick(&[-1, 1, 16, 256, 65_536]);
-    tables.add_to_file(slot, LENGTH, change);
+    add_to_file(tables, slot, LENGTH, change);
     Some(())
 }

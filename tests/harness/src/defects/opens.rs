@@ -3,8 +3,8 @@
 use super::pick::*;
 use super::Break;
 use crate::chance::Chance;
-use crate::layout::*;
-use crate::tables::Tables;
+use mritvelja::layout::*;
+use mritvelja::Tables;
 
 const KEPT: &str = "each plain file named or open";
 const ON_PLAIN: &str = "open entries only on plain files";
@@ -22,7 +22,7 @@ pub const OPENS: &[(&str, &str, Break)] = &[
 
 fn kept_by_nothing(tables: &mut Tables, chance: &mut Chance) -> Option<()> {
     let slot = slot_of(tables, chance, FREE)?;
-    tables.set_file(slot, KIND, PLAIN);
+    tables.file_mut(slot)[KIND] = PLAIN;
     Some(())
 }
 
@@ -40,32 +40,32 @@ fn open_free(tables: &mut Tables, chance: &mut Chance) -> Option<()> {
 
 fn one_more(tables: &mut Tables, chance: &mut Chance) -> Option<()> {
     let entry = open_file(tables, chance, true)?;
-    let references = tables.open_file(entry, REFERENCES);
+    let references = tables.open_file(entry)[REFERENCES];
     let change = chance.pick(&[1, 2, 256, 65_536]);
-    tables.set_open_file(entry, REFERENCES, references + change);
+    tables.open_file_mut(entry)[REFERENCES] = references + change;
     Some(())
 }
 
 fn one_less(tables: &mut Tables, chance: &mut Chance) -> Option<()> {
     let entry = open_file(tables, chance, true)?;
-    let references = tables.open_file(entry, REFERENCES);
-    tables.set_open_file(entry, REFERENCES, references - 1);
+    let references = tables.open_file(entry)[REFERENCES];
+    tables.open_file_mut(entry)[REFERENCES] = references - 1;
     Some(())
 }
 
 fn nobody_holds(tables: &mut Tables, chance: &mut Chance) -> Option<()> {
     let slot = slot_of(tables, chance, PLAIN)?;
     let entry = open_file(tables, chance, false)?;
-    tables.set_open_file(entry, SLOT, slot as u32);
-    tables.set_open_file(entry, MODE, 1);
+    tables.open_file_mut(entry)[SLOT] = slot as u32;
+    tables.open_file_mut(entry)[MODE] = 1;
     let references = chance.pick(&[0, 1]);
-    tables.set_open_file(entry, REFERENCES, references);
+    tables.open_file_mut(entry)[REFERENCES] = references;
     Some(())
 }
 
 fn holds_free(tables: &mut Tables, chance: &mut Chance) -> Option<()> {
     let entry = open_file(tables, chance, false)?;
     let (process, descriptor) = free_descriptor(tables, chance)?;
-    tables.set_descriptor(process, descriptor, entry as u32 + 1);
+    tables.descriptors_mut(process)[descriptor] = entry as u32 + 1;
     Some(())
 }

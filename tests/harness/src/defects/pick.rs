@@ -1,8 +1,9 @@
 //! Parts of a store by chance, where it has such a part.
 
+use crate::building::has_name;
 use crate::chance::Chance;
-use crate::layout::*;
-use crate::tables::Tables;
+use mritvelja::layout::*;
+use mritvelja::Tables;
 
 pub fn slot_of(tables: &Tables, chance: &mut Chance, kind: u32) -> Option<usize> {
     chance.pick_where(SLOTS, |slot| tables.is_kind(slot, kind))
@@ -32,27 +33,27 @@ pub fn dirent(tables: &Tables, chance: &mut Chance, used: bool) -> Option<(usize
 pub fn fresh_name(tables: &Tables, directory: usize) -> Vec<u8> {
     (0..)
         .map(|number: u32| format!("new{number}").into_bytes())
-        .find(|name| !tables.has_name(directory, name))
+        .find(|name| !has_name(tables, directory, name))
         .unwrap_or_default()
 }
 
 pub fn open_file(tables: &Tables, chance: &mut Chance, used: bool) -> Option<usize> {
-    chance.pick_where(OPENS, |entry| {
-        (tables.open_file(entry, REFERENCES) > 0) == used
+    chance.pick_where(OPEN_FILES, |entry| {
+        (tables.open_file(entry)[REFERENCES] > 0) == used
     })
 }
 
 pub fn process(tables: &Tables, chance: &mut Chance, used: bool) -> Option<usize> {
     chance.pick_where(PROCESSES, |process| {
-        (tables.process(process, USED) == 1) == used
+        (tables.process(process)[USED] == 1) == used
     })
 }
 
 /// A descriptor of a process in use that holds nothing.
 pub fn free_descriptor(tables: &Tables, chance: &mut Chance) -> Option<(usize, usize)> {
-    let free = |process: usize, descriptor: usize| tables.descriptor(process, descriptor) == 0;
+    let free = |process: usize, descriptor: usize| tables.descriptors(process)[descriptor] == 0;
     let fit = |process: usize| {
-        tables.process(process, USED) == 1
+        tables.process(process)[USED] == 1
             && (0..DESCRIPTORS).any(|descriptor| free(process, descriptor))
     };
     let process = chance.pick_where(PROCESSES, fit)?;
@@ -64,10 +65,10 @@ pub fn free_descriptor(tables: &Tables, chance: &mut Chance) -> Option<(usize, u
 pub fn open_by_someone(tables: &mut Tables, chance: &mut Chance, slot: usize) -> Option<usize> {
     let entry = open_file(tables, chance, false)?;
     let (process, descriptor) = free_descriptor(tables, chance)?;
-    tables.set_descriptor(process, descriptor, entry as u32 + 1);
-    tables.set_open_file(entry, SLOT, slot as u32);
-    tables.set_open_file(entry, MODE, 1);
-    tables.set_open_file(entry, REFERENCES, 1);
+    tables.descriptors_mut(process)[descriptor] = entry as u32 + 1;
+    tables.open_file_mut(entry)[SLOT] = slot as u32;
+    tables.open_file_mut(entry)[MODE] = 1;
+    tables.open_file_mut(entry)[REFERENCES] = 1;
     Some(entry)
 }
 

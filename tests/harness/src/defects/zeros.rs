@@ -3,8 +3,8 @@
 use super::pick::*;
 use super::Break;
 use crate::chance::Chance;
-use crate::layout::*;
-use crate::tables::Tables;
+use mritvelja::layout::*;
+use mritvelja::Tables;
 
 const ZERO: &str = "the zero bytes";
 
@@ -28,9 +28,9 @@ fn spoil(bytes: &mut [u8], start: usize, chance: &mut Chance) -> Option<()> {
 
 fn past_length(tables: &mut Tables, chance: &mut Chance) -> Option<()> {
     let slot = chance.pick_where(SLOTS, |slot| {
-        tables.is_kind(slot, PLAIN) && tables.file(slot, LENGTH) < BLOCK as u32
+        tables.is_kind(slot, PLAIN) && tables.file(slot)[LENGTH] < BLOCK as u32
     })?;
-    let length = tables.file(slot, LENGTH) as usize;
+    let length = tables.file(slot)[LENGTH] as usize;
     spoil(tables.block_mut(slot), length, chance)
 }
 
@@ -41,7 +41,7 @@ fn in_free(tables: &mut Tables, chance: &mut Chance) -> Option<()> {
 
 fn last_half(tables: &mut Tables, chance: &mut Chance) -> Option<()> {
     let slot = slot_of(tables, chance, DIRECTORY)?;
-    spoil(tables.block_mut(slot), DIRENTS * DIRENT, chance)
+    spoil(tables.block_mut(slot), DIRENTS * DIRENT_WIDTH, chance)
 }
 
 /// Further than one byte from the name's end: one further is a longer name.

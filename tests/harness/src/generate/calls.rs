@@ -1,11 +1,12 @@
 //! Calls by chance that fit the store at hand, so that many are granted.
 
 use super::{names, paths};
+use crate::building::has_name;
 use crate::call::Call;
 use crate::chance::Chance;
-use crate::layout::*;
-use crate::tables::Tables;
 use crate::tree::{self, Node};
+use mritvelja::layout::*;
+use mritvelja::Tables;
 
 /// How often each call is made, the unknown ones at 0.
 const WEIGHTS: [usize; 18] = [1, 14, 8, 6, 5, 5, 5, 6, 5, 6, 9, 10, 10, 5, 4, 3, 2, 5];
@@ -81,7 +82,7 @@ fn kind_of_call(chance: &mut Chance) -> u8 {
 
 /// Mostly a process in use. The last ones seldom exit, else nobody is left.
 fn caller(chance: &mut Chance, tables: &Tables, call: u8) -> usize {
-    let used = |process: &usize| tables.process(*process, USED) == 1;
+    let used = |process: &usize| tables.process(*process)[USED] == 1;
     let in_use: Vec<usize> = (0..PROCESSES).filter(used).collect();
     let spared = call == 16 && in_use.len() < 3 && !chance.one_in(20);
     if in_use.is_empty() || spared || chance.one_in(60) {
@@ -104,11 +105,11 @@ impl Scene<'_> {
             return self.chance.pick(&[0, 3, 7, 8, 9, 255]);
         }
         let (tables, process) = (self.tables, self.process);
-        let fits = |descriptor: usize| match tables.descriptor(process, descriptor) {
+        let fits = |descriptor: usize| match tables.descriptors(process)[descriptor] {
             0 => false,
-            word => fits_direction(call, tables.open_file(word as usize - 1, MODE)),
+            word => fits_direction(call, tables.open_file(word as usize - 1)[MODE]),
         };
-        let held = |descriptor: usize| tables.descriptor(process, descriptor) != 0;
+        let held = |descriptor: usize| tables.descriptors(process)[descriptor] != 0;
         let fitting = if self.chance.percent(88) {
             self.chance.pick_where(DESCRIPTORS, fits)
         } else {
@@ -141,7 +142,7 @@ impl Scene<'_> {
                 self.existing(
                     |tables, slot| {
                         tables.is_kind(slot, DIRECTORY)
-                            && (empty_too || tables.file(slot, LENGTH) == 0)
+                            && (empty_too || tables.file(slot)[LENGTH] == 0)
                     },
                     Some(WRITE),
                 )
@@ -173,7 +174,7 @@ impl Scene<'_> {
     /// Mostly what fits, now and then just too much.
     fn write_length(&mut self, descriptor: usize) -> usize {
         let held = descriptor < DESCRIPTORS;
-        let start = match held.then(|| self.tables.descriptor(self.process, descriptor)) {
+        let start = match held.then(|| self.tables.descriptors(self.process)[descriptor]) {
             None | Some(0) => 0,
             Some(word) => self.write_start(word as usize - 1),
         };
@@ -188,10 +189,10 @@ impl Scene<'_> {
     }
 
     fn write_start(&self, entry: usize) -> usize {
-        let slot = self.tables.open_file(entry, SLOT) as usize;
-        match self.tables.open_file(entry, MODE) {
-            4 => self.tables.file(slot, LENGTH) as usize,
-            _ => self.tables.open_file(entry, OFFSET) as usize,
+        let slot = self.tables.open_file(entry)[SLOT] as usize;
+        match self.tables.open_file(entry)[MODE] {
+            4 => self.tables.file(slot)[LENGTH] as usize,
+            _ => self.tables.open_file(entry)[OFFSET] as usize,
         }
     }
 
@@ -234,12 +235,12 @@ impl Scene<'_> {
         let node = self.node(|scene, node| {
             scene.tables.is_kind(node.slot, DIRECTORY)
                 && node.depth < DEEPEST
-                && (full_too || scene.tables.file(node.slot, LENGTH) < DIRENTS as u32)
+                && (full_too || scene.tables.file(node.slot)[LENGTH] < DIRENTS as u32)
                 && scene.may(node.slot, WRITE | SEARCH)
         });
         let short = self.chance.one_in(2);
         let mut name = names::name(self.chance, short);
-        if self.tables.has_name(node.slot, &name) && self.chance.percent(80) {
+        if has_name(self.tables, node.slot, &name) && self.chance.percent(80) {
             name = names::name(self.chance, false);
         }
         let path = paths::below(&node.path, &name);
@@ -263,12 +264,12 @@ impl Scene<'_> {
 
     /// Whether the caller likely has these rights: a guess that only shapes the calls.
     fn may(&self, slot: usize, rights: u32) -> bool {
-        let user = self.tables.process(self.process, USER);
-        let label = self.tables.process(self.process, DOMAIN) as usize;
-        let bits = self.tables.file(slot, BITS);
-        let by_bits = user == 0 || user == self.tables.file(slot, OWNER) || bits & rights == rights;
-        let over = self.tables.file(slot, LABEL) as usize;
-        by_bits && self.tables.rights(label, over) & rights == rights
+        let user = self.tables.process(self.process)[USER];
+        let label = self.tables.process(self.process)[PROCESS_LABEL] as usize;
+        let bits = self.tables.file(slot)[BITS];
+        let by_bits = user == 0 || user == self.tables.file(slot)[OWNER] || bits & rights == rights;
+        let over = self.tables.file(slot)[LABEL] as usize;
+        by_bits && u32::from(self.tables.rights(label, over)) & rights == rights
     }
 }
 

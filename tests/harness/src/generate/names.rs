@@ -1,7 +1,7 @@
 //! Names for files: short ones that meet again, long ones and odd bytes.
 
 use crate::chance::Chance;
-use crate::layout::NAME;
+use mritvelja::layout::NAME;
 
 const SHORT: [&[u8]; 20] = [
     b"a", b"b", b"c", b"d", b"e", b"f", b"x", b"y", b"aa", b"ab", b"abc", b"now", b"key", b"...",

@@ -2,8 +2,8 @@
 
 use super::shape::Shape;
 use crate::chance::Chance;
-use crate::layout::*;
-use crate::tables::Tables;
+use mritvelja::layout::*;
+use mritvelja::Tables;
 
 /// Opens files in any entries and descriptors; takes free slots for files
 /// without a name.
@@ -17,7 +17,7 @@ pub fn add_open_files(
     if !shape.packed {
         chance.shuffle(&mut places);
     }
-    let mut entries: Vec<usize> = (0..OPENS).collect();
+    let mut entries: Vec<usize> = (0..OPEN_FILES).collect();
     if chance.percent(70) {
         chance.shuffle(&mut entries);
     }
@@ -35,7 +35,7 @@ pub fn add_open_files(
         };
         open(chance, tables, entry, slot, sharers);
         for (process, descriptor) in places.drain(..sharers) {
-            tables.set_descriptor(process, descriptor, entry as u32 + 1);
+            tables.descriptors_mut(process)[descriptor] = entry as u32 + 1;
         }
     }
 }
@@ -54,7 +54,7 @@ fn sharers(chance: &mut Chance, free: usize, to_come: usize) -> Option<usize> {
 /// All descriptors of the processes in use.
 fn free_descriptors(tables: &Tables) -> Vec<(usize, usize)> {
     (0..PROCESSES)
-        .filter(|&process| tables.process(process, USED) == 1)
+        .filter(|&process| tables.process(process)[USED] == 1)
         .flat_map(|process| (0..DESCRIPTORS).map(move |descriptor| (process, descriptor)))
         .collect()
 }
@@ -62,16 +62,16 @@ fn free_descriptors(tables: &Tables) -> Vec<(usize, usize)> {
 /// A plain file that only its open files keep.
 fn make_unnamed(chance: &mut Chance, tables: &mut Tables, slot: usize) -> usize {
     let length = chance.below(BLOCK + 1);
-    let version = tables.file(slot, VERSION);
+    let version = tables.file(slot)[VERSION];
     let label = chance.below(LABELS) as u32;
-    tables.set_record(slot, [PLAIN, 10, 7, label, length as u32, 0, version]);
+    *tables.file_mut(slot) = [PLAIN, 10, 7, label, length as u32, 0, version];
     let bytes = chance.bytes(length);
     tables.block_mut(slot)[..length].copy_from_slice(&bytes);
     slot
 }
 
 fn open(chance: &mut Chance, tables: &mut Tables, entry: usize, slot: usize, sharers: usize) {
-    let length = tables.file(slot, LENGTH);
+    let length = tables.file(slot)[LENGTH];
     let offset = match chance.below(6) {
         0 => length,
         1 => BLOCK as u32,
@@ -79,8 +79,8 @@ fn open(chance: &mut Chance, tables: &mut Tables, entry: usize, slot: usize, sha
         3 => chance.below(length as usize + 1) as u32,
         _ => 0,
     };
-    tables.set_open_file(entry, SLOT, slot as u32);
-    tables.set_open_file(entry, MODE, chance.pick(&[1, 2, 3, 3, 4]));
-    tables.set_open_file(entry, OFFSET, offset);
-    tables.set_open_file(entry, REFERENCES, sharers as u32);
+    tables.open_file_mut(entry)[SLOT] = slot as u32;
+    tables.open_file_mut(entry)[MODE] = chance.pick(&[1, 2, 3, 3, 4]);
+    tables.open_file_mut(entry)[OFFSET] = offset;
+    tables.open_file_mut(entry)[REFERENCES] = sharers as u32;
 }

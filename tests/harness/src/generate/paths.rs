@@ -1,7 +1,7 @@
 //! How a path is written: well formed in several ways, or malformed.
 
 use crate::chance::Chance;
-use crate::layout::LONGEST_PATH;
+use mritvelja::layout::LONGEST_PATH;
 
 /// The path as it stands, or with runs of slashes where they fit.
 pub fn written(chance: &mut Chance, path: &[u8]) -> Vec<u8> {

@@ -1,7 +1,7 @@
 //! What kind of store is to be made: how full, how deep, how strict.
 
 use crate::chance::Chance;
-use crate::layout::{DESCRIPTORS, LABELS, OPENS, PROCESSES, SLOTS};
+use mritvelja::layout::{DESCRIPTORS, LABELS, OPEN_FILES, PROCESSES, SLOTS};
 
 /// Where new names go.
 #[derive(Clone, Copy, PartialEq, Eq)]
@@ -48,7 +48,7 @@ pub struct Shape {
 impl Shape {
     pub fn random(chance: &mut Chance) -> Shape {
         let processes = chance.pick(&[1, 2, 3, 4, 4, 5, 6, 7, 8]);
-        let most_open = (processes * DESCRIPTORS).min(OPENS);
+        let most_open = (processes * DESCRIPTORS).min(OPEN_FILES);
         let opens = match chance.below(5) {
             0 => 0,
             1 => most_open,

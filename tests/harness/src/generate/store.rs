@@ -3,9 +3,10 @@
 use super::names::name;
 use super::opens::add_open_files;
 use super::shape::{Shape, Spread, Strictness};
+use crate::building::{add_name, has_name};
 use crate::chance::Chance;
-use crate::layout::*;
-use crate::tables::Tables;
+use mritvelja::layout::*;
+use mritvelja::Tables;
 
 const USERS: [u32; 4] = [0, 10, 20, 65_535];
 
@@ -34,7 +35,7 @@ pub fn store_of(chance: &mut Chance, shape: Shape) -> Tables {
     let mut maker = Maker {
         chance,
         shape,
-        tables: Tables::blank(),
+        tables: Tables::empty(),
         directories: vec![(0, 0)],
         free_slots,
     };
@@ -57,7 +58,7 @@ pub fn store_of(chance: &mut Chance, shape: Shape) -> Tables {
 
 impl Maker<'_> {
     fn set_policy(&mut self) {
-        for cell in 0..RIGHTS {
+        for cell in 0..RIGHTS_SIZE {
             let all = match self.shape.strictness {
                 Strictness::Generous => 97,
                 Strictness::Mixed => 60,
@@ -66,7 +67,7 @@ impl Maker<'_> {
             let any = self.chance.below(8) as u8;
             self.tables.policy[cell] = if self.chance.percent(all) { 7 } else { any };
             if self.chance.percent(self.shape.transitions) {
-                self.tables.policy[RIGHTS + cell] = self.label() as u8;
+                self.tables.policy[RIGHTS_SIZE + cell] = self.label() as u8;
             }
         }
     }
@@ -79,15 +80,15 @@ impl Maker<'_> {
             } else {
                 self.chance.word() as u32 >> self.chance.below(32)
             };
-            self.tables.set_file(slot, VERSION, version);
+            self.tables.file_mut(slot)[VERSION] = version;
         }
     }
 
     fn set_root(&mut self) {
         let (owner, bits, label) = (self.user(), self.bits(), self.label());
-        self.tables.set_file(0, OWNER, owner);
-        self.tables.set_file(0, BITS, bits | SEARCH);
-        self.tables.set_file(0, LABEL, label);
+        self.tables.file_mut(0)[OWNER] = owner;
+        self.tables.file_mut(0)[BITS] = bits | SEARCH;
+        self.tables.file_mut(0)[LABEL] = label;
     }
 
     fn grow(&mut self) {
@@ -110,7 +111,7 @@ impl Maker<'_> {
     /// A directory with an empty place, and its depth.
     fn parent(&mut self) -> Option<(usize, usize)> {
         let tables = &self.tables;
-        let roomy = |&(slot, _): &(usize, usize)| tables.file(slot, LENGTH) < DIRENTS as u32;
+        let roomy = |&(slot, _): &(usize, usize)| tables.file(slot)[LENGTH] < DIRENTS as u32;
         let fit: Vec<(usize, usize)> = self.directories.iter().copied().filter(roomy).collect();
         if fit.is_empty() {
             return None;
@@ -124,10 +125,10 @@ impl Maker<'_> {
 
     fn set_file(&mut self, slot: usize, kind: u32) {
         let (owner, bits, label) = (self.user(), self.bits(), self.label());
-        let version = self.tables.file(slot, VERSION);
+        let version = self.tables.file(slot)[VERSION];
         let length = if kind == PLAIN { self.length() } else { 0 };
         let record = [kind, owner, bits, label, length as u32, 0, version];
-        self.tables.set_record(slot, record);
+        *self.tables.file_mut(slot) = record;
         let bytes = self.chance.bytes(length);
         self.tables.block_mut(slot)[..length].copy_from_slice(&bytes);
     }
@@ -150,10 +151,10 @@ impl Maker<'_> {
         };
         let short = self.shape.spread == Spread::Deep || self.chance.percent(60);
         let mut fresh = name(self.chance, short);
-        while self.tables.has_name(directory, &fresh) {
+        while has_name(&self.tables, directory, &fresh) {
             fresh = name(self.chance, short);
         }
-        self.tables.add_name(directory, place, &fresh, slot);
+        add_name(&mut self.tables, directory, place, &fresh, slot);
     }
 
     /// Further names for some plain files.
@@ -175,9 +176,9 @@ impl Maker<'_> {
         self.chance.shuffle(&mut numbers);
         for &process in &numbers[..self.shape.processes] {
             let (user, label) = (self.user(), self.label());
-            self.tables.set_process(process, USED, 1);
-            self.tables.set_process(process, USER, user);
-            self.tables.set_process(process, DOMAIN, label);
+            self.tables.process_mut(process)[USED] = 1;
+            self.tables.process_mut(process)[USER] = user;
+            self.tables.process_mut(process)[PROCESS_LABEL] = label;
         }
     }
 

@@ -4,7 +4,7 @@
 use super::block::{Block, Uses, READ};
 use crate::chance::Chance;
 use crate::generate::CallMaker;
-use crate::tables::Tables;
+use mritvelja::Tables;
 
 /// Numbers about those that fit a byte, a read and a script.
 const EDGES: [u16; 14] = [

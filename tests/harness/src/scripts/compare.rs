@@ -6,6 +6,7 @@ use super::script::Script;
 use super::tally::Tally;
 use crate::chance::Chance;
 use crate::defects::{self, Defect};
+use crate::difference::first_difference;
 use crate::programs::{reference_replay, store_replay};
 
 const PROGRAMS: [(&str, Program); 2] = [("store", store_replay), ("reference", reference_replay)];
@@ -99,7 +100,7 @@ fn report(script: &Script, one: &Run, other: &Run) {
     if let Some(at) = byte {
         println!("  first differing byte of the output: {at}");
     }
-    match one.tables.first_difference(&other.tables) {
+    match first_difference(&one.tables, &other.tables) {
         Some(word) => println!("  first differing word: {word}"),
         None => println!("  the tables are equal"),
     }

@@ -2,8 +2,7 @@
 
 use super::given::Given;
 use crate::chance::Chance;
-use crate::replayed::Replayed;
-use crate::tables::Tables;
+use mritvelja::{Replayed, Tables};
 
 /// A program's runner: the tables, the script, the allowance and the output.
 pub type Program = fn(&mut Tables, &[u8], u32, &mut [u8]) -> Replayed;

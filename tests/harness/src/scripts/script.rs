@@ -11,7 +11,7 @@ use crate::defects::Defect;
 use crate::generate::{random_store, CallMaker};
 use crate::programs::reference_replay;
 use crate::sizes;
-use crate::tables::Tables;
+use mritvelja::Tables;
 
 pub const MOST_BLOCKS: usize = 30;
 

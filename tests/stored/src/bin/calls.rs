@@ -3,6 +3,9 @@
 
 // The harness links the proved store, which this program does without: it takes the generator's files alone.
 #[allow(dead_code)]
+#[path = "../../../harness/src/building.rs"]
+mod building;
+#[allow(dead_code)]
 #[path = "../../../harness/src/call.rs"]
 mod call;
 #[allow(dead_code)]
@@ -15,14 +18,8 @@ mod defects;
 #[path = "../../../harness/src/generate/mod.rs"]
 mod generate;
 #[allow(dead_code)]
-#[path = "../../../harness/src/layout.rs"]
-mod layout;
-#[allow(dead_code)]
 #[path = "../../../harness/src/sizes.rs"]
 mod sizes;
-#[allow(dead_code)]
-#[path = "../../../harness/src/tables.rs"]
-mod tables;
 #[allow(dead_code)]
 #[path = "../../../harness/src/tree.rs"]
 mod tree;
@@ -32,10 +29,10 @@ use std::io::Write;
 use call::Call;
 use chance::Chance;
 use generate::{random_store, CallMaker};
+use mritvelja::Tables;
 use reference::Request;
 use stored::records::{self, BUFFER, ROOM};
 use stored::tables::SIZES;
-use tables::Tables;
 
 const SEED: u64 = 20_261;
 const LINK: u8 = 6;

@@ -1,0 +1,105 @@
+//! Sizes, columns and values of the tables, as `include/mritvelja.h` has them.
+
+/// Files; slot 0 is the root directory.
+pub const SLOTS: usize = 128;
+/// Words of a file's record.
+pub const FILE_WIDTH: usize = 7;
+/// Bytes of contents for each slot.
+pub const BLOCK: usize = 512;
+/// Entries in a directory's block.
+pub const DIRENTS: usize = 16;
+/// Bytes of a directory's entry: the name, the slot, 0.
+pub const DIRENT_WIDTH: usize = 16;
+/// Bytes of a name, padded with 0.
+pub const NAME: usize = 14;
+/// Bytes of a path, at most.
+pub const LONGEST_PATH: usize = 64;
+/// Names in a path, at most.
+pub const DEEPEST: usize = 8;
+/// Open files.
+pub const OPEN_FILES: usize = 32;
+/// Words of an open file.
+pub const OPEN_FILE_WIDTH: usize = 4;
+/// Processes.
+pub const PROCESSES: usize = 8;
+/// Words of a process, its descriptors last.
+pub const PROCESS_WIDTH: usize = 11;
+/// Descriptors of a process.
+pub const DESCRIPTORS: usize = 8;
+/// Labels, of files and of processes alike.
+pub const LABELS: usize = 16;
+
+/// Words of all files' records.
+pub const FILES_SIZE: usize = SLOTS * FILE_WIDTH;
+/// Bytes of all contents.
+pub const CONTENTS_SIZE: usize = SLOTS * BLOCK;
+/// Words of all open files.
+pub const OPEN_FILES_SIZE: usize = OPEN_FILES * OPEN_FILE_WIDTH;
+/// Words of all processes.
+pub const PROCESSES_SIZE: usize = PROCESSES * PROCESS_WIDTH;
+/// Cells of rights, process label major, and of transitions, laid out alike.
+pub const RIGHTS_SIZE: usize = LABELS * LABELS;
+/// Bytes of a policy: the rights, then the transitions.
+pub const POLICY_SIZE: usize = 2 * RIGHTS_SIZE;
+
+/// The root directory's slot.
+pub const ROOT: usize = 0;
+/// The transition that leads nowhere.
+pub const NO_TRANSITION: u8 = 255;
+
+// Columns of a file's record, and of stat's fields.
+
+/// [`FREE`], [`PLAIN`] or [`DIRECTORY`].
+pub const KIND: usize = 0;
+/// A user, 0 to 65,535.
+pub const OWNER: usize = 1;
+/// Rights, 0 to 7.
+pub const BITS: usize = 2;
+/// 0 to 15.
+pub const LABEL: usize = 3;
+/// Bytes; of a directory, names in it.
+pub const LENGTH: usize = 4;
+/// How many directory entries name the file.
+pub const LINKS: usize = 5;
+/// Goes up with each change, and wraps.
+pub const VERSION: usize = 6;
+
+/// The kind of a slot that is not in use.
+pub const FREE: u32 = 0;
+/// The kind of a plain file.
+pub const PLAIN: u32 = 1;
+/// The kind of a directory.
+pub const DIRECTORY: u32 = 2;
+
+// Columns of an open file. One with no references is free and all 0.
+
+/// The open file's slot.
+pub const SLOT: usize = 0;
+/// How it was opened: one of [`modes`](crate::modes), without truncating.
+pub const MODE: usize = 1;
+/// Where the next read or write begins, 0 to 512.
+pub const OFFSET: usize = 2;
+/// Descriptors that hold it.
+pub const REFERENCES: usize = 3;
+
+// Columns of a process. One that is not in use is all 0.
+
+/// 1 in use, else 0.
+pub const USED: usize = 0;
+/// 0 to 65,535.
+pub const USER: usize = 1;
+/// 0 to 15.
+pub const PROCESS_LABEL: usize = 2;
+/// Descriptor 0, and after it the others: 0 holds nothing, e + 1 open file e.
+pub const FIRST_DESCRIPTOR: usize = 3;
+
+// Rights, which are added.
+
+/// The right to execute a plain file.
+pub const EXECUTE: u32 = 1;
+/// The right to look a name up in a directory.
+pub const SEARCH: u32 = 1;
+/// The right to write.
+pub const WRITE: u32 = 2;
+/// The right to read.
+pub const READ: u32 = 4;

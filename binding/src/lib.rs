@@ -1,0 +1,38 @@
+//! The proved file store from Rust.
+//!
+//! A store is [`Tables`], which the caller owns and lends to each call:
+//!
+//! - [`call`] makes one call, of tables and a policy that it first finds sound;
+//! - [`act`] makes the same call without that test;
+//! - [`sound`] is the test alone;
+//! - [`replay`] runs a script of calls.
+//!
+//! They are the functions of `include/mritvelja.h`, which are proved to do what
+//! the rules say for all inputs. Here only the crossing is added: what C leaves
+//! to its callers, that nothing lent overlaps and every length is right, the
+//! borrows see to. `docs/using.md` has the calls, the answers and an example.
+//!
+//! Without the default feature `library` the functions are left out, and no archive
+//! is linked: for programs that only make or read tables.
+
+#![warn(missing_docs)]
+
+#[cfg(feature = "library")]
+mod boundary;
+pub mod layout;
+mod numbers;
+mod report;
+mod request;
+mod tables;
+
+#[cfg(feature = "library")]
+pub use boundary::{act, call, replay, sound};
+pub use numbers::{calls, modes, reasons, refusals};
+pub use report::{Answer, Replayed};
+pub use request::Request;
+pub use tables::Tables;
+
+/// The examples of that page are tests of this package.
+#[cfg(all(doctest, feature = "library"))]
+#[doc = include_str!("../../docs/using.md")]
+struct Examples;

@@ -1,0 +1,99 @@
+//! The numbers of calls, modes, refusals and reasons, as `include/mritvelja.h` has them.
+
+/// Calls. After each: the parts it uses, then the value it answers if granted.
+pub mod calls {
+    /// Path, number: mode; the descriptor.
+    pub const OPEN: u8 = 1;
+    /// Path, number: bits; the slot.
+    pub const CREATE: u8 = 2;
+    /// Path, number: bits; the slot.
+    pub const MAKE_DIRECTORY: u8 = 3;
+    /// Path; 0.
+    pub const UNLINK: u8 = 4;
+    /// Path; 0.
+    pub const REMOVE_DIRECTORY: u8 = 5;
+    /// Path: old, data: new path; 0.
+    pub const LINK: u8 = 6;
+    /// Path, number: index; 1, or 0 past the end.
+    pub const LIST: u8 = 7;
+    /// Path, number: bits; 0.
+    pub const CHANGE_BITS: u8 = 8;
+    /// Path; 0, and fields.
+    pub const STAT: u8 = 9;
+    /// Descriptor; 0.
+    pub const CLOSE: u8 = 10;
+    /// Descriptor, buffer; bytes read.
+    pub const READ: u8 = 11;
+    /// Descriptor, data; bytes written.
+    pub const WRITE: u8 = 12;
+    /// Descriptor, number: position; the position.
+    pub const SEEK: u8 = 13;
+    /// Descriptor; the new descriptor.
+    pub const DUPLICATE: u8 = 14;
+    /// Nothing; the child.
+    pub const FORK: u8 = 15;
+    /// Nothing; 0.
+    pub const EXIT: u8 = 16;
+    /// Path; 0.
+    pub const EXECUTE: u8 = 17;
+}
+
+/// Modes of an open. Truncating is added to any mode but reading.
+pub mod modes {
+    /// For reads.
+    pub const READ: u16 = 1;
+    /// For writes.
+    pub const WRITE: u16 = 2;
+    /// For reads and writes.
+    pub const BOTH: u16 = 3;
+    /// For writes at the file's end.
+    pub const APPEND: u16 = 4;
+    /// Cuts the file to no bytes.
+    pub const TRUNCATE: u16 = 8;
+}
+
+/// Refusals. A refused call changes nothing that was lent.
+pub mod refusals {
+    /// Not refused.
+    pub const GRANTED: u32 = 0;
+    /// Store or policy not sound.
+    pub const UNSOUND: u32 = 1;
+    /// Process not in use.
+    pub const NO_PROCESS: u32 = 2;
+    /// Unknown call or mode, bad bits, path or position.
+    pub const MALFORMED: u32 = 3;
+    /// Descriptor not held.
+    pub const NOT_HELD: u32 = 4;
+    /// Not open for that direction.
+    pub const WRONG_DIRECTION: u32 = 5;
+    /// Name missing.
+    pub const NAME_MISSING: u32 = 6;
+    /// Not a directory.
+    pub const NOT_A_DIRECTORY: u32 = 7;
+    /// Wrong kind of file.
+    pub const WRONG_KIND: u32 = 8;
+    /// Bits or ownership forbid.
+    pub const BITS_FORBID: u32 = 9;
+    /// Label forbids.
+    pub const LABEL_FORBIDS: u32 = 10;
+    /// Name already there.
+    pub const NAME_THERE: u32 = 11;
+    /// Directory not empty.
+    pub const NOT_EMPTY: u32 = 12;
+    /// A table needed has no free place.
+    pub const TABLE_FULL: u32 = 13;
+    /// File would pass 512 bytes.
+    pub const TOO_LONG: u32 = 14;
+}
+
+/// Why a run of a script stopped, tested before each call in this order.
+pub mod reasons {
+    /// The script's end.
+    pub const END: u32 = 1;
+    /// As many calls were answered as allowed.
+    pub const ALLOWANCE: u32 = 2;
+    /// The next block is not a call in the script's form.
+    pub const BROKEN: u32 = 3;
+    /// The next answer is too long for the output.
+    pub const ROOM: u32 = 4;
+}

@@ -1,0 +1,51 @@
+//! What comes back from a call and from a run of a script.
+
+use crate::{reasons, refusals};
+
+/// The answer to a call. What an answer does not have is 0.
+#[repr(C)]
+#[derive(Clone, Copy, Debug, PartialEq, Eq)]
+pub struct Answer {
+    /// 0 granted, else why not: one of [`refusals`](crate::refusals).
+    pub refusal: u32,
+    /// The name of the path, from 1, at which a walk was refused.
+    pub stop: u32,
+    /// As the call says.
+    pub value: u32,
+    /// Bytes of a listed name.
+    pub name_length: u32,
+    /// The listed name, then 0.
+    pub name: [u8; 16],
+    /// Of stat: the columns of the file's record, then 0.
+    pub fields: [u32; 8],
+}
+
+impl Answer {
+    /// Whether the call was granted.
+    #[inline]
+    pub fn is_granted(&self) -> bool {
+        self.refusal == refusals::GRANTED
+    }
+}
+
+/// How far a run of a script came.
+#[repr(C)]
+#[derive(Clone, Copy, Debug, PartialEq, Eq)]
+pub struct Replayed {
+    /// The byte of the script where the next block begins.
+    pub next: usize,
+    /// Bytes of the output that hold answers.
+    pub written: usize,
+    /// Calls answered, never more than allowed.
+    pub calls: u32,
+    /// Why the run stopped: one of [`reasons`](crate::reasons).
+    pub reason: u32,
+}
+
+impl Replayed {
+    /// Whether no more of the script can be run.
+    #[inline]
+    pub fn is_last(&self) -> bool {
+        self.reason == reasons::END || self.reason == reasons::BROKEN
+    }
+}

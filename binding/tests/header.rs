@@ -1,0 +1,73 @@
+//! The constants of this package are those of the C header, all of them.
+
+use mritvelja::{calls, layout, modes, reasons, refusals};
+use std::collections::BTreeMap;
+
+const HEADER: &str = include_str!("../../include/mritvelja.h");
+const PREFIX: &str = "MRITVELJA_";
+
+type Values = BTreeMap<String, usize>;
+
+/// Every constant of the header by its name without the prefix.
+fn in_header() -> Values {
+    let code: String = HEADER
+        .split("/*")
+        .map(|part| part.rsplit("*/").next().unwrap_or_default())
+        .collect();
+    let enums = code.split("enum {").skip(1);
+    let items = enums.flat_map(|part| part[..part.find('}').unwrap()].split(','));
+    let mut values = Values::new();
+    for item in items {
+        let (name, product) = item.split_once('=').unwrap();
+        let factors = product.split('*').map(|factor| value(factor, &values));
+        let product = factors.product();
+        values.insert(stripped(name).into(), product);
+    }
+    values
+}
+
+fn stripped(name: &str) -> &str {
+    name.trim().strip_prefix(PREFIX).unwrap()
+}
+
+fn value(factor: &str, values: &Values) -> usize {
+    let number = factor.trim().parse();
+    number.unwrap_or_else(|_| values[stripped(factor)])
+}
+
+macro_rules! constants {
+    ($($prefix:literal $module:ident: $($name:ident)*;)*) => {
+        Values::from([$($(
+            (concat!($prefix, stringify!($name)).into(), $module::$name as usize),
+        )*)*])
+    };
+}
+
+/// Every constant of the package by its name in the header.
+fn in_package() -> Values {
+    let mut values = constants! {
+        "" layout: SLOTS FILE_WIDTH BLOCK DIRENTS DIRENT_WIDTH NAME OPEN_FILES OPEN_FILE_WIDTH
+            PROCESSES PROCESS_WIDTH DESCRIPTORS LABELS NO_TRANSITION FILES_SIZE CONTENTS_SIZE
+            OPEN_FILES_SIZE PROCESSES_SIZE RIGHTS_SIZE POLICY_SIZE PROCESS_LABEL;
+        "FILE_" layout: KIND OWNER BITS LABEL LENGTH LINKS VERSION;
+        "OPEN_" layout: SLOT MODE OFFSET REFERENCES;
+        "PROCESS_" layout: USED USER;
+        "" layout: FREE PLAIN DIRECTORY EXECUTE SEARCH WRITE READ;
+        "MODE_" modes: READ WRITE BOTH APPEND TRUNCATE;
+        "CALL_" calls: OPEN CREATE MAKE_DIRECTORY UNLINK REMOVE_DIRECTORY LINK LIST CHANGE_BITS
+            STAT CLOSE READ WRITE SEEK DUPLICATE FORK EXIT EXECUTE;
+        "" refusals: GRANTED UNSOUND NO_PROCESS MALFORMED NOT_HELD WRONG_DIRECTION NAME_MISSING
+            NOT_A_DIRECTORY WRONG_KIND BITS_FORBID LABEL_FORBIDS NAME_THERE NOT_EMPTY TABLE_FULL
+            TOO_LONG;
+        "REPLAY_" reasons: END ALLOWANCE BROKEN ROOM;
+    };
+    values.insert("PATH".into(), layout::LONGEST_PATH);
+    values.insert("NAMES".into(), layout::DEEPEST);
+    values.insert("PROCESS_DESCRIPTOR".into(), layout::FIRST_DESCRIPTOR);
+    values
+}
+
+#[test]
+fn the_constants_are_those_of_the_header() {
+    assert_eq!(in_package(), in_header());
+}

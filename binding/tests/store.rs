@@ -1,0 +1,106 @@
+//! The functions over a small store: what they take, answer and leave.
+
+use mritvelja::layout::*;
+use mritvelja::{act, call, calls, modes, reasons, refusals, replay, sound, Request, Tables};
+
+const SCRIPT: &[u8] = b"proc=0\ncall=15\nfd=0\narg=0\npath=\ndata=\n";
+
+/// An empty store with one process, of user 0, that may do everything.
+fn small_store() -> Tables {
+    let mut tables = Tables::empty();
+    tables.process_mut(0)[USED] = 1;
+    tables.set_rights(0, 0, 7);
+    tables
+}
+
+fn create(path: &[u8]) -> Request<'_> {
+    Request {
+        call: calls::CREATE,
+        number: 7,
+        path,
+        ..Request::default()
+    }
+}
+
+#[test]
+fn an_empty_store_is_sound_and_every_other_size_is_not() {
+    assert!(sound(&Tables::empty()));
+    let spoils: [fn(&mut Tables); 5] = [
+        |tables| tables.files.clear(),
+        |tables| tables.contents.push(0),
+        |tables| tables.open_files.truncate(1),
+        |tables| tables.processes = Vec::new(),
+        |tables| tables.policy = Vec::new(),
+    ];
+    for spoil in spoils {
+        let mut tables = small_store();
+        spoil(&mut tables);
+        let before = tables.clone();
+        assert!(!sound(&tables));
+        let answer = call(&mut tables, &create(b"/a"), &mut []);
+        assert_eq!(answer.refusal, refusals::UNSOUND);
+        assert_eq!(tables, before);
+    }
+}
+
+#[test]
+fn a_call_with_and_without_the_test_is_the_same() {
+    let (mut tested, mut untested) = (small_store(), small_store());
+    let open = Request {
+        call: calls::OPEN,
+        number: modes::BOTH,
+        path: b"/a",
+        ..Request::default()
+    };
+    let write = Request {
+        call: calls::WRITE,
+        data: b"2.40",
+        ..Request::default()
+    };
+    for request in [open, create(b"/a"), open, write] {
+        let answer = call(&mut tested, &request, &mut []);
+        assert_eq!(answer, act(&mut untested, &request, &mut []));
+        assert_eq!(answer.is_granted(), answer.refusal == 0);
+        assert_eq!(tested, untested);
+    }
+    assert_eq!(tested.dirent_name(ROOT, 0), b"a");
+    assert_eq!(&tested.block(tested.dirent_slot(ROOT, 0))[..5], b"2.40\0");
+    assert_eq!(tested.descriptors(0)[0], 1);
+    assert_eq!(tested.open_file(0)[OFFSET], 4);
+}
+
+#[test]
+fn a_path_and_the_data_may_be_the_same_bytes() {
+    let mut tables = small_store();
+    assert!(call(&mut tables, &create(b"/a"), &mut []).is_granted());
+    let path = b"/a";
+    let link = Request {
+        call: calls::LINK,
+        path,
+        data: path,
+        ..Request::default()
+    };
+    let answer = call(&mut tables, &link, &mut []);
+    assert_eq!(answer.refusal, refusals::NAME_THERE);
+}
+
+#[test]
+fn a_script_says_how_far_it_came() {
+    let (mut tables, mut output) = (small_store(), [0; 64]);
+    let none = replay(&mut tables, SCRIPT, 1, &mut []);
+    assert_eq!((none.reason, none.calls), (reasons::ROOM, 0));
+    let run = replay(&mut tables, SCRIPT, 1, &mut output);
+    assert_eq!((run.reason, run.calls), (reasons::END, 1));
+    assert_eq!(run.next, SCRIPT.len());
+    assert_eq!(&output[..run.written], b"answer=0\nvalue=1\ndata=\n");
+    assert!(run.is_last() && !none.is_last());
+}
+
+#[test]
+fn tables_are_taken_over_in_place() {
+    let (mut tables, other) = (Tables::empty(), small_store());
+    let files = tables.files.as_ptr();
+    tables.clone_from(&other);
+    assert_eq!(tables, other);
+    assert_eq!(tables.files.as_ptr(), files);
+}

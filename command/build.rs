@@ -1,8 +1,0 @@
-//! Links the archive that tools/build-library writes.
-
-fn main() {
-    let library = concat!(env!("CARGO_MANIFEST_DIR"), "/../target/library");
-    println!("cargo:rustc-link-search=native={library}");
-    println!("cargo:rustc-link-lib=static=mritvelja");
-    println!("cargo:rerun-if-changed={library}/libmritvelja.a");
-}

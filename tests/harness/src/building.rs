@@ -1,0 +1,28 @@
+//! Tables built by hand: an empty store, and names with the counts that go with them.
+
+use mritvelja::layout::*;
+use mritvelja::Tables;
+
+/// An empty store whose root everyone may read and search.
+pub fn blank() -> Tables {
+    let mut tables = Tables::empty();
+    tables.file_mut(ROOT)[BITS] = READ | SEARCH;
+    tables
+}
+
+/// Changes a word of a file's record.
+pub fn add_to_file(tables: &mut Tables, slot: usize, column: usize, change: i32) {
+    let word = &mut tables.file_mut(slot)[column];
+    *word = word.wrapping_add_signed(change);
+}
+
+/// Gives a slot one more name, both counts included.
+pub fn add_name(tables: &mut Tables, directory: usize, place: usize, name: &[u8], slot: usize) {
+    tables.set_dirent(directory, place, name, slot);
+    add_to_file(tables, directory, LENGTH, 1);
+    add_to_file(tables, slot, LINKS, 1);
+}
+
+pub fn has_name(tables: &Tables, directory: usize, name: &[u8]) -> bool {
+    (0..DIRENTS).any(|place| tables.dirent_name(directory, place) == name)
+}
