@@ -4,10 +4,22 @@ ghost use lib.ListN.{length};
 ghost use Rattle.rules.specs.Store.{store};
 ghost use Rattle.script_rules.specs.Replay.{replay};
 ghost use Rattle.replay.specs.Runs.{left, leftBy};
+use script_rules::replayed::Reason;
 use script_rules::replayed::Replayed;
 use script_turn::turn::Turn;
 use script_turn::turn::take_turn;
 use tables::parts::after;
+
+fn stopped(calls: u32, next: usize, written: usize, reason: Reason) -> Replayed
+    ensures { λ r. ⌜ r ≡ record { calls = calls; next = next; written = written; reason = reason } ⌝ }
+{
+    Replayed {
+        calls: calls,
+        next: next,
+        written: written,
+        reason: reason,
+    }
+}
 
 // The calls of a script, from its start on. The result has how many were answered, where the next begins, how much of the output holds answers,
 // and why it stopped; past the answers the output stays.
@@ -39,14 +51,7 @@ pub fn replay(
             written,
         );
         match t {
-            Turn::Stopped(why) => {
-                return Replayed {
-                    calls: allowance - allowed,
-                    next: at,
-                    written: written,
-                    reason: why,
-                };
-            }
+            Turn::Stopped(why) => return stopped(allowance - allowed, at, written, why),
             Turn::Answered(size, length) => {
                 at += size;
                 written += length;

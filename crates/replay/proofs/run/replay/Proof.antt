@@ -26,7 +26,7 @@ loop-holds c = (search needs, search needs, search needs, search needs, search n
 
 returns : tie.Need-returns Inv-loop μ-loop
 returns c =
-    stop-turn _ _ _ _ _ _ _ _ _ (c .before .before .before .before .before .before .before .before .before .before .before .before .before .before .before .after .ensures) _ _ _ (c .before .before .before .before .before .before .before .before .before .before .before .before .before .take-turn .ensures) (c .before .before .before .before .before .before .before .before .before .before .before .before .before .before .before .before .before .before .before .before .loop .inv .8) _ (c .before .t .given .1)
+    rw (c .stopped .ensures) (stop-turn _ _ _ _ _ _ _ _ _ (c .before .before .before .before .before .before .before .before .before .before .before .before .before .before .before .before .after .ensures) _ _ _ (c .before .before .before .before .before .before .before .before .before .before .before .before .before .before .take-turn .ensures) (c .before .before .before .before .before .before .before .before .before .before .before .before .before .before .before .before .before .before .before .before .before .loop .inv .8) _ (c .before .before .t .given .1))
 
 add-at : tie.Need-add-at Inv-loop μ-loop
 add-at c = omega (arith, (answer-turn _ _ _ _ _ _ _ _ _ (c .before .before .before .before .before .before .before .before .before .before .before .before .before .before .before .after .ensures) _ _ _ (c .before .before .before .before .before .before .before .before .before .before .before .before .before .take-turn .ensures) (c .before .before .before .before .before .before .before .before .before .before .before .before .before .before .before .before .before .before .before .before .loop .inv .8) _ _ (c .before .t2 .given .1) (c .before .before .before .before .before .before .before .before .before .before .before .before .before .before .before .before .before .before .before .before .loop .inv .5) (c .before .before .before .before .before .before .before .before .before .before .before .before .before .before .before .before .before .before .before .before .loop .inv .6) (c .before .before .before .before .before .before .before .before .before .before .before .before .before .before .before .before .before .before .before .before .loop .inv .7)) .within, c .before .before .before .before .before .before .before .before .before .before .before .before .before .before .before .before .before .before .before .before .before .before .before .before .before .before .before .before .good .1 .1 .1 .1 .1 .0)
@@ -56,6 +56,7 @@ replay-spec =
     (λ c κs. tt)
     (λ c. search needs)
     (λ c. search needs)
+    (λ c κs. tt)
     (λ c. search needs)
     (λ c. search needs)
     (λ c. search needs)
