@@ -2,53 +2,39 @@
 
 use crate::{Answer, Replayed, Request, Tables};
 
+/// Declares functions that make one call: they take the same and answer the same.
+macro_rules! call_functions {
+    ($($name:ident)*) => {
+        unsafe extern "C" {
+            $(fn $name(
+                files: *mut u32,
+                files_size: usize,
+                contents: *mut u8,
+                contents_size: usize,
+                open_files: *mut u32,
+                open_files_size: usize,
+                processes: *mut u32,
+                processes_size: usize,
+                policy: *const u8,
+                policy_size: usize,
+                process: u8,
+                call: u8,
+                descriptor: u8,
+                number: u16,
+                path: *const u8,
+                path_size: usize,
+                data: *const u8,
+                data_size: usize,
+                buffer: *mut u8,
+                buffer_size: usize,
+            ) -> Answer;)*
+        }
+    };
+}
+
+call_functions!(mritvelja_call mritvelja_act);
+
 unsafe extern "C" {
-    fn mritvelja_call(
-        files: *mut u32,
-        files_size: usize,
-        contents: *mut u8,
-        contents_size: usize,
-        open_files: *mut u32,
-        open_files_size: usize,
-        processes: *mut u32,
-        processes_size: usize,
-        policy: *const u8,
-        policy_size: usize,
-        process: u8,
-        call: u8,
-        descriptor: u8,
-        number: u16,
-        path: *const u8,
-        path_size: usize,
-        data: *const u8,
-        data_size: usize,
-        buffer: *mut u8,
-        buffer_size: usize,
-    ) -> Answer;
-
-    fn mritvelja_act(
-        files: *mut u32,
-        files_size: usize,
-        contents: *mut u8,
-        contents_size: usize,
-        open_files: *mut u32,
-        open_files_size: usize,
-        processes: *mut u32,
-        processes_size: usize,
-        policy: *const u8,
-        policy_size: usize,
-        process: u8,
-        call: u8,
-        descriptor: u8,
-        number: u16,
-        path: *const u8,
-        path_size: usize,
-        data: *const u8,
-        data_size: usize,
-        buffer: *mut u8,
-        buffer_size: usize,
-    ) -> Answer;
-
     fn mritvelja_sound(
         files: *const u32,
         files_size: usize,

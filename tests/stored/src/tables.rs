@@ -1,24 +1,21 @@
 //! The lent tables, and a call on them.
 
+pub use mritvelja::layout::{
+    BLOCK, FILE_WIDTH as FILE, LABELS, OPEN_FILE_WIDTH as OPEN, PROCESS_WIDTH as PROCESS,
+};
+use mritvelja::layout::{
+    CONTENTS_SIZE, FILES_SIZE, NO_TRANSITION, OPEN_FILES_SIZE, POLICY_SIZE, PROCESSES_SIZE,
+    RIGHTS_SIZE,
+};
 use reference::{Answer, Request};
-
-const SLOTS: usize = 128;
-pub const FILE: usize = 7;
-pub const BLOCK: usize = 512;
-const OPENS: usize = 32;
-pub const OPEN: usize = 4;
-const PROCESSES: usize = 8;
-pub const PROCESS: usize = 11;
-pub const LABELS: usize = 16;
-const RIGHTS: usize = LABELS * LABELS;
 
 /// The right sizes of files, contents, open files, processes and policy.
 pub const SIZES: [usize; 5] = [
-    SLOTS * FILE,
-    SLOTS * BLOCK,
-    OPENS * OPEN,
-    PROCESSES * PROCESS,
-    2 * RIGHTS,
+    FILES_SIZE,
+    CONTENTS_SIZE,
+    OPEN_FILES_SIZE,
+    PROCESSES_SIZE,
+    POLICY_SIZE,
 ];
 
 /// The five tables.
@@ -45,7 +42,7 @@ impl Tables {
     /// Tables of the right sizes, with no transitions.
     pub fn empty() -> Tables {
         let mut tables = Tables::zero(SIZES);
-        tables.policy[RIGHTS..].fill(255);
+        tables.policy[RIGHTS_SIZE..].fill(NO_TRANSITION);
         tables
     }
 
