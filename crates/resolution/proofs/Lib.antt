@@ -1,6 +1,5 @@
 -- Laws of paths.
 pub mod FirstBytes
-pub mod SameWords
 pub mod Spans
 pub mod Names
 pub mod Words

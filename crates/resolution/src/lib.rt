@@ -1,6 +1,5 @@
 // Pathname resolution: the names of a path, rights, directories, and the walk from name to name.
 pub mod directories;
-mod name_words;
 pub mod paths;
 pub mod rights;
 pub mod walk;

@@ -3,6 +3,7 @@ pub mod calls;
 pub mod directories;
 pub mod files;
 pub mod layout;
+pub mod name_words;
 pub mod names;
 pub mod numbers;
 pub mod opens;

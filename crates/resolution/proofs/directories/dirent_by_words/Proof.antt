@@ -5,7 +5,7 @@ use borrow.Author.Needs.{needs}
 use Rattle.rules.specs.Scan.{first}
 use Rattle.rules.proofs.Scans.{first-yes, first-no, first-done}
 use Rattle.rules.specs.Directories.{hasName}
-use Rattle.resolution.proofs.SameWords.{low-apart, high-apart, words-there}
+use Rattle.tables.proofs.SameWords.{low-apart, high-apart, words-there}
 use Rattle.resolution.proofs.directories.dirent_by_words.Statement.{statement}
 use Rattle.resolution.proofs.directories.dirent_by_words.Tie as tie
 

@@ -1,6 +1,6 @@
 use Prim.Native.Nat.{_*_}
 use borrow.Author.Needs.{needs}
-use Rattle.resolution.proofs.SameWords.{high-at}
+use Rattle.tables.proofs.SameWords.{high-at}
 use Rattle.resolution.proofs.directories.has_high.Statement.{statement}
 use Rattle.resolution.proofs.directories.has_high.Tie as tie
 

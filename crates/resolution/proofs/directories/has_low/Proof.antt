@@ -1,6 +1,6 @@
 use Prim.Native.Nat.{_*_}
 use borrow.Author.Needs.{needs}
-use Rattle.resolution.proofs.SameWords.{low-at}
+use Rattle.tables.proofs.SameWords.{low-at}
 use Rattle.resolution.proofs.directories.has_low.Statement.{statement}
 use Rattle.resolution.proofs.directories.has_low.Tie as tie
 

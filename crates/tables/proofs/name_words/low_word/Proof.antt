@@ -1,6 +1,6 @@
-use Rattle.resolution.specs.NameWords.{lowWord}
-use Rattle.resolution.proofs.name_words.low_word.Statement.{statement}
-use Rattle.resolution.proofs.name_words.low_word.Tie as tie
+use Rattle.tables.specs.NameWords.{lowWord}
+use Rattle.tables.proofs.name_words.low_word.Statement.{statement}
+use Rattle.tables.proofs.name_words.low_word.Tie as tie
 
 pub low-word-spec : {M : Type 1} → statement M
 unfolding lowWord

@@ -11,7 +11,7 @@ use lib.Seq.{getD-drop}
 use Rattle.rules.specs.Directories.{direntAt, hasName}
 use Rattle.rules.specs.Paths.{Name, sameAt, sameName}
 use Rattle.rules.proofs.Scans.{all-yes, all-done, all-at}
-use Rattle.resolution.specs.NameWords.{pair, quad, lowWord, highWord}
+use Rattle.tables.specs.NameWords.{pair, quad, lowWord, highWord}
 
 -- ---- the words of a directory entry, by the directory's bytes
 

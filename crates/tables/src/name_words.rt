@@ -1,8 +1,8 @@
 // Names as numbers: the 14 bytes of a padded name are a word of eight bytes and a word of six, each read at once and compared at once.
 ghost use mathlib.Core.Path.{_≡_};
 ghost use Prim.Native.Nat.{_+_, _*_};
-ghost use Rattle.resolution.specs.NameWords.{pair, quad, lowWord, highWord};
-use tables::words::byte;
+ghost use Rattle.tables.specs.NameWords.{pair, quad, lowWord, highWord};
+use crate::words::byte;
 
 fn pair_of(a: u8, b: u8) -> u64
     ensures { λ r. ⌜ r ≡ pair a b ⌝ }

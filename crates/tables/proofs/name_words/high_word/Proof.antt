@@ -1,6 +1,6 @@
-use Rattle.resolution.specs.NameWords.{highWord}
-use Rattle.resolution.proofs.name_words.high_word.Statement.{statement}
-use Rattle.resolution.proofs.name_words.high_word.Tie as tie
+use Rattle.tables.specs.NameWords.{highWord}
+use Rattle.tables.proofs.name_words.high_word.Statement.{statement}
+use Rattle.tables.proofs.name_words.high_word.Tie as tie
 
 pub high-word-spec : {M : Type 1} → statement M
 unfolding highWord
