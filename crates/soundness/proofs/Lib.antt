@@ -2,3 +2,4 @@
 pub mod Bridge
 pub mod Climbs
 pub mod Flags
+pub mod NewNames

@@ -11,10 +11,15 @@ use Rattle.rules.specs.Paths.{sameName}
 use Rattle.rules.specs.Directories.{direntAt, isEmpty}
 use Rattle.rules.specs.Walk.{isDirectory, isPlain}
 use Rattle.rules.specs.Sound.{recordSound, direntsSound, plainSound, allZero, openFree, openUsed}
+use Rattle.tables.specs.NameWords.{lowWord, highWord}
 
 -- entry j is empty or has another name than entry i, which is not empty
 unfoldable pub otherThan : List ℕ → ℕ → ℕ → Bool
 otherThan D i j = some (isEmpty D j ∷ not (sameName (direntAt D i) (direntAt D j)) ∷ [])
+
+-- entry j is empty or has another name than the one of these words
+unfoldable pub otherWords : List ℕ → ℕ → ℕ → ℕ → Bool
+otherWords D low high j = some (not (eqb low (lowWord (direntAt D j))) ∷ not (eqb high (highWord (direntAt D j))) ∷ isEmpty D j ∷ [])
 
 unfoldable pub linksSoundBy : Tree → List ℕ → ℕ → Bool
 linksSoundBy t L s = cond (eqb s 0) (eqb (t .file s LINKS) 0) (eqb (t .file s LINKS) (getD L s 0))

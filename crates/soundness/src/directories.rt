@@ -9,10 +9,10 @@ ghost use Rattle.rules.specs.Choice.{some, implies};
 ghost use Rattle.rules.specs.Scan.{all, count};
 ghost use Rattle.rules.specs.Layout.{DIRENTS, DIRENT, NAME, SLASH};
 ghost use Rattle.rules.specs.Store.{tree};
-ghost use Rattle.rules.specs.Paths.{sameName};
 ghost use Rattle.rules.specs.Directories.{direntAt, direntSlot, isEmpty, isPadding};
 ghost use Rattle.rules.specs.Sound.{allZero, nameByteSound, nameSound, usedSound, direntSound, isNew, isUsed, direntsSound};
-ghost use Rattle.soundness.specs.Counted.{otherThan};
+ghost use Rattle.tables.specs.NameWords.{lowWord, highWord};
+ghost use Rattle.soundness.specs.Counted.{otherThan, otherWords};
 use crate::bytes::all_zero;
 use crate::fields::is_byte;
 use rules::ids::Slot;
@@ -25,8 +25,9 @@ use tables::layout::DIRENT;
 use tables::layout::DIRENTS;
 use tables::layout::NAME;
 use tables::layout::SLOTS;
+use tables::name_words::high_word;
+use tables::name_words::low_word;
 use tables::names::is_dots;
-use tables::names::same_name;
 use tables::parts::after;
 
 const SLASH: u8 = b'/';
@@ -114,19 +115,15 @@ fn used_sound(files: &[u32], contents: &[u8], name: &[u8], target: u32) -> bool
     !is_free(files, Slot(target))
 }
 
-// Looked for byte by byte, and not as the empty name: most entries of a directory are empty.
+// By the name's two words: most entries of a directory are empty, and all 14 bytes of each are asked for.
 fn all_padding(name: &[u8]) -> bool
     ensures { λ r. ⌜ r ≡ all (isPadding (now (name .entry))) 0 NAME ⌝ }
 {
-    let mut k = 0;
-    while k < NAME {
-        if is_padding(name, k) {
-            k += 1;
-        } else {
-            return false;
-        }
+    let low = low_word(name) == 0;
+    if !low {
+        return false;
     }
-    true
+    high_word(name) == 0
 }
 
 fn padding_at(dir: &[u8], i: u32) -> bool
@@ -180,28 +177,52 @@ fn all_dirents_sound(files: &[u32], contents: &[u8], dir: &[u8]) -> bool
     true
 }
 
-fn other_name(dir: &[u8], i: u32, j: u32) -> bool
-    ensures { λ r. ⌜ r ≡ not (sameName (direntAt (now (dir .entry)) i) (direntAt (now (dir .entry)) j)) ⌝ }
+// The words of the name of entry i.
+fn low_at(dir: &[u8], i: u32) -> u64
+    ensures { λ r. ⌜ r ≡ lowWord (direntAt (now (dir .entry)) i) ⌝ }
 {
-    !same_name(dirent_at(dir, i), dirent_at(dir, j))
+    low_word(dirent_at(dir, i))
 }
 
-// Entry j is empty or has another name than entry i.
-fn other_than(dir: &[u8], i: u32, j: u32) -> bool
-    ensures { λ r. ⌜ r ≡ otherThan (now (dir .entry)) i j ⌝ }
+fn high_at(dir: &[u8], i: u32) -> u64
+    ensures { λ r. ⌜ r ≡ highWord (direntAt (now (dir .entry)) i) ⌝ }
 {
-    if is_empty(dir, j) {
+    high_word(dirent_at(dir, i))
+}
+
+fn other_low(dir: &[u8], low: u64, j: u32) -> bool
+    ensures { λ r. ⌜ r ≡ not (eqb low (lowWord (direntAt (now (dir .entry)) j))) ⌝ }
+{
+    low != low_at(dir, j)
+}
+
+fn other_high(dir: &[u8], high: u64, j: u32) -> bool
+    ensures { λ r. ⌜ r ≡ not (eqb high (highWord (direntAt (now (dir .entry)) j))) ⌝ }
+{
+    high != high_at(dir, j)
+}
+
+// Entry j is empty or has another name than the one of these words. The low word is asked first: it tells most names apart.
+fn other_than(dir: &[u8], low: u64, high: u64, j: u32) -> bool
+    ensures { λ r. ⌜ r ≡ otherWords (now (dir .entry)) low high j ⌝ }
+{
+    if other_low(dir, low, j) {
         return true;
     }
-    other_name(dir, i, j)
+    if other_high(dir, high, j) {
+        return true;
+    }
+    is_empty(dir, j)
 }
 
 fn name_new(dir: &[u8], i: u32) -> bool
     ensures { λ r. ⌜ r ≡ all (otherThan (now (dir .entry)) i) 0 i ⌝ }
 {
+    let low = low_at(dir, i);
+    let high = high_at(dir, i);
     let mut j = 0;
     while j < i {
-        if other_than(dir, i, j) {
+        if other_than(dir, low, high, j) {
             j += 1;
         } else {
             return false;

@@ -1,17 +1,18 @@
-use mathlib.Core.Path.{_≡_, refl}
+use mathlib.Core.Path.{_≡_}
 use Prim.Native.Nat.{_-_}
 use borrow.Author.Needs.{needs}
 use Rattle.rules.specs.Scan.{all}
 use Rattle.rules.proofs.Scans.{all-yes, all-no, all-done}
-use Rattle.soundness.specs.Counted.{otherThan}
+use Rattle.soundness.specs.Counted.{otherThan, otherWords}
+use Rattle.soundness.proofs.NewNames.{others-by}
 use Rattle.soundness.proofs.directories.name_new.Statement.{statement}
 use Rattle.soundness.proofs.directories.name_new.Tie as tie
 
 abbrev Inv-loop : tie.InvT-loop
-Inv-loop dir i j₀ j = all (otherThan dir i) j i ≡ all (otherThan dir i) 0 i
+Inv-loop dir i low high j₀ j = all (otherWords dir low high) j i ≡ all (otherThan dir i) 0 i
 
 abbrev μ-loop : tie.MeasureT-loop
-μ-loop dir i j₀ j = i - j
+μ-loop dir i low high j₀ j = i - j
 
 pub name-new-spec : {M : Type 1} → statement M
 name-new-spec =
@@ -19,7 +20,9 @@ name-new-spec =
     (tie.spec
     Inv-loop
     μ-loop
-    (λ c. refl)
+    (λ c κs. tt)
+    (λ c κs. tt)
+    (λ c. others-by (c .before .before .before .args .dir .now) (λ k. c .before .before .shared-slice-known .given k .fits) (c .before .before .before .args .i) _ _ (c .before .low-at .ensures) (c .high-at .ensures))
     (λ c κs. search needs)
     (λ c. search needs)
     (λ c. search needs)
