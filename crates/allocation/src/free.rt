@@ -7,7 +7,9 @@ ghost use Rattle.rules.specs.Checks.{slotFree, ofdFree, pidFree, freeSlot, free
 use crate::used::used_descriptors;
 use rules::ids::Pid;
 use rules::ids::Slot;
+use tables::layout::FILES_SIZE;
 use tables::layout::OPENS;
+use tables::layout::OPENS_SIZE;
 use tables::layout::PROCESSES;
 use tables::layout::SLOTS;
 
@@ -17,7 +19,8 @@ fn slot_free(files: &[u32], s: u32) -> bool
     tables::files::is_free(files, Slot(s))
 }
 
-pub fn free_slot(files: &[u32]) -> u32
+// The scan itself.
+fn first_free_slot(files: &[u32]) -> u32
     ensures { λ r. ⌜ r ≡ freeSlot (tab FILE (now (files .entry))) ⌝ }
 {
     let mut s: u32 = 0;
@@ -30,13 +33,23 @@ pub fn free_slot(files: &[u32]) -> u32
     SLOTS
 }
 
+// A table that is whole is handed on at its known length: no slot is then tested against its end.
+pub fn free_slot(files: &[u32]) -> u32
+    ensures { λ r. ⌜ r ≡ freeSlot (tab FILE (now (files .entry))) ⌝ }
+{
+    if FILES_SIZE <= files.len() {
+        return first_free_slot(&files[0..FILES_SIZE]);
+    }
+    first_free_slot(files)
+}
+
 fn ofd_free(opens: &[u32], e: u32) -> bool
     ensures { λ r. ⌜ r ≡ ofdFree (tab OPEN (now (opens .entry))) e ⌝ }
 {
     tables::opens::references(opens, e) == 0
 }
 
-pub fn free_ofd(opens: &[u32]) -> u32
+fn first_free_ofd(opens: &[u32]) -> u32
     ensures { λ r. ⌜ r ≡ freeOfd (tab OPEN (now (opens .entry))) ⌝ }
 {
     let mut e: u32 = 0;
@@ -47,6 +60,16 @@ pub fn free_ofd(opens: &[u32]) -> u32
         e += 1;
     }
     OPENS
+}
+
+// As `free_slot`.
+pub fn free_ofd(opens: &[u32]) -> u32
+    ensures { λ r. ⌜ r ≡ freeOfd (tab OPEN (now (opens .entry))) ⌝ }
+{
+    if OPENS_SIZE <= opens.len() {
+        return first_free_ofd(&opens[0..OPENS_SIZE]);
+    }
+    first_free_ofd(opens)
 }
 
 // The zeros below the lowest bit that is not set; eight where all are, which callers refuse with 13.
