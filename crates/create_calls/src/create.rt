@@ -2,20 +2,19 @@
 ghost use mathlib.Core.Path.{_≡_};
 ghost use Rattle.rules.specs.Layout.{FILE};
 ghost use Rattle.rules.specs.Store.{tab, tree, shownOf};
-ghost use Rattle.rules.specs.Paths.{names, lastName};
 ghost use Rattle.rules.specs.Directories.{freeDirent};
 ghost use Rattle.rules.specs.Checks.{freeSlot};
-ghost use Rattle.rules.specs.DecidePaths.{newRecord, created, createRoom, createIn, decideCreate};
+ghost use Rattle.rules.specs.DecidePaths.{newRecord, created, createRoom, decideCreate};
+ghost use Rattle.create_calls.specs.Placed.{createAt};
 use crate::dirs::free_in;
 use crate::dirs::gaining;
-use crate::dirs::is_absent;
 use allocation::free::free_slot;
-use resolution::paths::last_name;
 use resolution::rights::bits_allow;
 use resolution::rights::label_allows;
-use resolution::walk::walk_parent;
+use resolution::walk::walk_new;
 use rules::decision::Decision;
 use rules::decision::Effect;
+use rules::decision::Location;
 use rules::decision::Output;
 use rules::decision::Record;
 use rules::decision::Walk;
@@ -106,19 +105,21 @@ fn create_free(
     )
 }
 
-fn create_in(
+// The name's place in its parent is found.
+fn create_at(
     files: &[u32],
     contents: &[u8],
     policy: &[u8],
     who: Subject,
     kind: u32,
     bits: u32,
-    name: &[u8],
-    d: Slot,
+    at: Location,
 ) -> Decision
-    ensures { λ r. ⌜ r ≡ createIn (now (policy .entry)) (tree (now (files .entry)) (now (contents .entry))) who kind bits (now (name .entry)) d ⌝ }
+    ensures { λ r. ⌜ r ≡ createAt (now (policy .entry)) (tree (now (files .entry)) (now (contents .entry))) who kind bits at ⌝ }
 {
-    if !is_absent(files, contents, d, name) {
+    let d = at.dir;
+    let absent = !(at.dirent < DIRENTS);
+    if !absent {
         return Decision::Refused(Refusal::NameThere, 0);
     }
     if !bits_allow(files, who, d, Rights::WRITE) {
@@ -141,17 +142,8 @@ pub fn decide_create(
 ) -> Decision
     ensures { λ r. ⌜ r ≡ decideCreate (now (policy .entry)) (tree (now (files .entry)) (now (contents .entry))) who kind bits (now (path .entry)) ⌝ }
 {
-    match walk_parent(files, contents, policy, who, path) {
-        Walk::Reached(at) => create_in(
-            files,
-            contents,
-            policy,
-            who,
-            kind,
-            bits,
-            last_name(path),
-            at.slot,
-        ),
+    match walk_new(files, contents, policy, who, path) {
+        Walk::Reached(at) => create_at(files, contents, policy, who, kind, bits, at),
         Walk::Stopped(r, k) => Decision::Refused(r, k),
     }
 }

@@ -2,21 +2,18 @@
 ghost use mathlib.Core.Path.{_≡_};
 ghost use Rattle.rules.specs.Layout.{FILE};
 ghost use Rattle.rules.specs.Store.{tab, tree, shownOf};
-ghost use Rattle.rules.specs.Paths.{names, lastName};
 ghost use Rattle.rules.specs.Directories.{freeDirent};
-ghost use Rattle.rules.specs.Walk.{walkParent};
-ghost use Rattle.rules.specs.Checks.{after};
-ghost use Rattle.rules.specs.DecidePaths.{linked, linkRoom, linkIn, linkTo, linkNew, decideLink};
+ghost use Rattle.rules.specs.DecidePaths.{linked, linkRoom, linkTo, linkNew, decideLink};
+ghost use Rattle.create_calls.specs.Placed.{linkAt};
 use crate::dirs::free_in;
 use crate::dirs::gaining;
-use crate::dirs::is_absent;
-use resolution::paths::last_name;
 use resolution::rights::bits_allow;
 use resolution::rights::label_allows;
-use resolution::walk::walk_parent;
+use resolution::walk::walk_new;
 use resolution::walk::walk_path;
 use rules::decision::Decision;
 use rules::decision::Effect;
+use rules::decision::Location;
 use rules::decision::Output;
 use rules::decision::Walk;
 use rules::ids::Slot;
@@ -57,18 +54,20 @@ fn link_free(files: &[u32], contents: &[u8], old: Slot, d: Slot) -> Decision
     link_room(files, old, d, free_in(files, contents, d))
 }
 
-fn link_in(
+// The new name's place in its parent is found.
+fn link_at(
     files: &[u32],
     contents: &[u8],
     policy: &[u8],
     who: Subject,
     old: Slot,
-    name: &[u8],
-    d: Slot,
+    at: Location,
 ) -> Decision
-    ensures { λ r. ⌜ r ≡ linkIn (now (policy .entry)) (tree (now (files .entry)) (now (contents .entry))) who old (now (name .entry)) d ⌝ }
+    ensures { λ r. ⌜ r ≡ linkAt (now (policy .entry)) (tree (now (files .entry)) (now (contents .entry))) who old at ⌝ }
 {
-    if !is_absent(files, contents, d, name) {
+    let d = at.dir;
+    let absent = !(at.dirent < DIRENTS);
+    if !absent {
         return Decision::Refused(Refusal::NameThere, 0);
     }
     if !bits_allow(files, who, d, Rights::WRITE) {
@@ -91,8 +90,8 @@ fn link_new(
 ) -> Decision
     ensures { λ r. ⌜ r ≡ linkNew (now (policy .entry)) (tree (now (files .entry)) (now (contents .entry))) who (now (new .entry)) old ⌝ }
 {
-    match walk_parent(files, contents, policy, who, new) {
-        Walk::Reached(at) => link_in(files, contents, policy, who, old, last_name(new), at.slot),
+    match walk_new(files, contents, policy, who, new) {
+        Walk::Reached(at) => link_at(files, contents, policy, who, old, at),
         Walk::Stopped(r, k) => Decision::Refused(r, k),
     }
 }

@@ -4,4 +4,6 @@ pub mod Spans
 pub mod Names
 pub mod Words
 pub mod Parsing
-pub mod Parents
+pub mod Packed
+pub mod ByWords
+pub mod Walks

@@ -1,2 +1,3 @@
 pub mod Parse
-pub mod Parents
+pub mod PathNames
+pub mod Walks

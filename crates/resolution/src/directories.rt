@@ -8,8 +8,9 @@ ghost use Prim.Native.Nat.{_*_, _<_, _≤_};
 ghost use Rattle.rules.specs.Choice.{every};
 ghost use Rattle.rules.specs.Scan.{count, first};
 ghost use Rattle.rules.specs.Layout.{NAME, DIRENTS, DIRENT};
-ghost use Rattle.rules.specs.Directories.{direntAt, isEmpty, hasName, direntOf, freeDirent, differsAt, difference, precedes, isBefore, isRanked, direntRanked, isPadding, direntName};
+ghost use Rattle.rules.specs.Directories.{direntAt, isEmpty, freeDirent, differsAt, difference, precedes, isBefore, isRanked, direntRanked, isPadding, direntName};
 ghost use Rattle.tables.specs.NameWords.{lowWord, highWord};
+ghost use Rattle.resolution.specs.Walks.{hasWords, direntBy};
 use tables::directories::dirent_at;
 use tables::directories::is_empty;
 use tables::directories::is_padding;
@@ -61,13 +62,11 @@ fn has_high(dir: &[u8], i: u32, high: u64) -> bool
         == high
 }
 
-// The entries of a directory that is whole, by the words of their names.
-fn dirent_by_words(dir: &[u8], name: &[u8]) -> u32
+// The entries of a directory that is whole: no byte is tested against its end.
+fn dirent_in_whole(dir: &[u8], low: u64, high: u64) -> u32
     requires { ⌜ DIRENTS * DIRENT ≤ length (now dir) ⌝ }
-    ensures { λ r. ⌜ r ≡ direntOf (now (dir .entry)) (now (name .entry)) ⌝ }
+    ensures { λ r. ⌜ r ≡ direntBy (now (dir .entry)) low high ⌝ }
 {
-    let low = low_word(name);
-    let high = high_word(name);
     let mut i: u32 = 0;
     while i < DIRENTS {
         if has_low(dir, i, low) {
@@ -80,18 +79,34 @@ fn dirent_by_words(dir: &[u8], name: &[u8]) -> u32
     DIRENTS
 }
 
-fn has_name(dir: &[u8], name: &[u8], i: u32) -> bool
-    ensures { λ r. ⌜ r ≡ hasName (now (dir .entry)) (now (name .entry)) i ⌝ }
+fn low_is(dir: &[u8], low: u64, i: u32) -> bool
+    ensures { λ r. ⌜ r ≡ eqb (lowWord (direntAt (now (dir .entry)) i)) low ⌝ }
 {
-    tables::names::same_name(dirent_at(dir, i), name)
+    low_word(dirent_at(dir, i)) == low
 }
 
-fn dirent_by_names(dir: &[u8], name: &[u8]) -> u32
-    ensures { λ r. ⌜ r ≡ direntOf (now (dir .entry)) (now (name .entry)) ⌝ }
+fn high_is(dir: &[u8], high: u64, i: u32) -> bool
+    ensures { λ r. ⌜ r ≡ eqb (highWord (direntAt (now (dir .entry)) i)) high ⌝ }
+{
+    high_word(dirent_at(dir, i)) == high
+}
+
+// Entry i has the name of these words.
+fn has_words(dir: &[u8], low: u64, high: u64, i: u32) -> bool
+    ensures { λ r. ⌜ r ≡ hasWords (now (dir .entry)) low high i ⌝ }
+{
+    if !low_is(dir, low, i) {
+        return false;
+    }
+    high_is(dir, high, i)
+}
+
+fn dirent_in_part(dir: &[u8], low: u64, high: u64) -> u32
+    ensures { λ r. ⌜ r ≡ direntBy (now (dir .entry)) low high ⌝ }
 {
     let mut i: u32 = 0;
     while i < DIRENTS {
-        if has_name(dir, name, i) {
+        if has_words(dir, low, high, i) {
             return i;
         }
         i += 1;
@@ -99,14 +114,14 @@ fn dirent_by_names(dir: &[u8], name: &[u8]) -> u32
     DIRENTS
 }
 
-// The entry that has the name, 16 where none has.
-pub fn dirent_of(dir: &[u8], name: &[u8]) -> u32
-    ensures { λ r. ⌜ r ≡ direntOf (now (dir .entry)) (now (name .entry)) ⌝ }
+// The entry that has the name of these words, 16 where none has.
+pub fn dirent_by(dir: &[u8], low: u64, high: u64) -> u32
+    ensures { λ r. ⌜ r ≡ direntBy (now (dir .entry)) low high ⌝ }
 {
     if (DIRENTS as usize) * DIRENT <= dir.len() {
-        return dirent_by_words(dir, name);
+        return dirent_in_whole(dir, low, high);
     }
-    dirent_by_names(dir, name)
+    dirent_in_part(dir, low, high)
 }
 
 // The lowest free entry, 16 where there is none.

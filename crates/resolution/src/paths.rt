@@ -37,7 +37,7 @@ fn is_inner(b: u8) -> bool
     b != 0
 }
 
-fn in_class(b: u8, class: ByteClass) -> bool
+pub fn in_class(b: u8, class: ByteClass) -> bool
     ensures { λ r. ⌜ r ≡ inClass class b ⌝ }
 {
     match class {

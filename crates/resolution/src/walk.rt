@@ -1,13 +1,14 @@
 // A path is resolved one name at a time, from the root.
 ghost use mathlib.Core.Path.{_≡_};
 ghost use Prim.Native.Nat.{_+_};
-ghost use lib.ListN.{drop};
-ghost use Rattle.rules.specs.Layout.{FILE};
-ghost use Rattle.rules.specs.Store.{tab, tree};
+ghost use lib.ListN.{drop, length};
+ghost use Rattle.rules.specs.Store.{tree};
 ghost use Rattle.rules.specs.Paths.{firstNames};
 ghost use Rattle.rules.specs.Directories.{direntOf};
-ghost use Rattle.rules.specs.Walk.{reached, entered, found, lookup, walk, ROOT, walkPath, enterParent, walkParent};
-ghost use Rattle.resolution.specs.Parents.{walkIn, toParent, NameStarts};
+ghost use Rattle.rules.specs.Walk.{reached, entered, walkPath, ROOT};
+ghost use Rattle.resolution.specs.Walks.{here, isLast, placed, direntBy, placedBy, lookupBy, walkFor, walkNew, firstNumber, NameStarts};
+use crate::directories::dirent_by;
+use crate::path_names::read_name;
 use crate::paths::ByteClass;
 use crate::paths::span_end;
 use crate::rights::bits_allow;
@@ -20,6 +21,12 @@ use rules::request::Subject;
 use rules::rights::Rights;
 use tables::layout::DIRENTS;
 use tables::layout::NAMES;
+
+// What a path is walked for: the file that it names, or a new name in the parent, which may be there or not.
+pub enum Intent {
+    Find,
+    Create,
+}
 
 // Entry i of directory d, whose bytes are `dir`.
 fn enter_dirent(dir: &[u8], d: Slot, k: u32, i: u32) -> Walk
@@ -42,29 +49,50 @@ fn reach_dirent(dir: &[u8], d: Slot, i: u32) -> Walk
     })
 }
 
-fn find_in(dir: &[u8], d: Slot, name: &[u8], k: u32) -> Walk
-    ensures { λ r. ⌜ r ≡ entered (now (dir .entry)) d k (direntOf (now (dir .entry)) (now (name .entry))) ⌝ }
+// A name that is missing stops a walk for a file.
+fn place_at(dir: &[u8], d: Slot, k: u32, intent: Intent, i: u32) -> Walk
+    ensures { λ r. ⌜ r ≡ placed intent (now (dir .entry)) d k i ⌝ }
 {
-    enter_dirent(dir, d, k, crate::directories::dirent_of(dir, name))
+    match intent {
+        Intent::Find => enter_dirent(dir, d, k, i),
+        Intent::Create => reach_dirent(dir, d, i),
+    }
 }
 
-fn find(files: &[u32], contents: &[u8], d: Slot, name: &[u8], k: u32) -> Walk
-    ensures { λ r. ⌜ r ≡ found (tree (now (files .entry)) (now (contents .entry))) d (now (name .entry)) k ⌝ }
+fn place_in(dir: &[u8], d: Slot, low: u64, high: u64, k: u32, intent: Intent) -> Walk
+    ensures { λ r. ⌜ r ≡ placed intent (now (dir .entry)) d k (direntBy (now (dir .entry)) low high) ⌝ }
 {
-    find_in(tables::files::shown(files, contents, d), d, name, k)
+    place_at(dir, d, k, intent, dirent_by(dir, low, high))
 }
 
-// The k-th name is looked for in directory d.
+fn place(
+    files: &[u32],
+    contents: &[u8],
+    d: Slot,
+    low: u64,
+    high: u64,
+    k: u32,
+    intent: Intent,
+) -> Walk
+    ensures { λ r. ⌜ r ≡ placedBy intent (tree (now (files .entry)) (now (contents .entry))) d low high k ⌝ }
+{
+    let dir = tables::files::shown(files, contents, d);
+    place_in(dir, d, low, high, k, intent)
+}
+
+// The k-th name, by its words, is looked for in directory d.
 fn look_up(
     files: &[u32],
     contents: &[u8],
     policy: &[u8],
     who: Subject,
     d: Slot,
-    name: &[u8],
+    low: u64,
+    high: u64,
     k: u32,
+    intent: Intent,
 ) -> Walk
-    ensures { λ r. ⌜ r ≡ lookup (tree (now (files .entry)) (now (contents .entry))) (now (policy .entry)) who d (now (name .entry)) k ⌝ }
+    ensures { λ r. ⌜ r ≡ lookupBy intent (tree (now (files .entry)) (now (contents .entry))) (now (policy .entry)) who d low high k ⌝ }
 {
     if !tables::files::is_directory(files, d) {
         return Walk::Stopped(Refusal::NotDirectory, k);
@@ -75,7 +103,7 @@ fn look_up(
     if !label_allows(files, policy, who, d, Rights::SEARCH) {
         return Walk::Stopped(Refusal::LabelForbids, k);
     }
-    find(files, contents, d, name, k)
+    place(files, contents, d, low, high, k, intent)
 }
 
 fn root() -> Location
@@ -86,6 +114,27 @@ fn root() -> Location
         dirent: 0,
         slot: Slot(0),
     }
+}
+
+// No name follows: the path ends, or as many names were read as tell.
+fn is_last(path: &[u8], next: usize, left: u8) -> bool
+    ensures { λ r. ⌜ r ≡ isLast (length (now (path .entry))) next left ⌝ }
+{
+    let none = left == 0;
+    if none {
+        return true;
+    }
+    path.len() <= next
+}
+
+// The intent is that of the last name; those before it must be there.
+fn here(last: bool, intent: Intent) -> Intent
+    ensures { λ r. ⌜ r ≡ here last intent ⌝ }
+{
+    if last {
+        return intent;
+    }
+    Intent::Find
 }
 
 // The k-th name of the path starts at `start`, and at most `left` names follow it: it is looked up in directory d, and those that follow from there.
@@ -99,17 +148,17 @@ fn walk_from(
     left: u8,
     k: u32,
     d: Slot,
+    intent: Intent,
 ) -> Walk
     requires { ⌜ NameStarts (now path) start k left ⌝ }
-    ensures { λ r. ⌜ r ≡ walkIn (tree (now (files .entry)) (now (contents .entry))) (now (policy .entry)) who d k (firstNames (left + 1) (drop start (now (path .entry)))) ⌝ }
+    ensures { λ r. ⌜ r ≡ walkFor intent (tree (now (files .entry)) (now (contents .entry))) (now (policy .entry)) who d k (firstNames (left + 1) (drop start (now (path .entry)))) ⌝ }
 {
-    let end = span_end(path, start, ByteClass::NotSlash);
-    let next = span_end(path, end, ByteClass::Slash);
-    let w = look_up(files, contents, policy, who, d, &path[start..end], k);
-    if left == 0 {
-        return w;
-    }
-    if path.len() <= next {
+    let name = read_name(path, start);
+    let next = span_end(path, name.end, ByteClass::Slash);
+    let last = is_last(path, next, left);
+    let at = here(last, intent);
+    let w = look_up(files, contents, policy, who, d, name.low, name.high, k, at);
+    if last {
         return w;
     }
     match w {
@@ -123,6 +172,7 @@ fn walk_from(
             left - 1,
             k + 1,
             to.slot,
+            intent,
         ),
         Walk::Stopped(r, n) => Walk::Stopped(r, n),
     }
@@ -136,72 +186,49 @@ pub fn walk_path(files: &[u32], contents: &[u8], policy: &[u8], who: Subject, pa
     if path.len() <= start {
         return Walk::Reached(root());
     }
-    walk_from(files, contents, policy, who, path, start, NAMES, 1, Slot(0))
+    let find = Intent::Find;
+    walk_from(
+        files,
+        contents,
+        policy,
+        who,
+        path,
+        start,
+        NAMES,
+        1,
+        Slot(0),
+        find,
+    )
 }
 
-fn enter_parent(files: &[u32], policy: &[u8], who: Subject, k: u32, at: Location) -> Walk
-    ensures { λ r. ⌜ r ≡ enterParent (tab FILE (now (files .entry))) (now (policy .entry)) who k at ⌝ }
+// The number of the first name, 0 where there is none.
+fn first_number(path: &[u8], start: usize) -> u32
+    ensures { λ r. ⌜ r ≡ firstNumber (length (now (path .entry))) start ⌝ }
 {
-    let d = at.slot;
-    if !tables::files::is_directory(files, d) {
-        return Walk::Stopped(Refusal::NotDirectory, k);
+    let none = path.len() <= start;
+    if none {
+        return 0;
     }
-    if !bits_allow(files, who, d, Rights::SEARCH) {
-        return Walk::Stopped(Refusal::BitsForbid, k);
-    }
-    if !label_allows(files, policy, who, d, Rights::SEARCH) {
-        return Walk::Stopped(Refusal::LabelForbids, k);
-    }
-    Walk::Reached(at)
+    1
 }
 
-// The k-th name of the path starts at `start`, and at most `left` names follow it: it is looked up where one does, else its parent is entered.
-fn parent_from(
-    files: &[u32],
-    contents: &[u8],
-    policy: &[u8],
-    who: Subject,
-    path: &[u8],
-    start: usize,
-    left: u8,
-    k: u32,
-    at: Location,
-) -> Walk
-    requires { ⌜ NameStarts (now path) start k left ⌝ }
-    ensures { λ r. ⌜ r ≡ toParent (tree (now (files .entry)) (now (contents .entry))) (now (policy .entry)) who at k (firstNames (left + 1) (drop start (now (path .entry)))) ⌝ }
-{
-    if left == 0 {
-        return enter_parent(files, policy, who, k, at);
-    }
-    let end = span_end(path, start, ByteClass::NotSlash);
-    let next = span_end(path, end, ByteClass::Slash);
-    if path.len() <= next {
-        return enter_parent(files, policy, who, k, at);
-    }
-    let d = at.slot;
-    match look_up(files, contents, policy, who, d, &path[start..end], k) {
-        Walk::Reached(to) => parent_from(
-            files,
-            contents,
-            policy,
-            who,
-            path,
-            next,
-            left - 1,
-            k + 1,
-            to,
-        ),
-        Walk::Stopped(r, n) => Walk::Stopped(r, n),
-    }
-}
-
-// The path to the parent of its last name, with the parent's three checks. The last name is the one that no other follows.
-pub fn walk_parent(files: &[u32], contents: &[u8], policy: &[u8], who: Subject, path: &[u8]) -> Walk
-    ensures { λ r. ⌜ r ≡ walkParent (tree (now (files .entry)) (now (contents .entry))) (now (policy .entry)) who (now (path .entry)) ⌝ }
+// The path to the parent of its last name, with the parent's three checks, and the last name's entry there; 16 where it is missing.
+pub fn walk_new(files: &[u32], contents: &[u8], policy: &[u8], who: Subject, path: &[u8]) -> Walk
+    ensures { λ r. ⌜ r ≡ walkNew (tree (now (files .entry)) (now (contents .entry))) (now (policy .entry)) who (now (path .entry)) ⌝ }
 {
     let start = span_end(path, 0, ByteClass::Slash);
-    if path.len() <= start {
-        return enter_parent(files, policy, who, 0, root());
-    }
-    parent_from(files, contents, policy, who, path, start, NAMES, 1, root())
+    let k = first_number(path, start);
+    let create = Intent::Create;
+    walk_from(
+        files,
+        contents,
+        policy,
+        who,
+        path,
+        start,
+        NAMES,
+        k,
+        Slot(0),
+        create,
+    )
 }

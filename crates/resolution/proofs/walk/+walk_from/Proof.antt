@@ -1,29 +1,40 @@
 -- The walk calls itself. The measure is the number of names left.
-use Prim.Native.Nat.{ℕ, suc, _+_, _-_, _≤_, _<_}
+use Prim.Native.Nat.{ℕ, suc, _+_, _-_, _^_, _≤_, _<_}
 use mathlib.Core.Path.{_≡_, refl, sym, _∙_}
-use mathlib.Core.List.{List, []}
-use native.Mathlib.Nat.{le-of-lt}
+use mathlib.Core.Bool.{Bool, true, false}
+use mathlib.Core.Logic.{_⊎_, inl, inr}
+use mathlib.Core.List.{List, [], _∷_}
+use native.Mathlib.Decide.{decLt}
 use native.Mathlib.Omega.{arith}
 use borrow.Author.Needs.{needs}
 use borrow.Fn.Kinds.{In}
 use borrow.Fn.PlainCycle.{Measures, is, falls, and}
-use lib.ListN.{length, take, drop}
+use lib.ListN.{length, getD, take, drop, drop-of-length-le}
+use lib.Seq.{take-nil}
 use Rattle.rules.specs.Store.{tree}
 use Rattle.rules.specs.Paths.{span, isSlash, notSlash, firstNames}
-use Rattle.rules.specs.Walk.{lookup, walk, onReached}
+use Rattle.rules.specs.Walk.{lookup, onReached}
 use Rattle.rules.specs.declared.request.Subject.{Subject}
 use Rattle.rules.specs.declared.refusal.Refusal.{Refusal}
 use Rattle.rules.specs.declared.decision.Location.{Location}
 use Rattle.rules.specs.declared.decision.Walk.{Walk}
 use Rattle.rules.specs.declared.decision.Walk.the-variants.{Reached, Stopped}
 use Rattle.rules.specs.declared.ids.Slot.{Slot}
-use Rattle.resolution.specs.Parents.{walkIn, NameStarts}
-use Rattle.resolution.proofs.Spans.{within}
-use Rattle.resolution.proofs.Names.{names-zero, no-names, more-names, no-slashes, skip-names}
+use Rattle.resolution.specs.declared.walk.Intent.{Intent}
+use Rattle.resolution.specs.declared.walk.Intent.the-variants.{Find}
+use Rattle.resolution.specs.declared.path_names.PathName.{PathName}
+use Rattle.resolution.specs.PathNames.{nameAt, nameFrom}
+use Rattle.resolution.specs.Walks.{here, isLast, lookupFor, lookupBy, walkFor, NameStarts}
+use Rattle.resolution.proofs.ByWords.{name-bytes, by-words}
+use Rattle.resolution.proofs.Names.{names-zero, no-names, more-names, no-slashes, some-names, skip-names}
+use Rattle.resolution.proofs.Walks.{find-is, walk-more, last-why, not-last}
 use Rattle.resolution.proofs.walk.walk_from.Reads as walk-from
 use Rattle.resolution.proofs.walk.walk_from.Kinds as walk-from-kinds
 use Rattle.resolution.proofs.walk.+walk_from.Lts-walk_from as walk-from-lts
+use Rattle.resolution.proofs.path_names.read_name.Reads as read-name-reads
 use Rattle.resolution.proofs.paths.span_end.Reads as span-end-reads
+use Rattle.resolution.proofs.walk.is_last.Reads as is-last-reads
+use Rattle.resolution.proofs.walk.here.Reads as here-reads
 use Rattle.resolution.proofs.walk.look_up.Reads as look-up-reads
 use Rattle.resolution.proofs.walk.+walk_from.{statement}
 use Rattle.resolution.proofs.walk.+walk_from.Tie.{close}
@@ -37,61 +48,99 @@ walk-from-at t = and 4 walk-from-kinds.ps (is 4 walk-from-kinds.ps μ-walk-from 
 abbrev walk-from-below : ℕ → In 4 walk-from-kinds.ps
 walk-from-below t = and 4 walk-from-kinds.ps (falls 4 walk-from-kinds.ps _<_ μ-walk-from t) walk-from.Pre
 
-module _ (F C Q : List ℕ) (who : Subject) (p : List ℕ) (start left k : ℕ) (d : Slot) (n : NameStarts p start k left) where
+left-more : (l : Bool) (size next left : ℕ) → l ≡ isLast size next left → l ≡ false → 1 ≤ left
+left-more l size next left z y = let h : left ≡ 0 → ⊥ = not-last size next left (sym z ∙ y) .0 in omega (arith, h)
+
+one-less : (l : Bool) (size next left t : ℕ) → left ≡ t → l ≡ isLast size next left → l ≡ false → left - 1 < t
+one-less l size next left t m z y = omega (arith, m, left-more l size next left z y)
+
+module _ (F C Q : List ℕ) (who : Subject) (p : List ℕ) (start left k : ℕ) (d : Slot) (intent : Intent) (n : NameStarts p start k left) where
   abbrev goal : Walk
-  goal = walkIn (tree F C) Q who d k (firstNames (left + 1) (drop start p))
+  goal = walkFor intent (tree F C) Q who d k (firstNames (left + 1) (drop start p))
 
   own : start ≡ start + span isSlash (drop start p)
   own = omega (arith, n .no-slash)
 
-  module _ (e : ℕ) (b : e ≡ start + span notSlash (drop start p)) (s : ℕ) (a : s ≡ e + span isSlash (drop e p)) (w : Walk) (v : w ≡ lookup (tree F C) Q who d (take (e - start) (drop start p)) k) where
-    looked : goal ≡ onReached w (λ (at : Location). walk (tree F C) Q who at (k + 1) (firstNames left (drop e p)))
-    unfolding walkIn walk
-    looked = rw (more-names p start start own e b (left + 1) left (n .inside) (omega arith), ← v)
-
-    none : firstNames left (drop e p) ≡ [] → w ≡ goal
-    unfolding onReached walk
-    none q = rw (looked, q) (by w)
+  module _ (e : ℕ) (b : e ≡ start + span notSlash (drop start p)) (s : ℕ) (a : s ≡ e + span isSlash (drop e p)) where
+    -- the last name, or none: then its bytes are none
+    only : firstNames left (drop e p) ≡ [] → goal ≡ lookupFor intent (tree F C) Q who d (take (e - start) (drop start p)) k
+    unfolding walkFor
+    only q = by (decLt start (length p))
       where
-        by : (u : Walk) → u ≡ onReached u (λ (at : Location). walk (tree F C) Q who at (k + 1) [])
-        by (Reached at) = refl
-        by (Stopped r j) = refl
+        by : Dec (start < length p) → goal ≡ lookupFor intent (tree F C) Q who d (take (e - start) (drop start p)) k
+        by (yes h) = rw (more-names p start start own e b (left + 1) left h (omega arith), q)
+        by (no h) = let m : length p ≤ start = omega arith in rw (no-names p start start own (left + 1) m, drop-of-length-le p m, take-nil)
 
-    past : left ≡ 0 → w ≡ goal
-    past l = none (rw l (names-zero (drop e p)))
+    module _ (l : Bool) (z : l ≡ isLast (length p) s left) where
+      module _ (y : l ≡ false) where
+        some : 1 ≤ left
+        some = left-more l (length p) s left z y
 
-    stop : length p ≤ s → w ≡ goal
-    stop g = none (no-names p e s a left g)
+        more : s < length p
+        more = not-last (length p) s left (sym z ∙ y) .1
 
-    module _ (g : s < length p) (some : left ≡ 0 → ⊥) where
-      starts : NameStarts p s (k + 1) (left - 1)
-      starts = record { inside = g; no-slash = no-slashes p e s a g; few = omega (arith, n .few) }
+        starts : NameStarts p s (k + 1) (left - 1)
+        starts = record { inside = omega (arith, more); no-slash = no-slashes p e s a more; few = omega (arith, n .few, some) }
 
-      own-next : s ≡ s + span isSlash (drop s p)
-      own-next = omega (arith, no-slashes p e s a g)
+      module _ (at : Intent) (i : at ≡ here l intent) (w : Walk) (v : w ≡ lookupFor at (tree F C) Q who d (take (e - start) (drop start p)) k) where
+        stop : l ≡ true → w ≡ goal
+        stop y = v ∙ rw (i, y) (sym (only (by (last-why (length p) s left (sym z ∙ y)))))
+          where
+            by : (left ≡ 0) ⊎ (length p ≤ s) → firstNames left (drop e p) ≡ []
+            by (inl x) = rw x (names-zero (drop e p))
+            by (inr x) = no-names p e s a left x
 
-      -- where a name is left, the directory alone counts
-      same-in : (to : Location) → walk (tree F C) Q who to (k + 1) (firstNames left (drop s p)) ≡ walkIn (tree F C) Q who (to .slot) (k + 1) (firstNames left (drop s p))
-      unfolding walkIn walk
-      same-in to = rw (more-names p s s own-next _ refl left (left - 1) g (omega arith))
+        module _ (y : l ≡ false) where
+          looked : goal ≡ onReached w (λ (to : Location). walkFor intent (tree F C) Q who (to .slot) (k + 1) (firstNames left (drop e p)))
+          looked =
+              rw (more-names p start start own e b (left + 1) left (omega (arith, more y)) (omega arith), walk-more intent (tree F C) Q who d k _ _ (some-names p e s a (more y) left (left - 1) (omega (arith, some y))), v, i, y, find-is)
 
-      on : (to : Location) (r : Walk) → w ≡ Reached to → r ≡ walkIn (tree F C) Q who (to .slot) (k + 1) (firstNames (left - 1 + 1) (drop s p)) → r ≡ goal
-      unfolding onReached
-      on to r q x =
-          let m : left - 1 + 1 ≡ left = omega arith in
-          rw (looked, q) (rw m at x ∙ sym (same-in to) ∙ rw (skip-names p e s a g left))
+          on : (to : Location) (r : Walk) → w ≡ Reached to → r ≡ walkFor intent (tree F C) Q who (to .slot) (k + 1) (firstNames (left - 1 + 1) (drop s p)) → r ≡ goal
+          unfolding onReached
+          on to r q x =
+              let m : left - 1 + 1 ≡ left = omega (arith, some y) in
+              rw (looked, q) (rw (m, skip-names p e s a (more y) left) at x)
 
-      refuse : (r : Refusal) (j : ℕ) → w ≡ Stopped r j → Stopped r j ≡ goal
-      unfolding onReached
-      refuse r j q = rw (looked, q)
+          refuse : (r : Refusal) (j : ℕ) → w ≡ Stopped r j → Stopped r j ≡ goal
+          unfolding onReached
+          refuse r j q = rw (looked, q)
 
-ends : (p : List ℕ) (start left k e : ℕ) → NameStarts p start k left → e ≡ start + span notSlash (drop start p) → e ≤ length p
-ends p start left k e n b = within notSlash p start e b (le-of-lt (n .inside))
+small : (p : List ℕ) (start k left : ℕ) → NameStarts p start k left → k + 1 < 2 ^ 32
+small p start k left n = omega (arith, n .few)
+
+-- the name is read by its words
+module _ (F C Q : List ℕ) (who : Subject) (p : List ℕ) (start left k : ℕ) (d : Slot) (intent : Intent) (n : NameStarts p start k left) (x : PathName) (g : x ≡ nameFrom p start) (s : ℕ) (a : s ≡ x .end + span isSlash (drop (x .end) p)) (l : Bool) (z : l ≡ isLast (length p) s left) where
+  ends : x .end ≡ start + span notSlash (drop start p)
+  ends = rw g
+
+  pub goes-on : l ≡ false → NameStarts p s (k + 1) (left - 1)
+  goes-on = starts F C Q who p start left k d intent n (x .end) ends s a l z
+
+  module _ (bc : (j : ℕ) → getD C j 0 < 256) (bp : (j : ℕ) → getD p j 0 < 256) (at : Intent) (i : at ≡ here l intent) (w : Walk) (v : w ≡ lookupBy at (tree F C) Q who d (x .low) (x .high) k) where
+    named : w ≡ lookupFor at (tree F C) Q who d (take (x .end - start) (drop start p)) k
+    named =
+        let m : start + span notSlash (drop start p) - start ≡ span notSlash (drop start p) = omega arith in
+        v ∙ rw (g, m) (by-words at F C Q who d (nameAt p start) k bc (name-bytes p start bp))
+
+    pub stops : l ≡ true → w ≡ walkFor intent (tree F C) Q who d k (firstNames (left + 1) (drop start p))
+    stops = stop F C Q who p start left k d intent n (x .end) ends s a l z at i w named
+
+    pub reaches : l ≡ false → (to : Location) (r : Walk) → w ≡ Reached to → r ≡ walkFor intent (tree F C) Q who (to .slot) (k + 1) (firstNames (left - 1 + 1) (drop s p)) → r ≡ walkFor intent (tree F C) Q who d k (firstNames (left + 1) (drop start p))
+    reaches = on F C Q who p start left k d intent n (x .end) ends s a l z at i w named
+
+    pub refuses : l ≡ false → (r : Refusal) (j : ℕ) → w ≡ Stopped r j → Stopped r j ≡ walkFor intent (tree F C) Q who d k (firstNames (left + 1) (drop start p))
+    refuses = refuse F C Q who p start left k d intent n (x .end) ends s a l z at i w named
 
 pub +walk-from-spec : {M : Type 1} → statement M
 +walk-from-spec = close μ-walk-from λ t. walk-from-lts.spec (
+  read-name-reads.Asked,
+  read-name-reads.Learnt,
   span-end-reads.Asked,
   span-end-reads.Learnt,
+  is-last-reads.Asked,
+  is-last-reads.Learnt,
+  here-reads.Asked,
+  here-reads.Learnt,
   look-up-reads.Asked,
   look-up-reads.Learnt,
   walk-from-below t,
@@ -101,16 +150,17 @@ pub +walk-from-spec : {M : Type 1} → statement M
     walk-from.Post
     (λ c κs. tt)
     (λ c κs. tt)
-    (λ c. search needs)
-    (λ c. search needs)
-    (λ c. search ends)
     (λ c κs. tt)
-    (λ c. search past)
-    (λ c. search stop)
+    (λ c κs. tt)
+    (λ c κs. tt)
+    (λ c. stops (c .before .before .before .before .before .before .before .before .before .before .args .files .now) (c .before .before .before .before .before .before .before .before .before .before .args .contents .now) (c .before .before .before .before .before .before .before .before .before .before .args .policy .now) (c .before .before .before .before .before .before .before .before .before .before .args .who) _ _ _ _ _ (c .before .before .before .before .before .before .before .before .before .before .args .intent) (c .before .before .before .before .before .before .before .before .before .before .pre .1) _ (c .before .before .before .before .before .read-name .ensures) _ (c .before .before .before .before .span-end .ensures) _ (c .before .before .before .is-last .ensures)
+    (λ j. c .before .before .before .before .before .before .before .before .shared-slice-known2 .given j .fits) (λ j. c .before .before .before .before .before .before .shared-slice-known4 .given j .fits) _ (c .before .before .here .ensures) _ (c .before .look-up .ensures) (c .if1 .taken))
     (λ c. search needs)
+    (λ c. search left-more)
+    (λ c. record { fits = small _ _ _ _ (c .before .before .before .before .before .before .before .before .before .before .before .before .before .pre .1) })
+    (λ c κs. (search one-less, search goes-on))
     (λ c. search needs)
-    (λ c. search needs)
-    (λ c κs. search (needs, starts))
-    (λ c. search needs)
-    (λ c. search on)
-    (λ c. search refuse)
+    (λ c. reaches (c .before .before .before .before .before .before .before .before .before .before .before .before .before .before .args .files .now) (c .before .before .before .before .before .before .before .before .before .before .before .before .before .before .args .contents .now) (c .before .before .before .before .before .before .before .before .before .before .before .before .before .before .args .policy .now) (c .before .before .before .before .before .before .before .before .before .before .before .before .before .before .args .who) _ _ _ _ _ (c .before .before .before .before .before .before .before .before .before .before .before .before .before .before .args .intent) (c .before .before .before .before .before .before .before .before .before .before .before .before .before .before .pre .1) _ (c .before .before .before .before .before .before .before .before .before .read-name .ensures) _ (c .before .before .before .before .before .before .before .before .span-end .ensures) _ (c .before .before .before .before .before .before .before .is-last .ensures)
+    (λ j. c .before .before .before .before .before .before .before .before .before .before .before .before .shared-slice-known2 .given j .fits) (λ j. c .before .before .before .before .before .before .before .before .before .before .shared-slice-known4 .given j .fits) _ (c .before .before .before .before .before .before .here .ensures) _ (c .before .before .before .before .before .look-up .ensures) (c .before .before .before .before .if1 .left) _ _ (c .before .before .w .given .1) (c .walk-from .ensures))
+    (λ c. refuses (c .before .before .before .before .before .before .before .before .before .before .before .before .before .args .files .now) (c .before .before .before .before .before .before .before .before .before .before .before .before .before .args .contents .now) (c .before .before .before .before .before .before .before .before .before .before .before .before .before .args .policy .now) (c .before .before .before .before .before .before .before .before .before .before .before .before .before .args .who) _ _ _ _ _ (c .before .before .before .before .before .before .before .before .before .before .before .before .before .args .intent) (c .before .before .before .before .before .before .before .before .before .before .before .before .before .pre .1) _ (c .before .before .before .before .before .before .before .before .read-name .ensures) _ (c .before .before .before .before .before .before .before .span-end .ensures) _ (c .before .before .before .before .before .before .is-last .ensures)
+    (λ j. c .before .before .before .before .before .before .before .before .before .before .before .shared-slice-known2 .given j .fits) (λ j. c .before .before .before .before .before .before .before .before .before .shared-slice-known4 .given j .fits) _ (c .before .before .before .before .before .here .ensures) _ (c .before .before .before .before .look-up .ensures) (c .before .before .before .if1 .left) _ _ (c .before .w2 .given .1))

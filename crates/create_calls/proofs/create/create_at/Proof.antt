@@ -1,0 +1,17 @@
+use Rattle.rules.proofs.Choices.{steps}
+use Rattle.create_calls.specs.Placed.{createAt}
+use Rattle.create_calls.proofs.create.create_at.Statement.{statement}
+use Rattle.create_calls.proofs.create.create_at.Tie as tie
+
+pub create-at-spec : {M : Type 1} → statement M
+unfolding createAt
+create-at-spec =
+    tie.close
+    (tie.spec
+    (λ c. search steps)
+    (λ c κs. tt)
+    (λ c. search steps)
+    (λ c κs. tt)
+    (λ c. search steps)
+    (λ c κs. tt)
+    (λ c. search steps))

@@ -1,0 +1,17 @@
+use Rattle.rules.proofs.Choices.{steps}
+use Rattle.create_calls.specs.Placed.{linkAt}
+use Rattle.create_calls.proofs.link.link_at.Statement.{statement}
+use Rattle.create_calls.proofs.link.link_at.Tie as tie
+
+pub link-at-spec : {M : Type 1} → statement M
+unfolding linkAt
+link-at-spec =
+    tie.close
+    (tie.spec
+    (λ c. search steps)
+    (λ c κs. tt)
+    (λ c. search steps)
+    (λ c κs. tt)
+    (λ c. search steps)
+    (λ c κs. tt)
+    (λ c. search steps))

@@ -1,0 +1,28 @@
+use mathlib.Core.Path.{_≡_, refl}
+use Prim.Native.Nat.{_-_}
+use borrow.Author.Needs.{needs}
+use Rattle.rules.specs.Scan.{first}
+use Rattle.rules.proofs.Scans.{first-yes, first-no, first-done}
+use Rattle.resolution.specs.Walks.{hasWords}
+use Rattle.resolution.proofs.directories.dirent_in_part.Statement.{statement}
+use Rattle.resolution.proofs.directories.dirent_in_part.Tie as tie
+
+abbrev Inv-loop : tie.InvT-loop
+Inv-loop dir low high i₀ i = first (hasWords dir low high) i 16 ≡ first (hasWords dir low high) 0 16
+
+abbrev μ-loop : tie.MeasureT-loop
+μ-loop dir low high i₀ i = 16 - i
+
+pub dirent-in-part-spec : {M : Type 1} → statement M
+dirent-in-part-spec =
+    tie.close
+    (tie.spec
+    Inv-loop
+    μ-loop
+    (λ c. refl)
+    (λ c κs. search needs)
+    (λ c. search first-yes)
+    (λ c. search needs)
+    (λ c. search needs)
+    (λ c. search first-no)
+    (λ c. search first-done))
