@@ -7,7 +7,7 @@ ghost use Rattle.store.specs.Lent.{lent, lentOf};
 ghost use lib.ListN.{length};
 ghost use Rattle.script_rules.specs.Replay.{replay};
 ghost use Rattle.replay.specs.Runs.{leftBy};
-ghost use Rattle.abi_act.specs.Numbered.{numbered};
+ghost use Rattle.store.specs.Numbered.{numbered};
 ghost use Rattle.abi.specs.Crossing.{flag, reported, crossed, crossedBy};
 use rules::answer::Answer;
 use rules::ids::Fd;

@@ -4,7 +4,7 @@ ghost use mathlib.Core.Path.{_≡_};
 ghost use Rattle.rules.specs.Store.{store};
 ghost use Rattle.rules.specs.Step.{act};
 ghost use Rattle.store.specs.Lent.{lent, lentOf};
-ghost use Rattle.abi_act.specs.Numbered.{numbered};
+ghost use Rattle.store.specs.Numbered.{numbered};
 use rules::answer::Answer;
 use rules::ids::Fd;
 use rules::ids::Pid;

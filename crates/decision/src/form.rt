@@ -7,11 +7,10 @@ ghost use Rattle.rules.specs.Choice.{every};
 ghost use Rattle.rules.specs.Layout.{BLOCK};
 ghost use Rattle.rules.specs.Rights.{bitsKnown, modeOf, modeKnown};
 ghost use Rattle.rules.specs.Paths.{pathOk};
-ghost use Rattle.rules.specs.Calls.{pathBelowRoot, newFileOk, formOk};
+ghost use Rattle.rules.specs.Calls.{pathBelowRoot, newFileOk};
 ghost use Rattle.decision.specs.Form.{areBits};
 use resolution::paths::path_below_root;
 use resolution::paths::path_ok;
-use rules::request::Operation;
 use rules::rights::Bits;
 use rules::rights::BitsNumber;
 use rules::rights::ModeNumber;
@@ -49,7 +48,7 @@ fn bits_known(n: u32) -> bool
     are_bits(Bits::new(n))
 }
 
-fn open_ok(n: u32, path: &[u8]) -> bool
+pub fn open_ok(n: u32, path: &[u8]) -> bool
     ensures { λ r. ⌜ r ≡ every (modeKnown (modeOf n) ∷ pathOk (now (path .entry)) ∷ []) ⌝ }
 {
     if !mode_known(n) {
@@ -58,7 +57,7 @@ fn open_ok(n: u32, path: &[u8]) -> bool
     path_ok(path)
 }
 
-fn new_file_ok(n: u32, path: &[u8]) -> bool
+pub fn new_file_ok(n: u32, path: &[u8]) -> bool
     ensures { λ r. ⌜ r ≡ newFileOk n (now (path .entry)) ⌝ }
 {
     if !bits_known(n) {
@@ -67,7 +66,7 @@ fn new_file_ok(n: u32, path: &[u8]) -> bool
     path_below_root(path)
 }
 
-fn bits_and_path_ok(n: u32, path: &[u8]) -> bool
+pub fn bits_and_path_ok(n: u32, path: &[u8]) -> bool
     ensures { λ r. ⌜ r ≡ every (bitsKnown n ∷ pathOk (now (path .entry)) ∷ []) ⌝ }
 {
     if !bits_known(n) {
@@ -76,7 +75,7 @@ fn bits_and_path_ok(n: u32, path: &[u8]) -> bool
     path_ok(path)
 }
 
-fn both_paths_ok(path: &[u8], bytes: &[u8]) -> bool
+pub fn both_paths_ok(path: &[u8], bytes: &[u8]) -> bool
     ensures { λ r. ⌜ r ≡ every (pathOk (now (path .entry)) ∷ pathBelowRoot (now (bytes .entry)) ∷ []) ⌝ }
 {
     if !path_ok(path) {
@@ -85,34 +84,8 @@ fn both_paths_ok(path: &[u8], bytes: &[u8]) -> bool
     path_below_root(bytes)
 }
 
-fn offset_ok(n: u32) -> bool
+pub fn offset_ok(n: u32) -> bool
     ensures { λ r. ⌜ r ≡ leb n BLOCK ⌝ }
 {
     (n as usize) <= BLOCK
-}
-
-// The call is well formed.
-pub fn form_ok(op: Operation, n: u32, path: &[u8], bytes: &[u8]) -> bool
-    ensures { λ r. ⌜ r ≡ formOk op n (now (path .entry)) (now (bytes .entry)) ⌝ }
-{
-    match op {
-        Operation::Open => open_ok(n, path),
-        Operation::Create => new_file_ok(n, path),
-        Operation::MakeDirectory => new_file_ok(n, path),
-        Operation::Unlink => path_below_root(path),
-        Operation::RemoveDirectory => path_below_root(path),
-        Operation::Link => both_paths_ok(path, bytes),
-        Operation::List => path_ok(path),
-        Operation::ChangeBits => bits_and_path_ok(n, path),
-        Operation::Stat => path_ok(path),
-        Operation::Close => true,
-        Operation::Read => true,
-        Operation::Write => true,
-        Operation::Seek => offset_ok(n),
-        Operation::Duplicate => true,
-        Operation::Fork => true,
-        Operation::Exit => true,
-        Operation::Execute => path_ok(path),
-        Operation::Unknown => false,
-    }
 }

@@ -1,6 +1,5 @@
 use Rattle.rules.specs.Decide.{decide}
 use Rattle.rules.proofs.Choices.{steps}
-use borrow.Author.Needs.{needs}
 use Rattle.decision.proofs.decide.decide_call.Statement.{statement}
 use Rattle.decision.proofs.decide.decide_call.Tie as tie
 
@@ -12,8 +11,5 @@ decide-call-spec =
     (λ c κs. tt)
     (λ c. search steps)
     (λ c κs. tt)
-    (λ c. search needs)
     (λ c κs. tt)
-    (λ c. rw (← c .before .before .before .operation-of .ensures) (search steps))
-    (λ c κs. tt)
-    (λ c. rw (← c .before .before .before .before .operation-of .ensures) (search steps)))
+    (λ c. rw (← c .before .operation-of .ensures) (search steps)))

@@ -1,10 +1,12 @@
+use Rattle.rules.specs.Calls.{formOk}
+use Rattle.rules.specs.Checks.{need}
 use Rattle.rules.specs.Decide.{decideOwn}
 use borrow.Author.Needs.{needs}
 use Rattle.decision.proofs.decide.decide_own.Statement.{statement}
 use Rattle.decision.proofs.decide.decide_own.Tie as tie
 
 pub decide-own-spec : {M : Type 1} → statement M
-unfolding decideOwn
+unfolding formOk need decideOwn
 decide-own-spec =
     tie.close
     (tie.spec
@@ -44,21 +46,21 @@ decide-own-spec =
     (λ c. search needs)
     (λ c κs. tt)
     (λ c. search needs)
-    (λ c. rw (c .before .enum-told .given .1) (rw (c .before .before .before .subject .ensures) at (c .decide-open .ensures)))
-    (λ c. rw (c .before .enum-told2 .given .1) (rw (c .before .before .before .subject .ensures) at (c .decide-create .ensures)))
-    (λ c. rw (c .before .enum-told3 .given .1) (rw (c .before .before .before .subject .ensures) at (c .decide-create2 .ensures)))
-    (λ c. rw (c .before .enum-told4 .given .1) (rw (c .before .before .before .subject .ensures) at (c .decide-unlink .ensures)))
-    (λ c. rw (c .before .enum-told5 .given .1) (rw (c .before .before .before .subject .ensures) at (c .decide-remove .ensures)))
-    (λ c. rw (c .before .enum-told6 .given .1) (rw (c .before .before .before .subject .ensures) at (c .decide-link .ensures)))
-    (λ c. rw (c .before .enum-told7 .given .1) (rw (c .before .before .before .subject .ensures) at (c .decide-list .ensures)))
-    (λ c. rw (c .before .enum-told8 .given .1) (rw (c .before .before .before .subject .ensures) at (c .decide-change-bits .ensures)))
-    (λ c. rw (c .before .enum-told9 .given .1) (rw (c .before .before .before .subject .ensures) at (c .decide-stat .ensures)))
+    (λ c. rw (c .before .enum-told .given .1) (rw (c .before .before .before .subject .ensures) at (c .formed-open .ensures)))
+    (λ c. rw (c .before .enum-told2 .given .1) (rw (c .before .before .before .subject .ensures) at (c .formed-create .ensures)))
+    (λ c. rw (c .before .enum-told3 .given .1) (rw (c .before .before .before .subject .ensures) at (c .formed-make-directory .ensures)))
+    (λ c. rw (c .before .enum-told4 .given .1) (rw (c .before .before .before .subject .ensures) at (c .formed-unlink .ensures)))
+    (λ c. rw (c .before .enum-told5 .given .1) (rw (c .before .before .before .subject .ensures) at (c .formed-remove .ensures)))
+    (λ c. rw (c .before .enum-told6 .given .1) (rw (c .before .before .before .subject .ensures) at (c .formed-link .ensures)))
+    (λ c. rw (c .before .enum-told7 .given .1) (rw (c .before .before .before .subject .ensures) at (c .formed-list .ensures)))
+    (λ c. rw (c .before .enum-told8 .given .1) (rw (c .before .before .before .subject .ensures) at (c .formed-change-bits .ensures)))
+    (λ c. rw (c .before .enum-told9 .given .1) (rw (c .before .before .before .subject .ensures) at (c .formed-stat .ensures)))
     (λ c. rw (c .before .enum-told10 .given .1) (c .decide-close .ensures))
     (λ c. rw (c .before .enum-told11 .given .1) (c .decide-read .ensures))
     (λ c. rw (c .before .enum-told12 .given .1) (c .decide-write .ensures))
-    (λ c. rw (c .before .enum-told13 .given .1) (c .decide-seek .ensures))
+    (λ c. rw (c .before .enum-told13 .given .1) (c .formed-seek .ensures))
     (λ c. rw (c .before .enum-told14 .given .1) (c .decide-duplicate .ensures))
     (λ c. rw (c .before .enum-told15 .given .1) (c .decide-fork .ensures))
     (λ c. rw (c .enum-told16 .given .1))
-    (λ c. rw (c .before .enum-told17 .given .1) (rw (c .before .before .before .subject .ensures) at (c .decide-execute .ensures)))
+    (λ c. rw (c .before .enum-told17 .given .1) (rw (c .before .before .before .subject .ensures) at (c .formed-execute .ensures)))
     (λ c. rw (c .enum-told18 .given .1)))
