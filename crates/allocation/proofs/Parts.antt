@@ -1,8 +1,8 @@
 -- A scan for a free record finds the same in the part of the table that it looks at.
-use mathlib.Core.Path.{_≡_, refl, _∙_, sym, ap}
+use mathlib.Core.Path.{_≡_, refl, _∙_, ap}
 use mathlib.Core.Bool.{Bool, true, false, cond}
 use mathlib.Core.List.{List}
-use Prim.Native.Nat.{ℕ, zero, suc, _+_, _-_, _*_, _<_, _≤_}
+use Prim.Native.Nat.{ℕ, suc, _+_, _*_, _<_, _≤_}
 use native.Mathlib.Nat.{mul-le-mul-left, mul-suc}
 use native.Mathlib.Omega.{arith}
 use borrow.Author.Tests.{ltb-true}
@@ -11,25 +11,9 @@ use lib.ListN.{getD, take}
 use lib.Seq.{getD-take}
 use Rattle.rules.specs.Layout.{FILE, KIND, FREE, SLOTS, OPEN, REFERENCES, OPENS}
 use Rattle.rules.specs.Scan.{first}
-use Rattle.rules.proofs.Scans.{first-yes, first-no, first-done}
+use Rattle.rules.proofs.Scans.{first-same}
 use Rattle.rules.specs.Store.{tab}
 use Rattle.rules.specs.Checks.{slotFree, ofdFree, freeSlot, freeOfd}
-
--- two scans whose tests are the same find the same; k is how many numbers are left
-module _ (p q : ℕ → Bool) (n : ℕ) (same : (s : ℕ) → s < n → p s ≡ q s) where
-  first-same-from : (k i : ℕ) → n - i ≡ k → first p i n ≡ first q i n
-  first-same-from zero i e = sym (first-done p i n refl (omega arith)) ∙ first-done q i n refl (omega arith)
-  first-same-from (suc k) i e = by (p i) refl (first-same-from k (i + 1) (omega arith))
-    where
-      inside : i < n
-      inside = omega arith
-
-      by : (t : Bool) → p i ≡ t → first p (i + 1) n ≡ first q (i + 1) n → first p i n ≡ first q i n
-      by true r rest = sym (first-yes p i n refl inside r refl) ∙ first-yes q i n refl inside (sym (same i inside) ∙ r) refl
-      by false r rest = sym (first-no p i n refl inside r refl) ∙ rest ∙ first-no q i n refl inside (sym (same i inside) ∙ r) refl
-
-  first-same : (i : ℕ) → first p i n ≡ first q i n
-  first-same i = first-same-from (n - i) i refl
 
 -- the first n records of w words, taken alone
 module _ (w n : ℕ) (T : List ℕ) where
@@ -47,7 +31,7 @@ module _ (w n : ℕ) (T : List ℕ) where
 
   -- a test of column k
   part-first : (k : ℕ) (t : ℕ → Bool) → first (λ i. t (tab w part i k)) 0 n ≡ first (λ i. t (tab w T i k)) 0 n
-  part-first k t = first-same (λ i. t (tab w part i k)) (λ i. t (tab w T i k)) n (λ i l. ap t (part-at i k l)) 0
+  part-first k t = first-same (λ i. t (tab w part i k)) (λ i. t (tab w T i k)) n (λ i l. ap t (part-at i k l))
 
 pub slot-part : (F : List ℕ) (r : ℕ) → r ≡ freeSlot (tab FILE (part FILE SLOTS F)) → r ≡ freeSlot (tab FILE F)
 unfolding slotFree

@@ -17,7 +17,8 @@ use Rattle.rules.specs.Directories.{direntAt, direntSlot, isEmpty}
 use Rattle.rules.specs.Sound.{isUsed, linksAt, linksFrom, linksTo, isParent, parentOf, climbs, isOn, openBut, isOpen, holdsAt, holdersIn, holders}
 use Rattle.preservation.proofs.Tests.{split, Means, and-left, and-right, means-every, means-and, means-last, means-not, means-eq}
 use Rattle.preservation.proofs.Sums.{ind, count, sum-same, sum-none, sum-at, sum-some, Some, ind-more}
-use Rattle.preservation.proofs.Scans.{first-same, any-found, any-passes, total-sum, count-sum}
+use Rattle.rules.proofs.Scans.{first-same}
+use Rattle.preservation.proofs.Scans.{any-found, any-passes, total-sum, count-sum}
 use Rattle.preservation.proofs.Tables.{col}
 use Rattle.preservation.proofs.Sound.{naming, linkCount, nameCount, parent, depthWithin, openCount, holderCount}
 use Rattle.preservation.proofs.Counts.{ind-eq}

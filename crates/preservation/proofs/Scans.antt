@@ -64,23 +64,6 @@ first-is n p u h e o = by (decLt (first p 0 n) n)
     by (yes l) = o (first p 0 n) l (first-passes p n l)
     by (no l) = absurd (true≢false (sym e ∙ first-none p n (omega arith) u h))
 
--- ---- two scans whose tests are the same
-
-module _ (p q : ℕ → Bool) (n : ℕ) (s : (j : ℕ) → j < n → p j ≡ q j) where
-  first-same-from : (k i : ℕ) → n - i ≡ k → first p i n ≡ first q i n
-  first-same-from zero i e = sym (first-done p i n refl (omega arith)) ∙ first-done q i n refl (omega arith)
-  first-same-from (suc k) i e = by (p i) refl (first-same-from k (i + 1) (omega arith))
-    where
-      inside : i < n
-      inside = omega arith
-
-      by : (t : Bool) → p i ≡ t → first p (i + 1) n ≡ first q (i + 1) n → first p i n ≡ first q i n
-      by true r rest = sym (first-yes p i n refl inside r refl) ∙ first-yes q i n refl inside (sym (s i inside) ∙ r) refl
-      by false r rest = sym (first-no p i n refl inside r refl) ∙ rest ∙ first-no q i n refl inside (sym (s i inside) ∙ r) refl
-
-  pub first-same : first p 0 n ≡ first q 0 n
-  first-same = first-same-from (n - 0) 0 refl
-
 -- ---- any
 
 any-at-from : (p : ℕ → Bool) (k i n : ℕ) → n - i ≡ k → any p i n ≡ false → (j : ℕ) → i ≤ j → j < n → p j ≡ false

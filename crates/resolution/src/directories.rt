@@ -12,14 +12,14 @@ ghost use Rattle.rules.specs.Directories.{direntAt, isEmpty, freeDirent, differ
 ghost use Rattle.tables.specs.NameWords.{lowWord, highWord};
 ghost use Rattle.resolution.specs.Walks.{hasWords, direntBy};
 use tables::directories::dirent_at;
+use tables::directories::high_at;
 use tables::directories::is_empty;
 use tables::directories::is_padding;
+use tables::directories::low_at;
 use tables::layout::DIRENT;
 use tables::layout::DIRENTS;
 use tables::layout::NAME;
 use tables::name_words::eight_of;
-use tables::name_words::high_word;
-use tables::name_words::low_word;
 use tables::name_words::six_of;
 use tables::parts::upto;
 use tables::words::byte;
@@ -82,13 +82,13 @@ fn dirent_in_whole(dir: &[u8], low: u64, high: u64) -> u32
 fn low_is(dir: &[u8], low: u64, i: u32) -> bool
     ensures { λ r. ⌜ r ≡ eqb (lowWord (direntAt (now (dir .entry)) i)) low ⌝ }
 {
-    low_word(dirent_at(dir, i)) == low
+    low_at(dir, i) == low
 }
 
 fn high_is(dir: &[u8], high: u64, i: u32) -> bool
     ensures { λ r. ⌜ r ≡ eqb (highWord (direntAt (now (dir .entry)) i)) high ⌝ }
 {
-    high_word(dirent_at(dir, i)) == high
+    high_at(dir, i) == high
 }
 
 // Entry i has the name of these words.

@@ -52,7 +52,7 @@ pub fn read_name(path: &[u8], start: usize) -> PathName
     ensures { λ r. ⌜ r ≡ nameFrom (now (path .entry)) start ⌝ }
 {
     let low = read_word(path, start, LOW);
-    if low.end - start < 8 {
+    if low.end - start < (LOW as usize) {
         return PathName {
             low: low.word,
             high: 0,

@@ -106,6 +106,22 @@ module _ {S : Type 0} (f : ℕ → S → S) (i n : ℕ) (s : S) where
       let e : n - i ≡ 0 = omega arith in
       rw e at v
 
+-- Two scans whose tests are the same find the same. k is how many numbers are left.
+module _ (p q : ℕ → Bool) (n : ℕ) (same : (s : ℕ) → s < n → p s ≡ q s) where
+  first-same-from : (k i : ℕ) → n - i ≡ k → first p i n ≡ first q i n
+  first-same-from zero i e = sym (first-done p i n refl (omega arith)) ∙ first-done q i n refl (omega arith)
+  first-same-from (suc k) i e = by (p i) refl (first-same-from k (i + 1) (omega arith))
+    where
+      inside : i < n
+      inside = omega arith
+
+      by : (t : Bool) → p i ≡ t → first p (i + 1) n ≡ first q (i + 1) n → first p i n ≡ first q i n
+      by true r rest = sym (first-yes p i n refl inside r refl) ∙ first-yes q i n refl inside (sym (same i inside) ∙ r) refl
+      by false r rest = sym (first-no p i n refl inside r refl) ∙ rest ∙ first-no q i n refl inside (sym (same i inside) ∙ r) refl
+
+  pub first-same : first p 0 n ≡ first q 0 n
+  first-same = first-same-from (n - 0) 0 refl
+
 -- What a scan says of each number, and back. k is how many numbers are left.
 all-at-from : (p : ℕ → Bool) (k i n : ℕ) → n - i ≡ k → all p i n ≡ true → (j : ℕ) → i ≤ j → j < n → p j ≡ true
 all-at-from p zero i n e h j a b = absurd (out e a b)

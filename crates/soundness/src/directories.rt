@@ -18,8 +18,10 @@ use crate::fields::is_byte;
 use rules::ids::Slot;
 use tables::directories::dirent_at;
 use tables::directories::dirent_slot;
+use tables::directories::high_at;
 use tables::directories::is_empty;
 use tables::directories::is_padding;
+use tables::directories::low_at;
 use tables::files::is_free;
 use tables::layout::DIRENT;
 use tables::layout::DIRENTS;
@@ -175,19 +177,6 @@ fn all_dirents_sound(files: &[u32], contents: &[u8], dir: &[u8]) -> bool
         }
     }
     true
-}
-
-// The words of the name of entry i.
-fn low_at(dir: &[u8], i: u32) -> u64
-    ensures { λ r. ⌜ r ≡ lowWord (direntAt (now (dir .entry)) i) ⌝ }
-{
-    low_word(dirent_at(dir, i))
-}
-
-fn high_at(dir: &[u8], i: u32) -> u64
-    ensures { λ r. ⌜ r ≡ highWord (direntAt (now (dir .entry)) i) ⌝ }
-{
-    high_word(dirent_at(dir, i))
 }
 
 fn other_low(dir: &[u8], low: u64, j: u32) -> bool

@@ -1,8 +1,11 @@
 // A directory's entries, 16 of 16 bytes: the name, the slot, 0. `dir` is what the view shows of its slot.
 ghost use mathlib.Core.Path.{_≡_};
 ghost use Rattle.rules.specs.Directories.{direntAt, direntSlot, isEmpty, isPadding};
+ghost use Rattle.tables.specs.NameWords.{lowWord, highWord};
 use crate::layout::DIRENT;
 use crate::layout::NAME;
+use crate::name_words::high_word;
+use crate::name_words::low_word;
 use crate::parts::after;
 use crate::words::byte;
 
@@ -31,4 +34,17 @@ pub fn is_padding(name: &[u8], k: usize) -> bool
     ensures { λ r. ⌜ r ≡ isPadding (now (name .entry)) k ⌝ }
 {
     byte(name, k) == 0
+}
+
+// The words of the name of entry i.
+pub fn low_at(dir: &[u8], i: u32) -> u64
+    ensures { λ r. ⌜ r ≡ lowWord (direntAt (now (dir .entry)) i) ⌝ }
+{
+    low_word(dirent_at(dir, i))
+}
+
+pub fn high_at(dir: &[u8], i: u32) -> u64
+    ensures { λ r. ⌜ r ≡ highWord (direntAt (now (dir .entry)) i) ⌝ }
+{
+    high_word(dirent_at(dir, i))
 }

@@ -9,6 +9,7 @@ read-name-spec =
     (tie.spec
     (λ c κs. search needs)
     (λ c. search ends-past)
+    (λ c. search needs)
     (λ c. search name-short)
     (λ c κs. search needs)
     (λ c κs. tt)
