@@ -1,6 +1,5 @@
 // The lowest free ones; the number past the last where there is none.
 ghost use mathlib.Core.Path.{_≡_};
-ghost use lib.Dec.{eqb};
 ghost use Rattle.rules.specs.Layout.{FILE, OPEN};
 ghost use Rattle.rules.specs.Store.{tab, procOf, descOf};
 ghost use Rattle.rules.specs.Checks.{slotFree, ofdFree, pidFree, freeSlot, freeOfd, freeFd, freePid};

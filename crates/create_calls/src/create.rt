@@ -8,6 +8,7 @@ ghost use Rattle.rules.specs.DecidePaths.{newRecord, created, createRoom, decid
 ghost use Rattle.create_calls.specs.Placed.{createAt};
 use crate::dirs::free_in;
 use crate::dirs::gaining;
+use crate::dirs::is_absent;
 use allocation::free::free_slot;
 use resolution::rights::bits_allow;
 use resolution::rights::label_allows;
@@ -118,8 +119,7 @@ fn create_at(
     ensures { λ r. ⌜ r ≡ createAt (now (policy .entry)) (tree (now (files .entry)) (now (contents .entry))) who kind bits at ⌝ }
 {
     let d = at.dir;
-    let absent = !(at.dirent < DIRENTS);
-    if !absent {
+    if !is_absent(at) {
         return Decision::Refused(Refusal::NameThere, 0);
     }
     if !bits_allow(files, who, d, Rights::WRITE) {

@@ -1,13 +1,24 @@
-// What a directory becomes that gains a name, and its free entries.
+// What a directory becomes that gains a name, whether it has the name, and its free entries.
 ghost use mathlib.Core.Path.{_≡_};
-ghost use Rattle.rules.specs.Layout.{FILE};
+ghost use mathlib.Core.Bool.{not};
+ghost use lib.Dec.{ltb};
+ghost use Rattle.rules.specs.Layout.{FILE, DIRENTS};
 ghost use Rattle.rules.specs.Store.{tab, shownOf};
 ghost use Rattle.rules.specs.Directories.{freeDirent};
 ghost use Rattle.rules.specs.Checks.{gains};
 use rules::decision::DirChange;
+use rules::decision::Location;
 use rules::ids::Slot;
 use tables::files::shown;
+use tables::layout::DIRENTS;
 use tables::numbers::up_one;
+
+// The place of a name in its parent is past the entries: the name is missing.
+pub fn is_absent(at: Location) -> bool
+    ensures { λ r. ⌜ r ≡ not (ltb (at .dirent) DIRENTS) ⌝ }
+{
+    !(at.dirent < DIRENTS)
+}
 
 // The lowest free entry of the directory in slot d.
 pub fn free_in(files: &[u32], contents: &[u8], d: Slot) -> u32

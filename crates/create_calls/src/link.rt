@@ -7,6 +7,7 @@ ghost use Rattle.rules.specs.DecidePaths.{linked, linkRoom, linkTo, linkNew, de
 ghost use Rattle.create_calls.specs.Placed.{linkAt};
 use crate::dirs::free_in;
 use crate::dirs::gaining;
+use crate::dirs::is_absent;
 use resolution::rights::bits_allow;
 use resolution::rights::label_allows;
 use resolution::walk::walk_new;
@@ -66,8 +67,7 @@ fn link_at(
     ensures { λ r. ⌜ r ≡ linkAt (now (policy .entry)) (tree (now (files .entry)) (now (contents .entry))) who old at ⌝ }
 {
     let d = at.dir;
-    let absent = !(at.dirent < DIRENTS);
-    if !absent {
+    if !is_absent(at) {
         return Decision::Refused(Refusal::NameThere, 0);
     }
     if !bits_allow(files, who, d, Rights::WRITE) {

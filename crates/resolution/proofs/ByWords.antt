@@ -1,6 +1,6 @@
 -- A name looked for by its words is the name looked for by its bytes.
 use Prim.Native.Nat.{ℕ, zero, suc, _+_, _*_, _<_}
-use mathlib.Core.Path.{_≡_, refl, sym, _∙_, ap, fun-ext}
+use mathlib.Core.Path.{_≡_, refl, ap, fun-ext}
 use mathlib.Core.Bool.{Bool, true, false}
 use mathlib.Core.List.{List, [], _∷_}
 use native.Mathlib.Omega.{arith}
@@ -11,11 +11,10 @@ use Rattle.rules.specs.Choice.{every}
 use Rattle.rules.specs.Scan.{first}
 use Rattle.rules.specs.Layout.{DIRENTS}
 use Rattle.rules.specs.Store.{tree, block, hidden, shownOf}
-use Rattle.rules.specs.Paths.{Name, span, notSlash, sameName}
+use Rattle.rules.specs.Paths.{Name, span, notSlash}
 use Rattle.rules.specs.Directories.{direntAt, hasName, direntOf}
 use Rattle.rules.specs.declared.request.Subject.{Subject}
 use Rattle.rules.specs.declared.ids.Slot.{Slot}
-use Rattle.rules.specs.declared.decision.Walk.{Walk}
 use Rattle.tables.specs.NameWords.{lowWord, highWord}
 use Rattle.tables.proofs.SameWords.{low-apart, high-apart, words-there}
 use Rattle.resolution.specs.declared.walk.Intent.{Intent}

@@ -3,19 +3,15 @@ use Prim.Native.Nat.{ℕ, zero, suc, _+_, _-_, _*_, _%_, _^_, _≤_, _<_}
 use mathlib.Core.Path.{_≡_, refl, sym, _∙_, ap}
 use mathlib.Core.Bool.{Bool, true, false, cond, not}
 use mathlib.Core.List.{List, [], _∷_}
-use native.Mathlib.Nat.{mul-comm, mul-assoc, mul-add, one-mul, mul-zero, add-zero}
-use native.Mathlib.Nat.{not-suc-le-zero, le-of-suc-le-suc}
+use native.Mathlib.Nat.{mul-comm, mul-assoc, mul-add, not-suc-le-zero, le-of-suc-le-suc}
 use native.Mathlib.Numerals.{add-one}
 use native.Mathlib.Omega.{arith}
-use borrow.Author.Tests.{ne-eqb}
-use lib.Dec.{eqb}
 use lib.ListN.{length, getD, take, drop, drop-of-length-le}
 use lib.Seq.{drop-cons, drop-drop, getD-drop, take-nil, length-take-le}
 use lib.Pow.{pow-add, pow-mono, pow-pos, shl-exact}
 use Rattle.rules.specs.Paths.{Name, span, isSlash, notSlash}
 use Rattle.tables.specs.NameWords.{pair, quad, lowWord, highWord}
 use Rattle.resolution.specs.declared.path_names.Word.{Word}
-use Rattle.resolution.specs.declared.path_names.PathName.{PathName}
 use Rattle.resolution.proofs.Spans.{span-le}
 use Rattle.resolution.specs.PathNames.{pack, upTo, wordFrom, nameAt, nameFrom}
 

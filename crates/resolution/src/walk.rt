@@ -4,7 +4,6 @@ ghost use Prim.Native.Nat.{_+_};
 ghost use lib.ListN.{drop, length};
 ghost use Rattle.rules.specs.Store.{tree};
 ghost use Rattle.rules.specs.Paths.{firstNames};
-ghost use Rattle.rules.specs.Directories.{direntOf};
 ghost use Rattle.rules.specs.Walk.{reached, entered, walkPath, ROOT};
 ghost use Rattle.resolution.specs.Walks.{here, isLast, placed, direntBy, placedBy, lookupBy, walkFor, walkNew, firstNumber, NameStarts};
 use crate::directories::dirent_by;

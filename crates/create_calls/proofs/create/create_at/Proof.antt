@@ -8,6 +8,7 @@ unfolding createAt
 create-at-spec =
     tie.close
     (tie.spec
+    (λ c κs. tt)
     (λ c. search steps)
     (λ c κs. tt)
     (λ c. search steps)

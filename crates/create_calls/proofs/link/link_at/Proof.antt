@@ -8,6 +8,7 @@ unfolding linkAt
 link-at-spec =
     tie.close
     (tie.spec
+    (λ c κs. tt)
     (λ c. search steps)
     (λ c κs. tt)
     (λ c. search steps)

@@ -1,9 +1,9 @@
 -- The walk calls itself. The measure is the number of names left.
-use Prim.Native.Nat.{ℕ, suc, _+_, _-_, _^_, _≤_, _<_}
-use mathlib.Core.Path.{_≡_, refl, sym, _∙_}
+use Prim.Native.Nat.{ℕ, _+_, _-_, _^_, _≤_, _<_}
+use mathlib.Core.Path.{_≡_, sym, _∙_}
 use mathlib.Core.Bool.{Bool, true, false}
 use mathlib.Core.Logic.{_⊎_, inl, inr}
-use mathlib.Core.List.{List, [], _∷_}
+use mathlib.Core.List.{List, []}
 use native.Mathlib.Decide.{decLt}
 use native.Mathlib.Omega.{arith}
 use borrow.Author.Needs.{needs}
@@ -13,7 +13,7 @@ use lib.ListN.{length, getD, take, drop, drop-of-length-le}
 use lib.Seq.{take-nil}
 use Rattle.rules.specs.Store.{tree}
 use Rattle.rules.specs.Paths.{span, isSlash, notSlash, firstNames}
-use Rattle.rules.specs.Walk.{lookup, onReached}
+use Rattle.rules.specs.Walk.{onReached}
 use Rattle.rules.specs.declared.request.Subject.{Subject}
 use Rattle.rules.specs.declared.refusal.Refusal.{Refusal}
 use Rattle.rules.specs.declared.decision.Location.{Location}
@@ -21,7 +21,6 @@ use Rattle.rules.specs.declared.decision.Walk.{Walk}
 use Rattle.rules.specs.declared.decision.Walk.the-variants.{Reached, Stopped}
 use Rattle.rules.specs.declared.ids.Slot.{Slot}
 use Rattle.resolution.specs.declared.walk.Intent.{Intent}
-use Rattle.resolution.specs.declared.walk.Intent.the-variants.{Find}
 use Rattle.resolution.specs.declared.path_names.PathName.{PathName}
 use Rattle.resolution.specs.PathNames.{nameAt, nameFrom}
 use Rattle.resolution.specs.Walks.{here, isLast, lookupFor, lookupBy, walkFor, NameStarts}

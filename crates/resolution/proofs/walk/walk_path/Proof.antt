@@ -4,7 +4,6 @@ use mathlib.Core.Path.{_≡_, refl, _∙_}
 use mathlib.Core.List.{List}
 use native.Mathlib.Nat.{le-of-lt}
 use native.Mathlib.Omega.{arith}
-use borrow.Author.Needs.{needs}
 use lib.ListN.{length, drop}
 use Rattle.rules.specs.Store.{tree, slot}
 use Rattle.rules.specs.Paths.{span, isSlash, firstNames}
@@ -13,7 +12,6 @@ use Rattle.rules.specs.declared.request.Subject.{Subject}
 use Rattle.rules.specs.declared.decision.Location.{Location}
 use Rattle.rules.specs.declared.decision.Walk.{Walk}
 use Rattle.rules.specs.declared.decision.Walk.the-variants.{Reached}
-use Rattle.resolution.specs.declared.walk.Intent.{Intent}
 use Rattle.resolution.specs.declared.walk.Intent.the-variants.{Find}
 use Rattle.resolution.specs.Walks.{walkFor, NameStarts}
 use Rattle.resolution.proofs.Walks.{find-walk}
