@@ -4,11 +4,11 @@ use crate::tables::{Tables, SIZES};
 
 /// Room for one word more than the tables should have.
 pub const ROOM: [usize; 5] = {
-    let [files, contents, opens, processes, policy] = SIZES;
+    let [files, contents, open_files, processes, policy] = SIZES;
     [
         files + 1,
         contents + 1,
-        opens + 1,
+        open_files + 1,
         processes + 1,
         policy + 1,
     ]
@@ -60,7 +60,7 @@ pub fn changes(from: &Tables, to: &Tables) -> Vec<u8> {
     [
         patches(1, &from.files, &to.files, word),
         patches(2, &from.contents, &to.contents, byte),
-        patches(3, &from.opens, &to.opens, word),
+        patches(3, &from.open_files, &to.open_files, word),
         patches(4, &from.processes, &to.processes, word),
         patches(5, &from.policy, &to.policy, byte),
     ]

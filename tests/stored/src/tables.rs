@@ -1,4 +1,4 @@
-//! The lent tables, and a call on them.
+//! Tables as the programs of the gate start with them, and a call on them by the second program.
 
 pub use mritvelja::layout::{
     BLOCK, FILE_WIDTH as FILE, LABELS, OPEN_FILE_WIDTH as OPEN, PROCESS_WIDTH as PROCESS,
@@ -7,6 +7,7 @@ use mritvelja::layout::{
     CONTENTS_SIZE, FILES_SIZE, NO_TRANSITION, OPEN_FILES_SIZE, POLICY_SIZE, PROCESSES_SIZE,
     RIGHTS_SIZE,
 };
+pub use mritvelja::Tables;
 use reference::{Answer, Request};
 
 /// The right sizes of files, contents, open files, processes and policy.
@@ -18,51 +19,41 @@ pub const SIZES: [usize; 5] = [
     POLICY_SIZE,
 ];
 
-/// The five tables.
-pub struct Tables {
-    pub files: Vec<u32>,
-    pub contents: Vec<u8>,
-    pub opens: Vec<u32>,
-    pub processes: Vec<u32>,
-    pub policy: Vec<u8>,
+/// Tables of 0 alone, in which the policy gives no right.
+pub fn zero([files, contents, open_files, processes, policy]: [usize; 5]) -> Tables {
+    Tables {
+        files: vec![0; files],
+        contents: vec![0; contents],
+        open_files: vec![0; open_files],
+        processes: vec![0; processes],
+        policy: vec![0; policy],
+    }
 }
 
-impl Tables {
-    /// Tables of 0 alone, in which the policy gives no right.
-    pub fn zero([files, contents, opens, processes, policy]: [usize; 5]) -> Tables {
-        Tables {
-            files: vec![0; files],
-            contents: vec![0; contents],
-            opens: vec![0; opens],
-            processes: vec![0; processes],
-            policy: vec![0; policy],
-        }
-    }
+/// Tables of the right sizes, with no root and no transitions.
+pub fn blank() -> Tables {
+    let mut tables = zero(SIZES);
+    tables.policy[RIGHTS_SIZE..].fill(NO_TRANSITION);
+    tables
+}
 
-    /// Tables of the right sizes, with no transitions.
-    pub fn empty() -> Tables {
-        let mut tables = Tables::zero(SIZES);
-        tables.policy[RIGHTS_SIZE..].fill(NO_TRANSITION);
-        tables
-    }
-
-    pub fn call(
-        &mut self,
-        request: Request,
-        path: &[u8],
-        data: &[u8],
-        buffer: &mut [u8],
-    ) -> Answer {
-        reference::call(
-            &mut self.files,
-            &mut self.contents,
-            &mut self.opens,
-            &mut self.processes,
-            &self.policy,
-            request,
-            path,
-            data,
-            buffer,
-        )
-    }
+/// A call on the tables, by the second program.
+pub fn call(
+    tables: &mut Tables,
+    request: Request,
+    path: &[u8],
+    data: &[u8],
+    buffer: &mut [u8],
+) -> Answer {
+    reference::call(
+        &mut tables.files,
+        &mut tables.contents,
+        &mut tables.open_files,
+        &mut tables.processes,
+        &tables.policy,
+        request,
+        path,
+        data,
+        buffer,
+    )
 }

@@ -32,7 +32,7 @@ use generate::{random_store, CallMaker};
 use mritvelja::Tables;
 use reference::Request;
 use stored::records::{self, BUFFER, ROOM};
-use stored::tables::SIZES;
+use stored::tables::{self, zero, SIZES};
 
 const SEED: u64 = 20_261;
 const LINK: u8 = 6;
@@ -45,11 +45,11 @@ const SHORT: usize = 2_500;
 const UNSOUND: usize = 40;
 
 /// The tables as `crates/recorded` holds them.
-fn held(tables: &Tables, before: &stored::tables::Tables) -> stored::tables::Tables {
-    stored::tables::Tables {
+fn held(tables: &Tables, before: &Tables) -> Tables {
+    Tables {
         files: over(&tables.files, &before.files),
         contents: over(&tables.contents, &before.contents),
-        opens: over(&tables.open_files, &before.opens),
+        open_files: over(&tables.open_files, &before.open_files),
         processes: over(&tables.processes, &before.processes),
         policy: over(&tables.policy, &before.policy),
     }
@@ -105,18 +105,14 @@ fn store(chance: &mut Chance, number: usize) -> Tables {
 
 struct Writer {
     out: Vec<u8>,
-    held: stored::tables::Tables,
+    held: Tables,
     sizes: [usize; 5],
-}
-
-fn zero() -> stored::tables::Tables {
-    stored::tables::Tables::zero(ROOM)
 }
 
 impl Writer {
     fn clear(&mut self) {
         self.out.extend(records::clear());
-        self.held = zero();
+        self.held = zero(ROOM);
         self.sizes = SIZES;
     }
 
@@ -151,18 +147,8 @@ fn make(tables: &mut Tables, call: &Call) -> u32 {
         descriptor: call.descriptor,
         number: call.number,
     };
-    let answer = reference::call(
-        &mut tables.files,
-        &mut tables.contents,
-        &mut tables.open_files,
-        &mut tables.processes,
-        &tables.policy,
-        request,
-        &call.path,
-        &call.data,
-        &mut call.buffer.clone(),
-    );
-    answer.refusal
+    let mut buffer = call.buffer.clone();
+    tables::call(tables, request, &call.path, &call.data, &mut buffer).refusal
 }
 
 /// The call with less of what it does not look at.
@@ -209,7 +195,7 @@ fn run_store(writer: &mut Writer, chance: &mut Chance, number: usize) {
 fn main() -> std::io::Result<()> {
     let mut writer = Writer {
         out: Vec::new(),
-        held: zero(),
+        held: zero(ROOM),
         sizes: SIZES,
     };
     let mut chance = Chance::new(SEED);

@@ -4,7 +4,7 @@ use std::io::{Read, Write};
 
 use reference::Request;
 use stored::answers;
-use stored::tables::{Tables, BLOCK, FILE, LABELS, OPEN, PROCESS};
+use stored::tables::{self, blank, Tables, BLOCK, FILE, LABELS, OPEN, PROCESS};
 
 const LONGEST: usize = 512;
 
@@ -86,7 +86,7 @@ struct Console<'a> {
 impl Console<'_> {
     /// The tables that the set lines of the head give.
     fn fresh(&mut self) -> Line {
-        self.tables = Tables::empty();
+        self.tables = blank();
         for line in self.head.clone() {
             let words: Vec<&str> = line.split(' ').filter(|word| !word.is_empty()).collect();
             if words.first() == Some(&"set") {
@@ -99,7 +99,7 @@ impl Console<'_> {
     fn words(&mut self, table: &str) -> Option<(&mut [u32], usize)> {
         match table {
             "files" => Some((&mut self.tables.files, FILE)),
-            "opens" => Some((&mut self.tables.opens, OPEN)),
+            "opens" => Some((&mut self.tables.open_files, OPEN)),
             "processes" => Some((&mut self.tables.processes, PROCESS)),
             _ => None,
         }
@@ -169,7 +169,7 @@ impl Console<'_> {
             return Err(Broken);
         }
         let mut buffer = vec![0; size];
-        let answer = self.tables.call(request, &path, &data, &mut buffer);
+        let answer = tables::call(&mut self.tables, request, &path, &data, &mut buffer);
         let read = if call == READ { answer.value } else { 0 };
         let bytes = &buffer[..read as usize];
         Ok(format!(": {}", answers::answer(&answer, bytes)))
@@ -199,7 +199,7 @@ fn main() -> std::io::Result<()> {
     let head = script.lines().take_while(|line| !line.is_empty()).collect();
     let mut console = Console {
         head,
-        tables: Tables::empty(),
+        tables: blank(),
     };
     let mut out = std::io::stdout().lock();
     for (at, line) in script.lines().enumerate() {

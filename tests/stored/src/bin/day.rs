@@ -16,7 +16,7 @@ fn main() -> std::io::Result<()> {
     let run = reference::replay(
         &mut tables.files,
         &mut tables.contents,
-        &mut tables.opens,
+        &mut tables.open_files,
         &mut tables.processes,
         &tables.policy,
         &script,

@@ -4,7 +4,7 @@ use std::io::{Read, Write};
 
 use reference::{Answer, Request};
 use stored::records::{BUFFER, BUFFER_BYTE, ROOM};
-use stored::tables::{Tables, SIZES};
+use stored::tables::{zero, Tables, SIZES};
 
 const READ: u8 = 11;
 
@@ -52,7 +52,7 @@ fn digest(tables: &Tables, buffer: &[u8]) -> u32 {
     let all = [
         tables.files.clone(),
         bytes(&tables.contents),
-        tables.opens.clone(),
+        tables.open_files.clone(),
         tables.processes.clone(),
         bytes(buffer),
     ];
@@ -78,7 +78,7 @@ fn line(answer: &Answer, read: &[u8], digest: u32) -> String {
 impl Recorded {
     fn new() -> Recorded {
         Recorded {
-            tables: Tables::zero(ROOM),
+            tables: zero(ROOM),
             sizes: SIZES,
         }
     }
@@ -90,7 +90,7 @@ impl Recorded {
             0 => self.sizes = [0, 4, 8, 12, 16].map(|at| place(bytes, at)),
             1 => put(&mut self.tables.files, at, &words(values)),
             2 => put(&mut self.tables.contents, at, values),
-            3 => put(&mut self.tables.opens, at, &words(values)),
+            3 => put(&mut self.tables.open_files, at, &words(values)),
             4 => put(&mut self.tables.processes, at, &words(values)),
             5 => put(&mut self.tables.policy, at, values),
             7 => *self = Recorded::new(),
@@ -122,12 +122,12 @@ impl Recorded {
     }
 
     fn answer(&mut self, request: Request, path: &[u8], data: &[u8], buffer: &mut [u8]) -> Answer {
-        let [files, contents, opens, processes, policy] = self.sizes;
+        let [files, contents, open_files, processes, policy] = self.sizes;
         let tables = &mut self.tables;
         reference::call(
             lent(&mut tables.files, files),
             lent(&mut tables.contents, contents),
-            lent(&mut tables.opens, opens),
+            lent(&mut tables.open_files, open_files),
             lent(&mut tables.processes, processes),
             lent(&mut tables.policy, policy),
             request,
