@@ -91,7 +91,7 @@ pub const USER: usize = 1;
 /// 0 to 15.
 pub const PROCESS_LABEL: usize = 2;
 /// Descriptor 0, and after it the others: 0 holds nothing, e + 1 open file e.
-pub const FIRST_DESCRIPTOR: usize = 3;
+pub const PROCESS_DESCRIPTOR: usize = 3;
 
 // Rights, which are added.
 

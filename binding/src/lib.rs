@@ -17,18 +17,20 @@
 
 #![warn(missing_docs)]
 
+mod answer;
 #[cfg(feature = "library")]
 mod boundary;
 pub mod layout;
 mod numbers;
-mod report;
+mod replayed;
 mod request;
 mod tables;
 
+pub use answer::Answer;
 #[cfg(feature = "library")]
 pub use boundary::{act, call, replay, sound};
 pub use numbers::{calls, modes, reasons, refusals};
-pub use report::{Answer, Replayed};
+pub use replayed::Replayed;
 pub use request::Request;
 pub use tables::Tables;
 

@@ -48,7 +48,7 @@ pub mod modes {
     pub const BOTH: u16 = 3;
     /// For writes at the file's end.
     pub const APPEND: u16 = 4;
-    /// Cuts the file to no bytes.
+    /// Truncates the file to no bytes.
     pub const TRUNCATE: u16 = 8;
 }
 

@@ -87,58 +87,58 @@ impl Tables {
         &mut self.contents.as_chunks_mut().0[slot]
     }
 
-    /// The entry at a directory's place, as it is stored.
-    pub fn dirent(&self, directory: usize, place: usize) -> &[u8; DIRENT_WIDTH] {
-        &self.block(directory).as_chunks().0[place]
+    /// A directory entry, as it is stored.
+    pub fn dirent(&self, directory: usize, entry: usize) -> &[u8; DIRENT_WIDTH] {
+        &self.block(directory).as_chunks().0[entry]
     }
 
-    /// The entry at a directory's place, to be changed.
-    pub fn dirent_mut(&mut self, directory: usize, place: usize) -> &mut [u8; DIRENT_WIDTH] {
-        &mut self.block_mut(directory).as_chunks_mut().0[place]
+    /// A directory entry, to be changed.
+    pub fn dirent_mut(&mut self, directory: usize, entry: usize) -> &mut [u8; DIRENT_WIDTH] {
+        &mut self.block_mut(directory).as_chunks_mut().0[entry]
     }
 
-    /// The name at a place, without its padding.
-    pub fn dirent_name(&self, directory: usize, place: usize) -> &[u8] {
-        let padded = &self.dirent(directory, place)[..NAME];
+    /// The name in a directory entry, without its padding.
+    pub fn dirent_name(&self, directory: usize, entry: usize) -> &[u8] {
+        let padded = &self.dirent(directory, entry)[..NAME];
         let end = padded.iter().position(|&byte| byte == 0);
         &padded[..end.unwrap_or(NAME)]
     }
 
-    /// The slot that a place names, 0 for an empty place.
-    pub fn dirent_slot(&self, directory: usize, place: usize) -> usize {
-        usize::from(self.dirent(directory, place)[NAME])
+    /// The slot that a directory entry names, 0 for an empty one.
+    pub fn dirent_slot(&self, directory: usize, entry: usize) -> usize {
+        usize::from(self.dirent(directory, entry)[NAME])
     }
 
-    /// Writes a place, and nothing else that goes with a new name. Panics where
+    /// Writes a directory entry, and nothing else that goes with a new name. Panics where
     /// the name has more than [`NAME`] bytes or the slot more than one.
-    pub fn set_dirent(&mut self, directory: usize, place: usize, name: &[u8], slot: usize) {
-        let dirent = self.dirent_mut(directory, place);
+    pub fn set_dirent(&mut self, directory: usize, entry: usize, name: &[u8], slot: usize) {
+        let dirent = self.dirent_mut(directory, entry);
         dirent.fill(0);
         dirent[..NAME][..name.len()].copy_from_slice(name);
         dirent[NAME] = u8::try_from(slot).expect("a slot is one byte");
     }
 
-    /// The places of a directory that have a name or a slot.
-    pub fn named_places(&self, directory: usize) -> impl Iterator<Item = usize> + '_ {
-        (0..DIRENTS).filter(move |&place| {
-            self.dirent_slot(directory, place) != 0
-                || !self.dirent_name(directory, place).is_empty()
+    /// The entries of a directory that have a name or a slot.
+    pub fn dirents_in_use(&self, directory: usize) -> impl Iterator<Item = usize> + '_ {
+        (0..DIRENTS).filter(move |&entry| {
+            self.dirent_slot(directory, entry) != 0
+                || !self.dirent_name(directory, entry).is_empty()
         })
     }
 
     /// An open file's record.
-    pub fn open_file(&self, entry: usize) -> &[u32; OPEN_FILE_WIDTH] {
-        &self.open_files.as_chunks().0[entry]
+    pub fn open_file(&self, open_file: usize) -> &[u32; OPEN_FILE_WIDTH] {
+        &self.open_files.as_chunks().0[open_file]
     }
 
     /// An open file's record, to be changed.
-    pub fn open_file_mut(&mut self, entry: usize) -> &mut [u32; OPEN_FILE_WIDTH] {
-        &mut self.open_files.as_chunks_mut().0[entry]
+    pub fn open_file_mut(&mut self, open_file: usize) -> &mut [u32; OPEN_FILE_WIDTH] {
+        &mut self.open_files.as_chunks_mut().0[open_file]
     }
 
     /// The open files that are in use, in order.
-    pub fn open_entries(&self) -> impl Iterator<Item = usize> + '_ {
-        (0..OPEN_FILES).filter(|&entry| self.open_file(entry).iter().any(|&word| word != 0))
+    pub fn open_files_in_use(&self) -> impl Iterator<Item = usize> + '_ {
+        (0..OPEN_FILES).filter(|&open_file| self.open_file(open_file).iter().any(|&word| word != 0))
     }
 
     /// A process's record.
@@ -158,12 +158,12 @@ impl Tables {
 
     /// A process's descriptors: 0 for nothing, `e + 1` for open file `e`.
     pub fn descriptors(&self, process: usize) -> &[u32] {
-        &self.process(process)[FIRST_DESCRIPTOR..]
+        &self.process(process)[PROCESS_DESCRIPTOR..]
     }
 
     /// A process's descriptors, to be changed.
     pub fn descriptors_mut(&mut self, process: usize) -> &mut [u32] {
-        &mut self.process_mut(process)[FIRST_DESCRIPTOR..]
+        &mut self.process_mut(process)[PROCESS_DESCRIPTOR..]
     }
 
     /// What processes of a label may do with files of a label.

@@ -48,7 +48,7 @@ fn in_package() -> Values {
     let mut values = constants! {
         "" layout: SLOTS FILE_WIDTH BLOCK DIRENTS DIRENT_WIDTH NAME OPEN_FILES OPEN_FILE_WIDTH
             PROCESSES PROCESS_WIDTH DESCRIPTORS LABELS NO_TRANSITION FILES_SIZE CONTENTS_SIZE
-            OPEN_FILES_SIZE PROCESSES_SIZE RIGHTS_SIZE POLICY_SIZE PROCESS_LABEL;
+            OPEN_FILES_SIZE PROCESSES_SIZE RIGHTS_SIZE POLICY_SIZE PROCESS_LABEL PROCESS_DESCRIPTOR;
         "FILE_" layout: KIND OWNER BITS LABEL LENGTH LINKS VERSION;
         "OPEN_" layout: SLOT MODE OFFSET REFERENCES;
         "PROCESS_" layout: USED USER;
@@ -63,7 +63,6 @@ fn in_package() -> Values {
     };
     values.insert("PATH".into(), layout::LONGEST_PATH);
     values.insert("NAMES".into(), layout::DEEPEST);
-    values.insert("PROCESS_DESCRIPTOR".into(), layout::FIRST_DESCRIPTOR);
     values
 }
 

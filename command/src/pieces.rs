@@ -7,23 +7,23 @@ use mritvelja::Tables;
 const OUTPUT: usize = 65_536;
 
 #[derive(Debug, PartialEq, Eq)]
-pub enum Stop {
+pub enum Reason {
     End,
     Allowance,
     Broken,
 }
 
 #[derive(Debug, PartialEq, Eq)]
-pub struct Run {
+pub struct Replayed {
     pub answers: Vec<u8>,
     pub calls: u64,
     /// The byte of the script where the next block begins.
     pub next: usize,
-    pub stop: Stop,
+    pub reason: Reason,
 }
 
 /// Runs a script, at most `allowed` calls of it.
-pub fn run(tables: &mut Tables, script: &[u8], allowed: Option<u64>) -> Result<Run, String> {
+pub fn run(tables: &mut Tables, script: &[u8], allowed: Option<u64>) -> Result<Replayed, String> {
     run_within(tables, script, allowed, OUTPUT)
 }
 
@@ -33,13 +33,13 @@ fn run_within(
     script: &[u8],
     allowed: Option<u64>,
     room: usize,
-) -> Result<Run, String> {
+) -> Result<Replayed, String> {
     let mut output = vec![0; room];
-    let mut run = Run {
+    let mut run = Replayed {
         answers: Vec::new(),
         calls: 0,
         next: 0,
-        stop: Stop::End,
+        reason: Reason::End,
     };
     loop {
         let left = allowed.map_or(u64::MAX, |allowed| allowed - run.calls);
@@ -48,10 +48,10 @@ fn run_within(
         run.answers.extend(&output[..piece.written]);
         run.calls += u64::from(piece.calls);
         run.next += piece.next;
-        run.stop = match piece.reason {
-            END => Stop::End,
-            ALLOWANCE if allowed == Some(run.calls) => Stop::Allowance,
-            BROKEN => Stop::Broken,
+        run.reason = match piece.reason {
+            END => Reason::End,
+            ALLOWANCE if allowed == Some(run.calls) => Reason::Allowance,
+            BROKEN => Reason::Broken,
             // There is more to do, and the output is empty again.
             ALLOWANCE | ROOM if piece.calls > 0 => continue,
             reason => {
@@ -74,7 +74,7 @@ mod tests {
     /// Room for the longest answer of the example day, and not for two.
     const NARROW: usize = 64;
 
-    fn run_on(tables: &mut Tables, script: &[u8], allowed: Option<u64>, room: usize) -> Run {
+    fn run_on(tables: &mut Tables, script: &[u8], allowed: Option<u64>, room: usize) -> Replayed {
         run_within(tables, script, allowed, room).unwrap()
     }
 
@@ -106,14 +106,14 @@ mod tests {
 
     #[test]
     fn the_end_comes_before_the_allowance_and_that_before_a_broken_block() {
-        let stop = |script: &[u8], allowed| {
+        let reason = |script: &[u8], allowed| {
             let run = run_on(&mut test_console(), script, allowed, OUTPUT);
-            (run.calls, run.next, run.stop)
+            (run.calls, run.next, run.reason)
         };
-        assert_eq!(stop(b"", Some(0)), (0, 0, Stop::End));
-        assert_eq!(stop(b"x", Some(0)), (0, 0, Stop::Allowance));
-        assert_eq!(stop(b"x", Some(1)), (0, 0, Stop::Broken));
-        assert_eq!(stop(b"x", None), (0, 0, Stop::Broken));
+        assert_eq!(reason(b"", Some(0)), (0, 0, Reason::End));
+        assert_eq!(reason(b"x", Some(0)), (0, 0, Reason::Allowance));
+        assert_eq!(reason(b"x", Some(1)), (0, 0, Reason::Broken));
+        assert_eq!(reason(b"x", None), (0, 0, Reason::Broken));
     }
 
     #[test]

@@ -6,7 +6,7 @@ use crate::check;
 use crate::failure::{said, Failure};
 use crate::held::Held;
 use crate::output;
-use crate::pieces::{self, Run, Stop};
+use crate::pieces::{self, Reason, Replayed};
 use crate::text;
 use std::fs;
 use std::io::{self, Read};
@@ -21,7 +21,7 @@ pub fn replay(store: &Path, script: &Script, calls: Option<u64>) -> Result<(), F
     let mut after = before.clone();
     let run = pieces::run(&mut after, &bytes, calls)
         .map_err(|why| Failure::new("internal error", why))?;
-    if run.stop == Stop::Broken {
+    if run.reason == Reason::Broken {
         let why = broken::describe(&bytes, run.next, run.calls + 1);
         return Err(Failure::new(name_of(script), why));
     }
@@ -52,14 +52,14 @@ fn name_of(script: &Script) -> String {
     }
 }
 
-fn summary(run: &Run, is_changed: bool) -> String {
+fn summary(run: &Replayed, is_changed: bool) -> String {
     let answered = text::count(run.calls, "call answered", "calls answered");
     let store = match is_changed {
         true => "the store is saved",
         false => "the store did not change",
     };
-    match run.stop {
-        Stop::Allowance => format!(
+    match run.reason {
+        Reason::Allowance => format!(
             "{answered}, {store}; the allowance is spent, the next block begins at byte {}",
             run.next
         ),

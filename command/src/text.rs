@@ -1,6 +1,7 @@
 //! Bytes, rights and counts as text that a person and a screen reader can read.
 
 use mritvelja::layout::{EXECUTE, READ, WRITE};
+use mritvelja::modes;
 use std::fmt::Write;
 
 /// Bytes as printable ASCII; every other byte and the backslash as `\xNN`.
@@ -31,11 +32,11 @@ pub fn rights(rights: u32) -> String {
 
 /// An open file's mode in a word, from 1 to 4.
 pub fn mode(mode: u32) -> &'static str {
-    match mode {
-        1 => "read",
-        2 => "write",
-        3 => "read and write",
-        4 => "append",
+    match u16::try_from(mode) {
+        Ok(modes::READ) => "read",
+        Ok(modes::WRITE) => "write",
+        Ok(modes::BOTH) => "read and write",
+        Ok(modes::APPEND) => "append",
         _ => "unknown",
     }
 }

@@ -61,11 +61,11 @@ put damaged-before-128 8 '\077'
 not_converted "another number of slots" 'a store file of another number of slots: expected 64, found 63' damaged-before-128
 cp before-128 damaged-before-128
 put damaged-before-128 $((12 + 2 * 28 + 20)) '\002'
-not_converted "a store that is not sound" 'not sound: "names equal to the places counted" does not hold: slot 2: names is 2' damaged-before-128
+not_converted "a store that is not sound" 'not sound: "names equal to the places counted" does not hold: slot 2: links is 2' damaged-before-128
 # A place that named no slot of 64 names a free one of 128.
 cp before-128 damaged-before-128
 put damaged-before-128 $((1804 + 512 + 16)) 'x\000\000\000\000\000\000\000\000\000\000\000\000\000\100'
-not_converted "a name of slot 64" 'not sound: "each place naming a slot in use other than 0" does not hold: directory in slot 1, place 1: it names slot 64, which is free' \
+not_converted "a name of slot 64" 'not sound: "each place naming a slot in use other than 0" does not hold: directory in slot 1, entry 1: it names slot 64, which is free' \
     damaged-before-128
 
 cp whole kept

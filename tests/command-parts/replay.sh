@@ -27,7 +27,7 @@ fresh bus
 gives "R-1's example" 0 'mritvelja: 2 calls answered, the store is saved; that is the whole script' "$mritvelja" replay bus example
 holds "R-1's example, byte for byte" cmp out expected
 gives "the store afterwards" 0 'sound' "$mritvelja" check bus
-gives "the open file is shown" 0 'Open file 0: slot 2, /fares/now; mode 1 (read), position 5, references 1' "$mritvelja" show bus
+gives "the open file is shown" 0 'Open file 0: slot 2, /fares/now; mode 1 (read), offset 5, references 1' "$mritvelja" show bus
 
 holds "the example day has an answer for each call" test "$(grep -c ^answer= whole.answers)" -eq "$(grep -c ^proc= day)"
 holds "the example day, byte for byte as the second program answers it" cmp whole.answers "$root/examples/day.expected"

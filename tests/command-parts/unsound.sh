@@ -3,7 +3,7 @@
 
 files=12
 contents=3596
-opens=69132
+open_files=69132
 processes=69644
 policy=69996
 
@@ -27,25 +27,25 @@ unsound 'all fields in range' 'policy, transition of process label 1 by program 
 put damaged $files '\001'
 unsound 'root a directory with no name' 'slot 0: kind is 1'
 put damaged $((contents + 32)) 'too\000\000\000\000\000\000\000\000\000\000\000\001'
-unsound 'every other directory named exactly once and at most 8 names deep' 'slot 1: a directory; the places that name it are 2'
+unsound 'every other directory named exactly once and at most 8 names deep' 'slot 1: a directory; the directory entries that name it are 2'
 put damaged $((files + 8 * 28)) '\002\000\000\000\000\000\000\000\000\000\000\000\000\000\000\000\001\000\000\000\001'
 put damaged $((contents + 8 * 512)) 'self\000\000\000\000\000\000\000\000\000\000\010'
 unsound 'every directory reached from the root' 'slot 8: a directory from which no way'
 put damaged $((contents + 16)) 'fares'
-unsound 'names valid and different within a directory' 'directory in slot 0, place 1, name "fares": it stands at place 0 too'
+unsound 'names valid and different within a directory' 'directory in slot 0, entry 1, name "fares": entry 0 has it too'
 put damaged $((contents + 512 + 16)) 'x\000\000\000\000\000\000\000\000\000\000\000\000\000\004'
-unsound 'each place naming a slot in use other than 0' 'directory in slot 1, place 1: it names slot 4, which is free'
+unsound 'each place naming a slot in use other than 0' 'directory in slot 1, entry 1: it names slot 4, which is free'
 put damaged $((files + 2 * 28 + 20)) '\002'
-unsound 'names equal to the places counted' 'slot 2: names is 2, but the places counted are 1'
+unsound 'names equal to the places counted' 'slot 2: links is 2, but the directory entries counted are 1'
 put damaged $((files + 3 * 28 + 16)) '\001\002'
 unsound "a plain file's length at most 512, a directory's equal to its number of names" 'slot 3: a plain file of length 513'
 put damaged $((files + 7 * 28)) '\001'
 unsound 'each plain file named or open' 'slot 7: a plain file'
-put damaged $opens '\001\000\000\000\001\000\000\000\000\000\000\000\001'
+put damaged $open_files '\001\000\000\000\001\000\000\000\000\000\000\000\001'
 put damaged $((processes + 2 * 44 + 12)) '\001'
-unsound 'open entries only on plain files' 'open entry 0: slot 1 is no plain file'
-put damaged $opens '\002\000\000\000\001\000\000\000\000\000\000\000\002'
+unsound 'open entries only on plain files' 'open file 0: slot 1 is no plain file'
+put damaged $open_files '\002\000\000\000\001\000\000\000\000\000\000\000\002'
 put damaged $((processes + 2 * 44 + 12)) '\001'
-unsound 'references equal to the descriptors counted, at least 1' 'open entry 0: references is 2, but the descriptors counted are 1'
-put damaged $((opens - 1)) '\001'
+unsound 'references equal to the descriptors counted, at least 1' 'open file 0: references is 2, but the descriptors counted are 1'
+put damaged $((open_files - 1)) '\001'
 unsound 'the zero bytes' 'slot 127: a free slot whose byte 511 is not 0'

@@ -15,8 +15,8 @@ pub fn out_of_range(tables: &Tables) -> Option<String> {
         .find_map(|slot| file(tables, slot))
         .or_else(|| {
             tables
-                .open_entries()
-                .find_map(|entry| open_file(tables, entry))
+                .open_files_in_use()
+                .find_map(|number| open_file(tables, number))
         })
         .or_else(|| (0..PROCESSES).find_map(|process| in_process(tables, process)))
         .or_else(|| policy(tables))
@@ -28,7 +28,7 @@ fn outside(owner: String, field: &str, value: u32, first: u32, last: u32) -> Opt
     (!is_inside).then(|| format!("{owner}: {field} is {value}, not {first} to {last}"))
 }
 
-/// Length and names have clauses of their own; a stamp is any word.
+/// Length and links have clauses of their own; a version is any word.
 fn file(tables: &Tables, slot: usize) -> Option<String> {
     let record = tables.file(slot);
     let ranges = [
@@ -43,16 +43,16 @@ fn file(tables: &Tables, slot: usize) -> Option<String> {
 }
 
 /// References have a clause of their own.
-fn open_file(tables: &Tables, entry: usize) -> Option<String> {
-    let record = tables.open_file(entry);
+fn open_file(tables: &Tables, number: usize) -> Option<String> {
+    let record = tables.open_file(number);
     let ranges = [
         (SLOT, "slot", 0, SLOTS as u32 - 1),
         (MODE, "mode", FIRST_MODE, LAST_MODE),
-        (OFFSET, "position", 0, BLOCK as u32),
+        (OFFSET, "offset", 0, BLOCK as u32),
     ];
     ranges.into_iter().find_map(|(column, field, first, last)| {
         outside(
-            format!("open entry {entry}"),
+            format!("open file {number}"),
             field,
             record[column],
             first,

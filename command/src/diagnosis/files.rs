@@ -12,7 +12,7 @@ pub fn wrong_length(tables: &Tables) -> Option<String> {
                 Some(format!("slot {slot}: a plain file of length {length}"))
             }
             DIRECTORY => {
-                let names = tables.named_places(slot).count();
+                let names = tables.dirents_in_use(slot).count();
                 (length != names).then(|| {
                     format!("slot {slot}: a directory of length {length}, but its names counted are {names}")
                 })
@@ -26,11 +26,13 @@ pub fn neither_named_nor_open(tables: &Tables) -> Option<String> {
     (0..SLOTS)
         .filter(|&slot| tables.is_kind(slot, PLAIN) && tables.file(slot)[LINKS] == 0)
         .find(|&slot| !is_open(tables, slot))
-        .map(|slot| format!("slot {slot}: a plain file that no place names and no open entry has"))
+        .map(|slot| {
+            format!("slot {slot}: a plain file that no directory entry names and no open file has")
+        })
 }
 
 fn is_open(tables: &Tables, slot: usize) -> bool {
     tables
-        .open_entries()
-        .any(|entry| tables.open_file(entry)[SLOT] as usize == slot)
+        .open_files_in_use()
+        .any(|open_file| tables.open_file(open_file)[SLOT] as usize == slot)
 }

@@ -6,7 +6,7 @@
 mod fields;
 mod files;
 mod names;
-mod opens;
+mod open_files;
 mod tree;
 mod zeros;
 
@@ -47,11 +47,11 @@ const CLAUSES: [(&str, Clause); 12] = [
     ),
     (
         "open entries only on plain files",
-        opens::not_on_a_plain_file,
+        open_files::not_on_a_plain_file,
     ),
     (
         "references equal to the descriptors counted, at least 1",
-        opens::references_not_as_counted,
+        open_files::references_not_as_counted,
     ),
     ("the zero bytes", zeros::not_zero),
 ];

@@ -1,40 +1,40 @@
-//! The clauses of the directories' places: their names, their slots, their number.
+//! The clauses of the directory entries: their names, their slots, their number.
 
 use crate::text;
 use mritvelja::layout::*;
 use mritvelja::Tables;
 
-/// Every place that has a name or a slot, with its directory.
-fn all_places(tables: &Tables) -> impl Iterator<Item = (usize, usize)> + '_ {
+/// Every directory entry that has a name or a slot, with its directory.
+fn all_dirents(tables: &Tables) -> impl Iterator<Item = (usize, usize)> + '_ {
     tables.directories().flat_map(|directory| {
         tables
-            .named_places(directory)
-            .map(move |place| (directory, place))
+            .dirents_in_use(directory)
+            .map(move |entry| (directory, entry))
     })
 }
 
-/// The places that name a slot other than the root, with their directories.
-pub fn places_of(tables: &Tables, slot: usize) -> impl Iterator<Item = (usize, usize)> + '_ {
-    all_places(tables)
-        .filter(move |&(directory, place)| tables.dirent_slot(directory, place) == slot)
+/// The directory entries that name a slot other than the root, with their directories.
+pub fn dirents_of(tables: &Tables, slot: usize) -> impl Iterator<Item = (usize, usize)> + '_ {
+    all_dirents(tables)
+        .filter(move |&(directory, entry)| tables.dirent_slot(directory, entry) == slot)
 }
 
-/// Where a place is, for a message.
-pub fn at(directory: usize, place: usize) -> String {
-    format!("directory in slot {directory}, place {place}")
+/// Where a directory entry is, for a message.
+pub fn at(directory: usize, entry: usize) -> String {
+    format!("directory in slot {directory}, entry {entry}")
 }
 
 pub fn not_valid_or_not_different(tables: &Tables) -> Option<String> {
-    all_places(tables).find_map(|(directory, place)| {
-        let name = tables.dirent_name(directory, place);
+    all_dirents(tables).find_map(|(directory, entry)| {
+        let name = tables.dirent_name(directory, entry);
         let why = invalid(name).map(String::from).or_else(|| {
             let earlier = tables
-                .named_places(directory)
+                .dirents_in_use(directory)
                 .find(|&other| tables.dirent_name(directory, other) == name)
-                .filter(|&other| other != place)?;
-            Some(format!("it stands at place {earlier} too"))
+                .filter(|&other| other != entry)?;
+            Some(format!("entry {earlier} has it too"))
         })?;
-        let (at, name) = (at(directory, place), text::readable(name));
+        let (at, name) = (at(directory, entry), text::readable(name));
         Some(format!("{at}, name \"{name}\": {why}"))
     })
 }
@@ -49,8 +49,8 @@ fn invalid(name: &[u8]) -> Option<&'static str> {
 }
 
 pub fn of_no_slot_in_use(tables: &Tables) -> Option<String> {
-    all_places(tables).find_map(|(directory, place)| {
-        let slot = tables.dirent_slot(directory, place);
+    all_dirents(tables).find_map(|(directory, entry)| {
+        let slot = tables.dirent_slot(directory, entry);
         let why = match slot {
             ROOT => "the root",
             _ if slot >= SLOTS => "of which there is none",
@@ -59,16 +59,19 @@ pub fn of_no_slot_in_use(tables: &Tables) -> Option<String> {
         };
         Some(format!(
             "{}: it names slot {slot}, {why}",
-            at(directory, place)
+            at(directory, entry)
         ))
     })
 }
 
 pub fn not_as_counted(tables: &Tables) -> Option<String> {
     (0..SLOTS).filter(|&slot| slot != ROOT).find_map(|slot| {
-        let names = tables.file(slot)[LINKS];
-        let places = places_of(tables, slot).count();
-        (names as usize != places)
-            .then(|| format!("slot {slot}: names is {names}, but the places counted are {places}"))
+        let links = tables.file(slot)[LINKS];
+        let entries = dirents_of(tables, slot).count();
+        (links as usize != entries).then(|| {
+            format!(
+                "slot {slot}: links is {links}, but the directory entries counted are {entries}"
+            )
+        })
     })
 }

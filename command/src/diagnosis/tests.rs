@@ -10,7 +10,7 @@ type Spoil = fn(&mut Tables);
 fn console_with_open_file() -> Tables {
     let mut tables = test_console();
     *tables.open_file_mut(0) = [2, 1, 0, 1];
-    tables.process_mut(2)[FIRST_DESCRIPTOR] = 1;
+    tables.process_mut(2)[PROCESS_DESCRIPTOR] = 1;
     tables
 }
 
@@ -19,8 +19,8 @@ fn dig(tables: &mut Tables, depth: usize) {
     for level in 0..depth {
         let (slot, parent) = (10 + level, if level == 0 { ROOT } else { 9 + level });
         *tables.file_mut(slot) = [DIRECTORY, 0, 5, 0, 0, 1, 0];
-        let place = if level == 0 { 2 } else { 0 };
-        tables.set_dirent(parent, place, b"d", slot);
+        let entry = if level == 0 { 2 } else { 0 };
+        tables.set_dirent(parent, entry, b"d", slot);
         tables.file_mut(parent)[LENGTH] += 1;
     }
 }
@@ -59,13 +59,13 @@ fn fields_of_files_out_of_range() {
         }),
         (1, "slot 2: bits is 8", |t| t.file_mut(2)[BITS] = 8),
         (1, "slot 3: label is 16", |t| t.file_mut(3)[LABEL] = 16),
-        (1, "open entry 0: slot is 128", |t| {
+        (1, "open file 0: slot is 128", |t| {
             t.open_file_mut(0)[SLOT] = SLOTS as u32
         }),
-        (1, "open entry 0: mode is 5, not 1 to 4", |t| {
+        (1, "open file 0: mode is 5, not 1 to 4", |t| {
             t.open_file_mut(0)[MODE] = 5
         }),
-        (1, "open entry 0: position is 513", |t| {
+        (1, "open file 0: offset is 513", |t| {
             t.open_file_mut(0)[OFFSET] = 513
         }),
     ]);
@@ -103,15 +103,15 @@ fn fields_of_processes_and_policy_out_of_range() {
 fn the_root_and_the_tree() {
     assert_defects(&[
         (2, "slot 0: kind is 1", |t| t.file_mut(0)[KIND] = PLAIN),
-        (2, "slot 0: names is 1", |t| t.file_mut(0)[LINKS] = 1),
+        (2, "slot 0: links is 1", |t| t.file_mut(0)[LINKS] = 1),
         (
             3,
-            "slot 1: a directory; the places that name it are 2",
+            "slot 1: a directory; the directory entries that name it are 2",
             |t| t.set_dirent(0, 2, b"too", 1),
         ),
         (
             3,
-            "slot 9: a directory; the places that name it are 0",
+            "slot 9: a directory; the directory entries that name it are 0",
             |t| t.file_mut(9)[KIND] = DIRECTORY,
         ),
         (3, "slot 18: a directory 9 names deep", |t| dig(t, 9)),
@@ -125,7 +125,7 @@ fn the_root_and_the_tree() {
 #[test]
 fn the_places() {
     assert_defects(&[
-        (5, "slot 1, place 0, name \"\\xff/\": it has a slash", |t| {
+        (5, "slot 1, entry 0, name \"\\xff/\": it has a slash", |t| {
             t.set_dirent(1, 0, b"\xff/", 2)
         }),
         (5, "name \"..\": it is no name", |t| {
@@ -134,31 +134,33 @@ fn the_places() {
         (5, "name \"\": it has no bytes", |t| {
             t.set_dirent(1, 0, b"", 2)
         }),
-        (
-            5,
-            "place 1, name \"fares\": it stands at place 0 too",
-            |t| t.set_dirent(0, 1, b"fares", 3),
-        ),
-        (6, "slot 1, place 1: it names slot 0", |t| {
+        (5, "entry 1, name \"fares\": entry 0 has it too", |t| {
+            t.set_dirent(0, 1, b"fares", 3)
+        }),
+        (6, "slot 1, entry 1: it names slot 0", |t| {
             t.set_dirent(1, 1, b"x", 0)
         }),
-        (6, "slot 1, place 1: it names slot 128", |t| {
+        (6, "slot 1, entry 1: it names slot 128", |t| {
             t.set_dirent(1, 1, b"x", SLOTS)
         }),
-        (6, "slot 1, place 1: it names slot 4, which is free", |t| {
+        (6, "slot 1, entry 1: it names slot 4, which is free", |t| {
             t.set_dirent(1, 1, b"x", 4)
         }),
-        (7, "slot 2: names is 2, but the places counted are 1", |t| {
-            t.file_mut(2)[LINKS] = 2
-        }),
-        (7, "slot 4: names is 1, but the places counted are 0", |t| {
-            t.file_mut(4)[LINKS] = 1
-        }),
+        (
+            7,
+            "slot 2: links is 2, but the directory entries counted are 1",
+            |t| t.file_mut(2)[LINKS] = 2,
+        ),
+        (
+            7,
+            "slot 4: links is 1, but the directory entries counted are 0",
+            |t| t.file_mut(4)[LINKS] = 1,
+        ),
     ]);
 }
 
 #[test]
-fn files_and_open_entries() {
+fn files_and_open_files() {
     assert_defects(&[
         (8, "slot 3: a plain file of length 513", |t| {
             t.file_mut(3)[LENGTH] = 513
@@ -168,10 +170,12 @@ fn files_and_open_entries() {
             "slot 1: a directory of length 2, but its names counted are 1",
             |t| t.file_mut(1)[LENGTH] = 2,
         ),
-        (9, "slot 7: a plain file that no place names", |t| {
-            t.file_mut(7)[KIND] = PLAIN
-        }),
-        (10, "open entry 0: slot 1 is no plain file", |t| {
+        (
+            9,
+            "slot 7: a plain file that no directory entry names",
+            |t| t.file_mut(7)[KIND] = PLAIN,
+        ),
+        (10, "open file 0: slot 1 is no plain file", |t| {
             t.open_file_mut(0)[SLOT] = 1
         }),
         (
@@ -181,12 +185,12 @@ fn files_and_open_entries() {
         ),
         (
             11,
-            "open entry 3: it is not free, and references is 0",
+            "open file 3: it is not free, and references is 0",
             |t| t.open_file_mut(3)[..2].fill(2),
         ),
         (
             11,
-            "open entry 4: references is 0, but the descriptors counted are 1",
+            "open file 4: references is 0, but the descriptors counted are 1",
             |t| t.process_mut(0)[10] = 5,
         ),
     ]);
@@ -202,13 +206,13 @@ fn the_zero_bytes() {
         (12, "slot 2: a plain file of length 5 whose byte 5", |t| {
             t.block_mut(2)[5] = 1
         }),
-        (12, "slot 1, place 0: a byte after the name's end", |t| {
+        (12, "slot 1, entry 0: a byte after the name's end", |t| {
             t.dirent_mut(1, 0)[13] = 1
         }),
-        (12, "slot 1, place 0: the byte after its slot", |t| {
+        (12, "slot 1, entry 0: the byte after its slot", |t| {
             t.dirent_mut(1, 0)[15] = 1
         }),
-        (12, "slot 1, place 9: an empty place", |t| {
+        (12, "slot 1, entry 9: an empty one", |t| {
             t.dirent_mut(1, 9)[15] = 1
         }),
         (12, "slot 1: a directory whose byte 256", |t| {

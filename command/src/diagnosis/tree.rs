@@ -12,7 +12,7 @@ pub fn root(tables: &Tables) -> Option<String> {
             record[KIND]
         ));
     }
-    (record[LINKS] != 0).then(|| format!("slot 0: names is {}, not 0", record[LINKS]))
+    (record[LINKS] != 0).then(|| format!("slot 0: links is {}, not 0", record[LINKS]))
 }
 
 pub fn named_once_and_not_too_deep(tables: &Tables) -> Option<String> {
@@ -21,9 +21,10 @@ pub fn named_once_and_not_too_deep(tables: &Tables) -> Option<String> {
 
 fn not_named_once(tables: &Tables) -> Option<String> {
     below_root(tables).find_map(|slot| {
-        let places = names::places_of(tables, slot).count();
-        (places != 1)
-            .then(|| format!("slot {slot}: a directory; the places that name it are {places}"))
+        let entries = names::dirents_of(tables, slot).count();
+        (entries != 1).then(|| {
+            format!("slot {slot}: a directory; the directory entries that name it are {entries}")
+        })
     })
 }
 
@@ -52,7 +53,7 @@ fn depth(tables: &Tables, directory: usize) -> Option<usize> {
         if at == ROOT {
             return Some(depth);
         }
-        (at, _) = names::places_of(tables, at).next()?;
+        (at, _) = names::dirents_of(tables, at).next()?;
     }
     None
 }

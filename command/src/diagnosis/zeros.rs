@@ -25,7 +25,7 @@ fn in_free_record(tables: &Tables, slot: usize) -> Option<String> {
     record
         .iter()
         .any(|&word| word != 0)
-        .then(|| format!("slot {slot}: a free record that is not 0 before its stamp"))
+        .then(|| format!("slot {slot}: a free record that is not 0 before its version"))
 }
 
 fn in_free_slot(tables: &Tables, slot: usize) -> Option<String> {
@@ -43,21 +43,21 @@ fn past_length(tables: &Tables, slot: usize) -> Option<String> {
 
 fn in_directory(tables: &Tables, slot: usize) -> Option<String> {
     (0..DIRENTS)
-        .find_map(|place| in_place(tables, slot, place))
+        .find_map(|entry| in_dirent(tables, slot, entry))
         .or_else(|| {
             let at = first_byte(tables.block(slot), DIRENTS * DIRENT_WIDTH)?;
             Some(format!(
-                "slot {slot}: a directory whose byte {at}, past its places, is not 0"
+                "slot {slot}: a directory whose byte {at}, past its entries, is not 0"
             ))
         })
 }
 
-fn in_place(tables: &Tables, directory: usize, place: usize) -> Option<String> {
-    let bytes = tables.dirent(directory, place);
-    let at = names::at(directory, place);
-    if tables.dirent_slot(directory, place) == 0 {
-        first_byte(bytes, 0).map(|_| format!("{at}: an empty place that is not all 0"))
-    } else if first_byte(&bytes[..NAME], tables.dirent_name(directory, place).len()).is_some() {
+fn in_dirent(tables: &Tables, directory: usize, entry: usize) -> Option<String> {
+    let bytes = tables.dirent(directory, entry);
+    let at = names::at(directory, entry);
+    if tables.dirent_slot(directory, entry) == 0 {
+        first_byte(bytes, 0).map(|_| format!("{at}: an empty one that is not all 0"))
+    } else if first_byte(&bytes[..NAME], tables.dirent_name(directory, entry).len()).is_some() {
         Some(format!("{at}: a byte after the name's end is not 0"))
     } else {
         first_byte(bytes, NAME + 1).map(|_| format!("{at}: the byte after its slot is not 0"))

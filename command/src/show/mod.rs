@@ -67,18 +67,18 @@ mod tests {
         tables.block_mut(4)[..2].copy_from_slice(b"hi");
         *tables.open_file_mut(0) = [4, 3, 1, 2];
         *tables.open_file_mut(1) = [2, 4, 0, 1];
-        tables.process_mut(2)[FIRST_DESCRIPTOR] = 1;
-        tables.process_mut(2)[FIRST_DESCRIPTOR + 7] = 1;
-        tables.process_mut(1)[FIRST_DESCRIPTOR] = 2;
+        tables.process_mut(2)[PROCESS_DESCRIPTOR] = 1;
+        tables.process_mut(2)[PROCESS_DESCRIPTOR + 7] = 1;
+        tables.process_mut(1)[PROCESS_DESCRIPTOR] = 2;
         tables.policy[RIGHTS_SIZE + 16 + 3] = 4;
         tables.set_dirent(1, 0, b"a\\ \x80", 2);
         assert!(mritvelja::sound(&tables));
         let lines = describe(&tables);
         for line in [
-            "/fares/a\\x5c \\x80: plain file, slot 2, owner 10, bits 4 (read), label 0, length 5, names 1, stamp 0",
-            "Slot 4: plain file, owner 20, bits 7 (read write execute), label 1, length 2, names 0, stamp 9",
-            "Open file 0: slot 4, which has no name; mode 3 (read and write), position 1, references 2",
-            "Open file 1: slot 2, /fares/a\\x5c \\x80; mode 4 (append), position 0, references 1",
+            "/fares/a\\x5c \\x80: plain file, slot 2, owner 10, bits 4 (read), label 0, length 5, links 1, version 0",
+            "Slot 4: plain file, owner 20, bits 7 (read write execute), label 1, length 2, links 0, version 9",
+            "Open file 0: slot 4, which has no name; mode 3 (read and write), offset 1, references 2",
+            "Open file 1: slot 2, /fares/a\\x5c \\x80; mode 4 (append), offset 0, references 1",
             "Process 2: user 20, label 2; descriptor 0 holds open file 0; descriptor 7 holds open file 0",
             "Process label 1 by program label 3: to label 4",
         ] {

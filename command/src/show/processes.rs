@@ -6,12 +6,12 @@ use mritvelja::layout::*;
 use mritvelja::Tables;
 
 pub fn describe_open_files(tables: &Tables, paths: &[(String, usize)]) -> Vec<String> {
-    let lines = tables.open_entries().map(|entry| {
-        let record = tables.open_file(entry);
+    let lines = tables.open_files_in_use().map(|number| {
+        let record = tables.open_file(number);
         let slot = record[SLOT] as usize;
         let path = paths.iter().find(|(_, named)| *named == slot);
         format!(
-            "Open file {entry}: slot {slot}, {}; mode {} ({}), position {}, references {}",
+            "Open file {number}: slot {slot}, {}; mode {} ({}), offset {}, references {}",
             path.map_or("which has no name", |(path, _)| path),
             record[MODE],
             text::mode(record[MODE]),

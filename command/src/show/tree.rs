@@ -13,13 +13,13 @@ pub fn paths(tables: &Tables) -> Vec<(String, usize)> {
 }
 
 fn add_names(tables: &Tables, directory: usize, prefix: &str, paths: &mut Vec<(String, usize)>) {
-    let mut places: Vec<usize> = tables.named_places(directory).collect();
-    places.sort_by_key(|&place| tables.dirent_name(directory, place));
-    for place in places {
-        let slot = tables.dirent_slot(directory, place);
+    let mut entries: Vec<usize> = tables.dirents_in_use(directory).collect();
+    entries.sort_by_key(|&entry| tables.dirent_name(directory, entry));
+    for entry in entries {
+        let slot = tables.dirent_slot(directory, entry);
         let path = format!(
             "{prefix}/{}",
-            text::readable(tables.dirent_name(directory, place))
+            text::readable(tables.dirent_name(directory, entry))
         );
         paths.push((path.clone(), slot));
         if tables.is_kind(slot, DIRECTORY) {
@@ -66,7 +66,7 @@ fn kind(tables: &Tables, slot: usize) -> &'static str {
 fn fields(tables: &Tables, slot: usize) -> String {
     let record = tables.file(slot);
     format!(
-        "owner {}, bits {} ({}), label {}, length {}, names {}, stamp {}",
+        "owner {}, bits {} ({}), label {}, length {}, links {}, version {}",
         record[OWNER],
         record[BITS],
         text::rights(record[BITS]),

@@ -1,6 +1,6 @@
-//! What comes back from a call and from a run of a script.
+//! What comes back from a call.
 
-use crate::{reasons, refusals};
+use crate::refusals;
 
 /// The answer to a call. What an answer does not have is 0.
 #[repr(C)]
@@ -25,27 +25,5 @@ impl Answer {
     #[inline]
     pub fn is_granted(&self) -> bool {
         self.refusal == refusals::GRANTED
-    }
-}
-
-/// How far a run of a script came.
-#[repr(C)]
-#[derive(Clone, Copy, Debug, PartialEq, Eq)]
-pub struct Replayed {
-    /// The byte of the script where the next block begins.
-    pub next: usize,
-    /// Bytes of the output that hold answers.
-    pub written: usize,
-    /// Calls answered, never more than allowed.
-    pub calls: u32,
-    /// Why the run stopped: one of [`reasons`](crate::reasons).
-    pub reason: u32,
-}
-
-impl Replayed {
-    /// Whether no more of the script can be run.
-    #[inline]
-    pub fn is_last(&self) -> bool {
-        self.reason == reasons::END || self.reason == reasons::BROKEN
     }
 }
