@@ -2,10 +2,10 @@
 
 use crate::check;
 use crate::failure::Failure;
-use crate::held;
+use crate::held::{self, Warning};
 use std::path::Path;
 
-pub fn convert(old: &Path, new: &Path) -> Result<(), Failure> {
+pub fn convert(old: &Path, new: &Path) -> Result<Warning, Failure> {
     let tables = held::read_former(old)?;
     check::require_sound(old, &tables)?;
     held::create(new, &tables)

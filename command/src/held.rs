@@ -6,7 +6,7 @@ use crate::save;
 use mritvelja::layout::SLOTS;
 use mritvelja::Tables;
 use std::fs::{self, File, OpenOptions};
-use std::io::{ErrorKind, Read, Write};
+use std::io::{self, ErrorKind, Read, Write};
 use std::os::unix::fs::{MetadataExt, OpenOptionsExt};
 use std::path::{Path, PathBuf};
 
@@ -24,8 +24,11 @@ pub fn read_former(path: &Path) -> Result<Tables, Failure> {
     format::decode_former(&bytes, length).map_err(|why| Failure::of(path, why))
 }
 
+/// What remains to be told of a store that is in its file: nothing, or what may become of it.
+pub type Warning = Option<Failure>;
+
 /// Writes a store to a new file, and leaves none behind if that fails.
-pub fn create(path: &Path, tables: &Tables) -> Result<(), Failure> {
+pub fn create(path: &Path, tables: &Tables) -> Result<Warning, Failure> {
     let mut file = OpenOptions::new()
         .write(true)
         .create_new(true)
@@ -37,11 +40,21 @@ pub fn create(path: &Path, tables: &Tables) -> Result<(), Failure> {
         })?;
     file.write_all(&format::encode(tables))
         .and_then(|()| file.sync_all())
-        .and_then(|()| save::sync_directory(path))
         .map_err(|error| {
             let _ = fs::remove_file(path);
             Failure::tried(path, "cannot be made", &error)
-        })
+        })?;
+    let synced = save::sync_name(path, &file);
+    Ok(warning(
+        path,
+        "is made, but may be lost with the power",
+        synced,
+    ))
+}
+
+fn warning(path: &Path, what_is: &str, synced: io::Result<()>) -> Warning {
+    let error = synced.err()?;
+    Some(Failure::tried(path, what_is, &error))
 }
 
 /// A store that no other run of this program changes until this is dropped.
@@ -74,9 +87,14 @@ impl Held {
         load(&self.named, &self.file)
     }
 
-    pub fn save(&self, tables: &Tables) -> Result<(), Failure> {
-        save::replace(&self.path, &self.file, &format::encode(tables))
-            .map_err(|(tried, error)| Failure::tried(&self.named, tried, &error))
+    pub fn save(&self, tables: &Tables) -> Result<Warning, Failure> {
+        let new = save::replace(&self.path, &self.file, &format::encode(tables))
+            .map_err(|(tried, error)| Failure::tried(&self.named, tried, &error))?;
+        Ok(warning(
+            &self.named,
+            "is saved, but may be lost with the power",
+            save::sync_name(&self.path, &new),
+        ))
     }
 }
 

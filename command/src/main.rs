@@ -15,6 +15,7 @@ mod pieces;
 mod replay;
 mod save;
 mod show;
+mod system;
 mod text;
 
 use arguments::{Command, HELP, USAGE};
@@ -26,39 +27,38 @@ use std::process::ExitCode;
 const FAILED: u8 = 1;
 const BAD_ARGUMENTS: u8 = 2;
 
+const VERSION: &str = concat!("mritvelja ", env!("CARGO_PKG_VERSION"), "\n");
+
 fn main() -> ExitCode {
     let arguments: Vec<OsString> = env::args_os().skip(1).collect();
     match arguments::parse(&arguments) {
         Ok(command) => carry_out(&command).unwrap_or_else(|failure| {
-            output::tell(format_args!("mritvelja: {failure}"));
+            output::tell(failure);
             ExitCode::from(FAILED)
         }),
         Err(complaint) => {
-            output::tell(format_args!("mritvelja: {complaint}\n{USAGE}"));
+            output::tell(format_args!("{complaint}\n{USAGE}"));
             ExitCode::from(BAD_ARGUMENTS)
         }
     }
 }
 
 fn carry_out(command: &Command) -> Result<ExitCode, Failure> {
-    match command {
-        Command::New(store) => held::create(store, &console::test_console())?,
+    let is_well = match command {
+        Command::New(store) => output::tell_warning(held::create(store, &console::test_console())?),
         Command::Replay {
             store,
             script,
             calls,
-        } => replay::replay(store, script, *calls)?,
-        Command::Show(store) => show::show(store)?,
-        Command::Check(store) => {
-            if !check::check(store)? {
-                return Ok(ExitCode::from(FAILED));
-            }
-        }
-        Command::Convert { old, new } => convert::convert(old, new)?,
-        Command::Help => output::print(HELP.as_bytes())?,
-        Command::Version => {
-            output::print(concat!("mritvelja ", env!("CARGO_PKG_VERSION"), "\n").as_bytes())?
-        }
-    }
-    Ok(ExitCode::SUCCESS)
+        } => output::tell_warning(replay::replay(store, script, *calls)?),
+        Command::Show(store) => show::show(store).map(|()| true)?,
+        Command::Check(store) => check::check(store)?,
+        Command::Convert { old, new } => output::tell_warning(convert::convert(old, new)?),
+        Command::Help => output::print(HELP.as_bytes()).map(|()| true)?,
+        Command::Version => output::print(VERSION.as_bytes()).map(|()| true)?,
+    };
+    Ok(match is_well {
+        true => ExitCode::SUCCESS,
+        false => ExitCode::from(FAILED),
+    })
 }

@@ -1,6 +1,7 @@
 //! What the command says. A closed pipe is a failure like any other.
 
 use crate::failure::{said, Failure};
+use crate::held::Warning;
 use std::fmt::Display;
 use std::io::{self, Write};
 
@@ -17,7 +18,12 @@ pub fn print(bytes: &[u8]) -> Result<(), Failure> {
         })
 }
 
-/// Writes a line to standard error. Where that is closed nobody can be told.
-pub fn tell(line: impl Display) {
-    let _ = io::stderr().write_all(format!("{line}\n").as_bytes());
+/// Says something on standard error. Where that is closed nobody can be told.
+pub fn tell(what: impl Display) {
+    let _ = io::stderr().write_all(format!("mritvelja: {what}\n").as_bytes());
+}
+
+/// Tells a warning if there is one. Answers whether all is well without it.
+pub fn tell_warning(warning: Warning) -> bool {
+    warning.map(tell).is_none()
 }

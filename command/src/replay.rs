@@ -4,7 +4,7 @@ use crate::arguments::Script;
 use crate::broken;
 use crate::check;
 use crate::failure::{said, Failure};
-use crate::held::Held;
+use crate::held::{Held, Warning};
 use crate::output;
 use crate::pieces::{self, Reason, Replayed};
 use crate::text;
@@ -12,7 +12,8 @@ use std::fs;
 use std::io::{self, Read};
 use std::path::Path;
 
-pub fn replay(store: &Path, script: &Script, calls: Option<u64>) -> Result<(), Failure> {
+/// What was saved is answered, also where the name of the store may be lost.
+pub fn replay(store: &Path, script: &Script, calls: Option<u64>) -> Result<Warning, Failure> {
     let bytes = read_script(script)?;
     let held = Held::new(store)?;
     let before = held.load()?;
@@ -26,12 +27,17 @@ pub fn replay(store: &Path, script: &Script, calls: Option<u64>) -> Result<(), F
         return Err(Failure::new(name_of(script), why));
     }
     let is_changed = after != before;
-    if is_changed {
-        held.save(&after)?;
-    }
+    let warning = match is_changed {
+        true => held.save(&after)?,
+        false => None,
+    };
     let printed = output::print(&run.answers);
-    output::tell(format_args!("mritvelja: {}", summary(&run, is_changed)));
-    printed
+    output::tell(summary(&run, is_changed));
+    if let Err(failure) = printed {
+        output::tell_warning(warning);
+        return Err(failure);
+    }
+    Ok(warning)
 }
 
 fn read_script(script: &Script) -> Result<Vec<u8>, Failure> {

@@ -1,5 +1,6 @@
 //! Replaces a file so that a crash leaves the old one or the new one whole.
 
+use crate::system;
 use std::fs::{self, File, OpenOptions};
 use std::io::{self, ErrorKind, Write};
 use std::os::unix::fs::{fchown, MetadataExt, OpenOptionsExt};
@@ -10,9 +11,8 @@ use std::process;
 pub type Trouble = (&'static str, io::Error);
 
 /// Puts new bytes in a file's stead. The old one, opened, gives the new one its
-/// owner, group and permissions. On failure the old file stays, unless only
-/// the last step failed, and the trouble says so.
-pub fn replace(path: &Path, old: &File, bytes: &[u8]) -> Result<(), Trouble> {
+/// owner, group and permissions. On failure the old file stays.
+pub fn replace(path: &Path, old: &File, bytes: &[u8]) -> Result<File, Trouble> {
     // A file that may not be written is not replaced either.
     OpenOptions::new()
         .write(true)
@@ -25,7 +25,7 @@ pub fn replace(path: &Path, old: &File, bytes: &[u8]) -> Result<(), Trouble> {
             let _ = fs::remove_file(&temporary);
             ("cannot be saved", error)
         })?;
-    sync_directory(path).map_err(|error| ("is saved, but may be lost with the power", error))
+    Ok(file)
 }
 
 /// A new file in the same directory. What other runs left there is not touched.
@@ -64,11 +64,15 @@ fn keep_owner(file: &File, old: &fs::Metadata) -> io::Result<()> {
     fchown(file, Some(old.uid()), Some(old.gid())).or_else(|_| fchown(file, None, Some(old.gid())))
 }
 
-/// Sees to it that a file's name is on the disk.
-pub fn sync_directory(path: &Path) -> io::Result<()> {
+/// Sees to it that a file's name is on the disk, as its bytes are.
+pub fn sync_name(path: &Path, file: &File) -> io::Result<()> {
     let directory = match path.parent() {
         Some(parent) if parent != Path::new("") => parent,
         _ => Path::new("."),
     };
-    File::open(directory)?.sync_all()
+    match File::open(directory) {
+        Ok(directory) => directory.sync_all(),
+        // A directory that may be written need not be one that may be read.
+        Err(_) => system::sync_file_system(file),
+    }
 }

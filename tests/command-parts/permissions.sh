@@ -44,3 +44,16 @@ if [ "$(id -u)" -eq 0 ]; then
     gives "another user's store" 0 'the store is saved' "$mritvelja" replay closed/bus closed/day
     holds "its owner and group are kept" test "$(stat -c '%u:%g' closed/bus)" = 65534:65534
 fi
+
+# A directory that may be written and not read: its names are synced with the whole file system.
+cp console closed/bus
+[ "$(id -u)" -ne 0 ] || chown 65534:65534 closed/bus
+chmod 300 closed
+gives "a directory that may not be read" 0 'the store is saved' "${as_nobody[@]}" "$mritvelja" replay closed/bus closed/day
+holds "its store's calls are answered" cmp out whole.answers
+gives "a new store in a directory that may not be read" 0 '' "${as_nobody[@]}" "$mritvelja" new closed/unread
+gives "a sync of the file system that fails" 1 'closed/unsynced: is made, but may be lost with the power: Input/output error' \
+    failing 'syncfs 1 5' "${as_nobody[@]}" "$mritvelja" new closed/unsynced
+chmod 700 closed
+holds "the store in it is saved" cmp closed/bus whole
+holds "the new one in it is whole" cmp closed/unread console
