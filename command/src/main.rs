@@ -15,6 +15,7 @@ mod pieces;
 mod replay;
 mod save;
 mod show;
+mod streams;
 mod system;
 mod text;
 

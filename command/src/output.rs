@@ -2,11 +2,13 @@
 
 use crate::failure::{said, Failure};
 use crate::held::Warning;
+use crate::streams;
 use std::fmt::Display;
 use std::io::{self, Write};
 
 /// Writes all bytes to standard output.
 pub fn print(bytes: &[u8]) -> Result<(), Failure> {
+    streams::require_output()?;
     let mut out = io::stdout().lock();
     out.write_all(bytes)
         .and_then(|()| out.flush())

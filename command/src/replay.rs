@@ -7,6 +7,7 @@ use crate::failure::{said, Failure};
 use crate::held::{Held, Warning};
 use crate::output;
 use crate::pieces::{self, Reason, Replayed};
+use crate::streams;
 use crate::text;
 use std::fs;
 use std::io::{self, Read};
@@ -14,6 +15,8 @@ use std::path::Path;
 
 /// What was saved is answered, also where the name of the store may be lost.
 pub fn replay(store: &Path, script: &Script, calls: Option<u64>) -> Result<Warning, Failure> {
+    // Asked first: no call is made whose answer nobody can get.
+    streams::require_output()?;
     let bytes = read_script(script)?;
     let held = Held::new(store)?;
     let before = held.load()?;
@@ -44,6 +47,7 @@ fn read_script(script: &Script) -> Result<Vec<u8>, Failure> {
     let read = match script {
         Script::File(path) => fs::read(path),
         Script::StandardInput => {
+            streams::require_input()?;
             let mut bytes = Vec::new();
             io::stdin().read_to_end(&mut bytes).map(|_| bytes)
         }

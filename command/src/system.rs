@@ -7,7 +7,32 @@ use std::io;
 use std::os::fd::AsRawFd;
 
 unsafe extern "C" {
+    fn fcntl(descriptor: c_int, command: c_int, ...) -> c_int;
     fn syncfs(descriptor: c_int) -> c_int;
+}
+
+const F_GETFL: c_int = 3;
+const O_ACCMODE: c_int = 3;
+
+/// What a descriptor is open for.
+#[derive(PartialEq, Eq)]
+pub enum Access {
+    Read,
+    Write,
+    Both,
+}
+
+/// Nothing if no file is open there.
+pub fn access(descriptor: c_int) -> Option<Access> {
+    // SAFETY: the command only reads a descriptor's flags, and any number is taken.
+    match unsafe { fcntl(descriptor, F_GETFL) } {
+        -1 => None,
+        flags => Some(match flags & O_ACCMODE {
+            0 => Access::Read,
+            1 => Access::Write,
+            _ => Access::Both,
+        }),
+    }
 }
 
 fn result(returned: c_int) -> io::Result<()> {
