@@ -3,15 +3,13 @@
 use crate::failure::Failure;
 use crate::format::{self, Refused, FORMER_SLOTS};
 use crate::save;
+use crate::temporary::Temporary;
 use mritvelja::layout::SLOTS;
 use mritvelja::Tables;
-use std::fs::{self, File, OpenOptions};
-use std::io::{self, ErrorKind, Read, Write};
-use std::os::unix::fs::{MetadataExt, OpenOptionsExt};
+use std::fs::{self, File};
+use std::io::{self, ErrorKind, Read};
+use std::os::unix::fs::MetadataExt;
 use std::path::{Path, PathBuf};
-
-/// A saved store shows every file's bytes, so that a new one is its maker's alone.
-const NEW_FILE_MODE: u32 = 0o600;
 
 /// Reads a store. A saved store is replaced whole, so that none is ever half read.
 pub fn read(path: &Path) -> Result<Tables, Failure> {
@@ -29,26 +27,23 @@ pub type Warning = Option<Failure>;
 
 /// Writes a store to a new file, and leaves none behind if that fails.
 pub fn create(path: &Path, tables: &Tables) -> Result<Warning, Failure> {
-    let mut file = OpenOptions::new()
-        .write(true)
-        .create_new(true)
-        .mode(NEW_FILE_MODE)
-        .open(path)
-        .map_err(|error| match error.kind() {
-            ErrorKind::AlreadyExists => Failure::of(path, "is already there, and is left as it is"),
-            _ => Failure::tried(path, "cannot be made", &error),
-        })?;
-    file.write_all(&format::encode(tables))
-        .and_then(|()| file.sync_all())
-        .map_err(|error| {
-            let _ = fs::remove_file(path);
-            Failure::tried(path, "cannot be made", &error)
-        })?;
-    let synced = save::sync_name(path, &file);
+    let cannot = |error: io::Error| match error.kind() {
+        ErrorKind::AlreadyExists => Failure::of(path, "is already there, and is left as it is"),
+        _ => Failure::tried(path, "cannot be made", &error),
+    };
+    // Asked first, so that nothing is written in vain.
+    if fs::symlink_metadata(path).is_ok() {
+        return Err(cannot(ErrorKind::AlreadyExists.into()));
+    }
+    let temporary = Temporary::beside(path).map_err(cannot)?;
+    temporary
+        .write(&format::encode(tables))
+        .and_then(|()| temporary.take_new_name(path))
+        .map_err(cannot)?;
     Ok(warning(
         path,
         "is made, but may be lost with the power",
-        synced,
+        save::sync_name(path, temporary.file()),
     ))
 }
 
@@ -93,7 +88,7 @@ impl Held {
         Ok(warning(
             &self.named,
             "is saved, but may be lost with the power",
-            save::sync_name(&self.path, &new),
+            save::sync_name(&self.path, new.file()),
         ))
     }
 }

@@ -17,6 +17,7 @@ mod save;
 mod show;
 mod streams;
 mod system;
+mod temporary;
 mod text;
 
 use arguments::{Command, HELP, USAGE};

@@ -1,58 +1,37 @@
 //! Replaces a file so that a crash leaves the old one or the new one whole.
 
 use crate::system;
+use crate::temporary::Temporary;
 use std::fs::{self, File, OpenOptions};
-use std::io::{self, ErrorKind, Write};
-use std::os::unix::fs::{fchown, MetadataExt, OpenOptionsExt};
-use std::path::{Path, PathBuf};
-use std::process;
+use std::io;
+use std::os::unix::fs::{fchown, MetadataExt};
+use std::path::Path;
 
 /// What was tried, and what the system said.
 pub type Trouble = (&'static str, io::Error);
 
 /// Puts new bytes in a file's stead. The old one, opened, gives the new one its
 /// owner, group and permissions. On failure the old file stays.
-pub fn replace(path: &Path, old: &File, bytes: &[u8]) -> Result<File, Trouble> {
+pub fn replace(path: &Path, old: &File, bytes: &[u8]) -> Result<Temporary, Trouble> {
     // A file that may not be written is not replaced either.
     OpenOptions::new()
         .write(true)
         .open(path)
         .map_err(|error| ("cannot be written", error))?;
-    let (temporary, file) = create_beside(path).map_err(|error| ("cannot be saved", error))?;
-    write_as(&file, old, bytes)
-        .and_then(|()| fs::rename(&temporary, path))
-        .map_err(|error| {
-            let _ = fs::remove_file(&temporary);
-            ("cannot be saved", error)
-        })?;
-    Ok(file)
+    let cannot = |error| ("cannot be saved", error);
+    let temporary = Temporary::beside(path).map_err(cannot)?;
+    take_after(temporary.file(), old)
+        .and_then(|()| temporary.write(bytes))
+        .and_then(|()| temporary.replace(path))
+        .map_err(cannot)?;
+    Ok(temporary)
 }
 
-/// A new file in the same directory. What other runs left there is not touched.
-fn create_beside(path: &Path) -> io::Result<(PathBuf, File)> {
-    let mut number = 0;
-    loop {
-        let name = format!(".mritvelja-{}-{number}.tmp", process::id());
-        let temporary = path.with_file_name(name);
-        let made = OpenOptions::new()
-            .write(true)
-            .create_new(true)
-            .mode(0o600)
-            .open(&temporary);
-        match made {
-            Ok(file) => return Ok((temporary, file)),
-            Err(error) if error.kind() == ErrorKind::AlreadyExists => number += 1,
-            Err(error) => return Err(error),
-        }
-    }
-}
-
-fn write_as(mut file: &File, old: &File, bytes: &[u8]) -> io::Result<()> {
+/// Gives a file the owner, group and permissions of another.
+fn take_after(file: &File, old: &File) -> io::Result<()> {
     let old = old.metadata()?;
     keep_owner(file, &old)?;
-    file.set_permissions(old.permissions())?;
-    file.write_all(bytes)?;
-    file.sync_all()
+    file.set_permissions(old.permissions())
 }
 
 /// Keeps owner and group; of a file that is shared by its group, the group.

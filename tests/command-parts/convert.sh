@@ -1,15 +1,6 @@
 # shellcheck shell=bash disable=SC2154,SC2016 # tests/command sets the names; some lines are for another shell
 # Store files of 64 slots: told apart, converted to a new file, and left as they are.
 
-# former FILE: the file as a version of 64 slots would have written it: its first 64 records and blocks.
-former() {
-    printf 'MRITVEL\001\100\000\000\000'
-    dd if="$1" bs=4 skip=3 count=448 status=none
-    dd if="$1" bs=4 skip=899 count=8192 status=none
-    tail -c 1376 "$1"
-}
-
-former console >before-128
 cp before-128 before-128.copy
 holds "a file of 64 slots has 35948 bytes" test "$(stat -c %s before-128)" -eq 35948
 for command in 'check before-128' 'show before-128' 'replay before-128 day'; do

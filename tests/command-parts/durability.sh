@@ -14,3 +14,29 @@ holds "it is there, whole" cmp unsynced console
 gives "both the sync and the output fail" 1 'mritvelja: standard output: cannot be written' \
     bash -c 'exec "$@" >/dev/full' _ env LD_PRELOAD="$directory/failing.so" FAILING='fsync 2 5' "$mritvelja" replay unsynced day
 holds "both are told" grep -q '^mritvelja: unsynced: is saved, but may be lost with the power' err
+
+# A store that is made is there whole or not at all, and a run that was killed does not stand in the next one's way.
+for how in new 'convert before-128'; do
+    # shellcheck disable=SC2206 # the words are arguments
+    make=("$mritvelja" $how)
+    for call in write fsync renameat2; do
+        failing "$call 1 kill" "${make[@]}" unborn >out 2>err || true
+        holds "$how killed at its first $call leaves no store" test ! -e unborn
+        gives "$how after one killed at its first $call" 0 '' "${make[@]}" unborn
+        holds "$how after one killed at its first $call: the store" cmp unborn console
+        rm -f unborn .*.tmp
+    done
+    refuses "$how where another program takes the name meanwhile" 'taken: is already there, and is left as it is' \
+        failing 'fsync 1 run cp day taken' "${make[@]}" taken
+    holds "$how leaves that file as it is" cmp taken day
+    holds "$how leaves nothing beside it" no_leftovers
+    rm -f taken
+done
+# Some file systems cannot rename to a new name only; these link.
+gives "new without such a rename" 0 '' failing 'renameat2 1 22' "$mritvelja" new linked
+holds "new without such a rename: the store" cmp linked console
+holds "new without such a rename: no second name stays" test "$(stat -c %h linked)" -eq 1
+holds "new without such a rename: nothing is left beside it" no_leftovers
+refuses "new where the rename fails" 'unborn: cannot be made: Input/output error' failing 'renameat2 1 5' "$mritvelja" new unborn
+holds "new where the rename fails: nothing is left" no_leftovers
+holds "new where the rename fails: no store" test ! -e unborn

@@ -1,6 +1,7 @@
 # shellcheck shell=bash disable=SC2154,SC2016 # tests/command sets the names; some lines are for another shell
 # Store files: made, refused if they are not of the form, and left as they are.
 
+rm -f bus
 gives "new" 0 '' "$mritvelja" new bus
 holds "a store file has 70508 bytes" test "$(stat -c %s bus)" -eq 70508
 holds "a new store file is its maker's alone" test "$(stat -c %a bus)" = 600
