@@ -2,24 +2,24 @@
 
 use crate::failure::Failure;
 use crate::format::{self, Refused, FORMER_SLOTS};
-use crate::save;
+use crate::save::{self, Trouble, CANNOT_BE_SAVED};
 use crate::temporary::Temporary;
 use mritvelja::layout::SLOTS;
 use mritvelja::Tables;
 use std::fs::{self, File};
-use std::io::{self, ErrorKind, Read};
+use std::io::{self, ErrorKind, Read, Seek};
 use std::os::unix::fs::MetadataExt;
 use std::path::{Path, PathBuf};
 
 /// Reads a store. A saved store is replaced whole, so that none is ever half read.
 pub fn read(path: &Path) -> Result<Tables, Failure> {
-    load(path, &open(path, path)?)
+    decode(path, &Bytes::of(path, &open(path, path)?)?)
 }
 
 /// Reads a store from a file of 64 slots.
 pub fn read_former(path: &Path) -> Result<Tables, Failure> {
-    let (bytes, length) = take_bytes(path, &open(path, path)?)?;
-    format::decode_former(&bytes, length).map_err(|why| Failure::of(path, why))
+    let bytes = Bytes::of(path, &open(path, path)?)?;
+    format::decode_former(&bytes.first, bytes.length).map_err(|why| Failure::of(path, why))
 }
 
 /// What remains to be told of a store that is in its file: nothing, or what may become of it.
@@ -60,41 +60,65 @@ pub struct Held {
     path: PathBuf,
     /// The lock is this handle's.
     file: File,
+    /// What the file held when the lock was taken.
+    bytes: Bytes,
 }
 
 impl Held {
     /// Waits until no other run holds the store.
     pub fn new(named: &Path) -> Result<Held, Failure> {
-        let path = fs::canonicalize(named)
-            .map_err(|error| Failure::tried(named, "cannot be opened", &error))?;
         loop {
+            let path = fs::canonicalize(named)
+                .map_err(|error| Failure::tried(named, "cannot be opened", &error))?;
             let file = open(&path, named)?;
             file.lock()
                 .map_err(|error| Failure::tried(named, "cannot be locked", &error))?;
-            if is_still_at(&file, &path) {
-                let named = named.to_path_buf();
-                return Ok(Held { named, path, file });
+            if is_at(&file, &path) {
+                return Ok(Held {
+                    named: named.to_path_buf(),
+                    path,
+                    bytes: Bytes::of(named, &file)?,
+                    file,
+                });
             }
         }
     }
 
     pub fn load(&self) -> Result<Tables, Failure> {
-        load(&self.named, &self.file)
+        decode(&self.named, &self.bytes)
     }
 
     pub fn save(&self, tables: &Tables) -> Result<Warning, Failure> {
-        let new = save::replace(&self.path, &self.file, &format::encode(tables))
-            .map_err(|(tried, error)| Failure::tried(&self.named, tried, &error))?;
+        self.require_as_read()?;
+        let cannot = |(tried, error): Trouble| Failure::tried(&self.named, tried, &error);
+        let new = save::prepare(&self.path, &self.file, &format::encode(tables)).map_err(cannot)?;
+        self.require_as_read()?;
+        new.replace(&self.path)
+            .map_err(|error| cannot((CANNOT_BE_SAVED, error)))?;
         Ok(warning(
             &self.named,
             "is saved, but may be lost with the power",
             save::sync_name(&self.path, new.file()),
         ))
     }
+
+    /// Other programs know nothing of the lock. What they did with the file is not overwritten.
+    fn require_as_read(&self) -> Result<(), Failure> {
+        let is_as_read = is_at(&self.file, &self.named)
+            && is_at(&self.file, &self.path)
+            && Bytes::of(&self.named, &self.file)? == self.bytes;
+        match is_as_read {
+            true => Ok(()),
+            false => Err(Failure::of(
+                &self.named,
+                "was changed or replaced by another program meanwhile; nothing was saved",
+            )),
+        }
+    }
 }
 
-/// Whether the file was not replaced while its lock was waited for.
-fn is_still_at(file: &File, path: &Path) -> bool {
+/// Whether an open file still has a name.
+fn is_at(file: &File, path: &Path) -> bool {
     let identity = |metadata: fs::Metadata| (metadata.dev(), metadata.ino());
     match (file.metadata(), fs::metadata(path)) {
         (Ok(held), Ok(there)) => identity(held) == identity(there),
@@ -111,9 +135,8 @@ fn open(path: &Path, named: &Path) -> Result<File, Failure> {
     File::open(path).map_err(cannot)
 }
 
-fn load(path: &Path, file: &File) -> Result<Tables, Failure> {
-    let (bytes, length) = take_bytes(path, file)?;
-    format::decode(&bytes, length).map_err(|refused| match refused {
+fn decode(path: &Path, bytes: &Bytes) -> Result<Tables, Failure> {
+    format::decode(&bytes.first, bytes.length).map_err(|refused| match refused {
         Refused::Former => Failure::of(path, has_former_slots(path)),
         Refused::Other(why) => Failure::of(path, why),
     })
@@ -126,12 +149,25 @@ fn has_former_slots(path: &Path) -> String {
     )
 }
 
-/// The first bytes of a file, as many as a store has, and its length.
-fn take_bytes(path: &Path, file: &File) -> Result<(Vec<u8>, u64), Failure> {
-    let mut bytes = Vec::with_capacity(format::SIZE);
-    file.take(format::SIZE as u64)
-        .read_to_end(&mut bytes)
-        .and_then(|_| file.metadata())
-        .map(|metadata| (bytes, metadata.len()))
-        .map_err(|error| Failure::tried(path, "cannot be read", &error))
+/// What a file holds, as far as a store goes.
+#[derive(PartialEq, Eq)]
+struct Bytes {
+    /// As many as a store has, if there are as many.
+    first: Vec<u8>,
+    /// How many there are.
+    length: u64,
+}
+
+impl Bytes {
+    fn of(path: &Path, mut file: &File) -> Result<Bytes, Failure> {
+        let mut first = Vec::with_capacity(format::SIZE);
+        file.rewind()
+            .and_then(|()| file.take(format::SIZE as u64).read_to_end(&mut first))
+            .and_then(|_| file.metadata())
+            .map(|metadata| Bytes {
+                first,
+                length: metadata.len(),
+            })
+            .map_err(|error| Failure::tried(path, "cannot be read", &error))
+    }
 }

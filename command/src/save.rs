@@ -10,19 +10,20 @@ use std::path::Path;
 /// What was tried, and what the system said.
 pub type Trouble = (&'static str, io::Error);
 
-/// Puts new bytes in a file's stead. The old one, opened, gives the new one its
-/// owner, group and permissions. On failure the old file stays.
-pub fn replace(path: &Path, old: &File, bytes: &[u8]) -> Result<Temporary, Trouble> {
+pub const CANNOT_BE_SAVED: &str = "cannot be saved";
+
+/// Writes what is to take a file's place beside it. The old file, opened, gives
+/// the new one its owner, group and permissions.
+pub fn prepare(path: &Path, old: &File, bytes: &[u8]) -> Result<Temporary, Trouble> {
     // A file that may not be written is not replaced either.
     OpenOptions::new()
         .write(true)
         .open(path)
         .map_err(|error| ("cannot be written", error))?;
-    let cannot = |error| ("cannot be saved", error);
+    let cannot = |error| (CANNOT_BE_SAVED, error);
     let temporary = Temporary::beside(path).map_err(cannot)?;
     take_after(temporary.file(), old)
         .and_then(|()| temporary.write(bytes))
-        .and_then(|()| temporary.replace(path))
         .map_err(cannot)?;
     Ok(temporary)
 }

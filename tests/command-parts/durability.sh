@@ -40,3 +40,30 @@ holds "new without such a rename: nothing is left beside it" no_leftovers
 refuses "new where the rename fails" 'unborn: cannot be made: Input/output error' failing 'renameat2 1 5' "$mritvelja" new unborn
 holds "new where the rename fails: nothing is left" no_leftovers
 holds "new where the rename fails: no store" test ! -e unborn
+
+# Another program's work on the file during a run is not overwritten: just before the new bytes are synced it ..
+printf 'proc=1\ncall=2\nfd=0\narg=4\npath=/fares/other\ndata=\n' >create
+# meddled WHAT COMMAND: the command runs during a replay, which is refused and leaves what that command left.
+meddled() {
+    local what=$1 command=$2
+    fresh bus
+    cp bus linked-to
+    ln -sf linked-to bus-link
+    refuses "$what" 'was changed or replaced by another program meanwhile; nothing was saved' failing "fsync 1 run $command" \
+        "$mritvelja" replay "$3" create
+    holds "$what: nothing is left beside it" no_leftovers
+}
+meddled "a store put in place of the old one" 'cp whole other; mv other bus' bus
+holds "that store stays" cmp bus whole
+meddled "a store written in place" 'cp whole bus' bus
+holds "what was written stays" cmp bus whole
+meddled "a store removed" 'rm bus' bus
+holds "it stays removed" test ! -e bus
+meddled "a store replaced by one of the same bytes" 'cp bus other; mv other bus' bus
+holds "the same bytes stay" cmp bus console
+meddled "a link that names another store" 'ln -sf bus bus-link' bus-link
+holds "the store that it named stays" cmp linked-to console
+holds "the store that it names stays" cmp bus console
+fresh bus
+gives "a store that was only read meanwhile" 0 'the store is saved' failing 'fsync 1 run cat bus >/dev/null' "$mritvelja" replay bus day
+holds "a store that was only read meanwhile is saved" cmp bus whole
