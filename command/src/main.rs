@@ -10,6 +10,7 @@ mod diagnosis;
 mod failure;
 mod format;
 mod held;
+mod memory;
 mod output;
 mod pieces;
 mod replay;

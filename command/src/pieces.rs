@@ -1,7 +1,9 @@
 //! A script run in pieces, so that the output's size is never a reason to stop.
 
+use crate::memory;
 use mritvelja::reasons::{ALLOWANCE, BROKEN, END, ROOM};
 use mritvelja::Tables;
+use std::collections::TryReserveError;
 
 /// Room for some sixty of the longest answers, a read of 512 bytes.
 const OUTPUT: usize = 65_536;
@@ -22,9 +24,24 @@ pub struct Replayed {
     pub reason: Reason,
 }
 
+/// Why a run has no result.
+#[derive(Debug)]
+pub enum Lost {
+    /// The answers do not fit the memory.
+    Memory,
+    /// What the library must not do.
+    Unexpected(String),
+}
+
+impl From<TryReserveError> for Lost {
+    fn from(_: TryReserveError) -> Lost {
+        Lost::Memory
+    }
+}
+
 /// Runs a script, at most `allowed` calls of it.
-pub fn run(tables: &mut Tables, script: &[u8], allowed: Option<u64>) -> Result<Replayed, String> {
-    run_within(tables, script, allowed, OUTPUT)
+pub fn run(tables: &mut Tables, script: &[u8], allowed: Option<u64>) -> Result<Replayed, Lost> {
+    memory::grow(|| run_within(tables, script, allowed, OUTPUT))
 }
 
 /// Runs a script in pieces of as many answers as fit into `room` bytes.
@@ -33,7 +50,7 @@ fn run_within(
     script: &[u8],
     allowed: Option<u64>,
     room: usize,
-) -> Result<Replayed, String> {
+) -> Result<Replayed, Lost> {
     let mut output = vec![0; room];
     let mut run = Replayed {
         answers: Vec::new(),
@@ -45,6 +62,7 @@ fn run_within(
         let left = allowed.map_or(u64::MAX, |allowed| allowed - run.calls);
         let allowance = u32::try_from(left).unwrap_or(u32::MAX);
         let piece = mritvelja::replay(tables, &script[run.next..], allowance, &mut output);
+        run.answers.try_reserve(piece.written)?;
         run.answers.extend(&output[..piece.written]);
         run.calls += u64::from(piece.calls);
         run.next += piece.next;
@@ -55,10 +73,10 @@ fn run_within(
             // There is more to do, and the output is empty again.
             ALLOWANCE | ROOM if piece.calls > 0 => continue,
             reason => {
-                return Err(format!(
+                return Err(Lost::Unexpected(format!(
                     "the run stopped for reason {reason} after {} calls, at byte {}",
                     run.calls, run.next
-                ))
+                )))
             }
         };
         return Ok(run);

@@ -5,13 +5,16 @@ use crate::broken;
 use crate::check;
 use crate::failure::{said, Failure};
 use crate::held::{Held, Warning};
+use crate::memory;
 use crate::output;
-use crate::pieces::{self, Reason, Replayed};
+use crate::pieces::{self, Lost, Reason, Replayed};
 use crate::streams;
 use crate::text;
 use std::fs;
 use std::io::{self, Read};
 use std::path::Path;
+
+const NO_MEMORY: &str = "the answers do not fit the memory; nothing was changed";
 
 /// What was saved is answered, also where the name of the store may be lost.
 pub fn replay(store: &Path, script: &Script, calls: Option<u64>) -> Result<Warning, Failure> {
@@ -23,8 +26,10 @@ pub fn replay(store: &Path, script: &Script, calls: Option<u64>) -> Result<Warni
     check::require_sound(store, &before)?;
 
     let mut after = before.clone();
-    let run = pieces::run(&mut after, &bytes, calls)
-        .map_err(|why| Failure::new("internal error", why))?;
+    let run = pieces::run(&mut after, &bytes, calls).map_err(|lost| match lost {
+        Lost::Memory => Failure::new(name_of(script), NO_MEMORY),
+        Lost::Unexpected(why) => Failure::new("internal error", why),
+    })?;
     if run.reason == Reason::Broken {
         let why = broken::describe(&bytes, run.next, run.calls + 1);
         return Err(Failure::new(name_of(script), why));
@@ -45,11 +50,11 @@ pub fn replay(store: &Path, script: &Script, calls: Option<u64>) -> Result<Warni
 
 fn read_script(script: &Script) -> Result<Vec<u8>, Failure> {
     let read = match script {
-        Script::File(path) => fs::read(path),
+        Script::File(path) => memory::grow(|| fs::read(path)),
         Script::StandardInput => {
             streams::require_input()?;
             let mut bytes = Vec::new();
-            io::stdin().read_to_end(&mut bytes).map(|_| bytes)
+            memory::grow(|| io::stdin().read_to_end(&mut bytes)).map(|_| bytes)
         }
     };
     read.map_err(|error| Failure::new(name_of(script), format!("cannot be read: {}", said(&error))))
