@@ -1,5 +1,6 @@
 //! What the command line asks for.
 
+use crate::text;
 use std::ffi::{OsStr, OsString};
 use std::path::PathBuf;
 
@@ -55,8 +56,8 @@ pub fn parse(arguments: &[OsString]) -> Result<Command, String> {
     if arguments.iter().any(|argument| argument == "--help") {
         return Ok(Command::Help);
     }
-    let name = first.to_string_lossy();
-    match name.as_ref() {
+    let name = text::printable(first);
+    match name.as_str() {
         "--version" if rest.is_empty() => Ok(Command::Version),
         "new" => one_store(rest).map(Command::New),
         "show" => one_store(rest).map(Command::Show),
@@ -122,7 +123,7 @@ fn parse_convert(rest: &[OsString]) -> Result<Command, String> {
 }
 
 fn parse_calls(word: Option<&OsString>) -> Result<u64, String> {
-    let word = word.ok_or("--calls needs a number")?.to_string_lossy();
+    let word = text::printable(word.ok_or("--calls needs a number")?);
     let is_number = !word.is_empty() && word.bytes().all(|byte| byte.is_ascii_digit());
     match word.parse() {
         Ok(calls) if is_number => Ok(calls),
@@ -151,11 +152,11 @@ fn is_option(word: &OsStr) -> bool {
 }
 
 fn unknown_option(word: &OsStr) -> String {
-    format!("unknown option: {}", word.to_string_lossy())
+    format!("unknown option: {}", text::printable(word))
 }
 
 fn unexpected(word: &OsStr) -> String {
-    format!("one argument too many: {}", word.to_string_lossy())
+    format!("one argument too many: {}", text::printable(word))
 }
 
 #[cfg(test)]

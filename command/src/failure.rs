@@ -1,5 +1,6 @@
 //! Why a command was not carried out: what it concerns, and why not.
 
+use crate::text;
 use std::fmt;
 use std::io;
 use std::path::Path;
@@ -20,7 +21,7 @@ impl Failure {
 
     /// A failure that concerns a file.
     pub fn of(file: &Path, why: impl Into<String>) -> Failure {
-        Failure::new(file.display().to_string(), why)
+        Failure::new(text::printable(file.as_os_str()), why)
     }
 
     /// What went wrong between this program and the system, with what was tried.

@@ -4,6 +4,7 @@ use crate::failure::Failure;
 use crate::format::{self, Refused, FORMER_SLOTS};
 use crate::save::{self, Trouble, CANNOT_BE_SAVED};
 use crate::temporary::Temporary;
+use crate::text;
 use mritvelja::layout::SLOTS;
 use mritvelja::Tables;
 use std::fs::{self, File};
@@ -145,7 +146,7 @@ fn decode(path: &Path, bytes: &Bytes) -> Result<Tables, Failure> {
 fn has_former_slots(path: &Path) -> String {
     format!(
         "has {FORMER_SLOTS} slots, and this version takes {SLOTS}: convert it with `mritvelja convert {} NEW`",
-        path.display()
+        text::quoted(path.as_os_str())
     )
 }
 

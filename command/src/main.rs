@@ -2,6 +2,7 @@
 //! (`docs/command.md`), over the proved store.
 
 mod arguments;
+mod attributes;
 mod broken;
 mod check;
 mod console;

@@ -62,7 +62,7 @@ fn read_script(script: &Script) -> Result<Vec<u8>, Failure> {
 
 fn name_of(script: &Script) -> String {
     match script {
-        Script::File(path) => path.display().to_string(),
+        Script::File(path) => text::printable(path.as_os_str()),
         Script::StandardInput => "standard input".into(),
     }
 }

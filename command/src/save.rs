@@ -1,5 +1,6 @@
 //! Replaces a file so that a crash leaves the old one or the new one whole.
 
+use crate::attributes;
 use crate::system;
 use crate::temporary::Temporary;
 use std::fs::{self, File, OpenOptions};
@@ -13,7 +14,7 @@ pub type Trouble = (&'static str, io::Error);
 pub const CANNOT_BE_SAVED: &str = "cannot be saved";
 
 /// Writes what is to take a file's place beside it. The old file, opened, gives
-/// the new one its owner, group and permissions.
+/// the new one its owner, group, permissions and attributes.
 pub fn prepare(path: &Path, old: &File, bytes: &[u8]) -> Result<Temporary, Trouble> {
     // A file that may not be written is not replaced either.
     OpenOptions::new()
@@ -28,11 +29,12 @@ pub fn prepare(path: &Path, old: &File, bytes: &[u8]) -> Result<Temporary, Troub
     Ok(temporary)
 }
 
-/// Gives a file the owner, group and permissions of another.
+/// Gives a file the owner, group, permissions and attributes of another.
 fn take_after(file: &File, old: &File) -> io::Result<()> {
-    let old = old.metadata()?;
-    keep_owner(file, &old)?;
-    file.set_permissions(old.permissions())
+    let metadata = old.metadata()?;
+    keep_owner(file, &metadata)?;
+    file.set_permissions(metadata.permissions())?;
+    attributes::copy(old, file)
 }
 
 /// Keeps owner and group; of a file that is shared by its group, the group.

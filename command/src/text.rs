@@ -2,7 +2,9 @@
 
 use mritvelja::layout::{EXECUTE, READ, WRITE};
 use mritvelja::modes;
+use std::ffi::OsStr;
 use std::fmt::Write;
+use std::os::unix::ffi::OsStrExt;
 
 /// Bytes as printable ASCII; every other byte and the backslash as `\xNN`.
 pub fn readable(bytes: &[u8]) -> String {
@@ -10,10 +12,53 @@ pub fn readable(bytes: &[u8]) -> String {
     for &byte in bytes {
         match byte {
             b' '..=b'~' if byte != b'\\' => text.push(char::from(byte)),
-            _ => write!(text, "\\x{byte:02x}").expect("a string takes all text"),
+            _ => push_hex(&mut text, &[byte]),
         }
     }
     text
+}
+
+/// A file's name or an argument, in letters of any script; every byte that is not of
+/// a printable character, and the backslash, as `\xNN`: a terminal obeys none of it.
+pub fn printable(name: &OsStr) -> String {
+    let mut text = String::with_capacity(name.len());
+    for chunk in name.as_bytes().utf8_chunks() {
+        for character in chunk.valid().chars() {
+            match is_printable(character) {
+                true => text.push(character),
+                false => push_hex(&mut text, character.encode_utf8(&mut [0; 4]).as_bytes()),
+            }
+        }
+        push_hex(&mut text, chunk.invalid());
+    }
+    text
+}
+
+/// A file's name as one word of a command in the shell.
+pub fn quoted(name: &OsStr) -> String {
+    let is_plain = |byte: u8| byte.is_ascii_alphanumeric() || b"/._-+,:@%=".contains(&byte);
+    let text = printable(name);
+    // Nothing that begins with a dash is taken for a file.
+    let dot = if text.starts_with('-') { "./" } else { "" };
+    if text.bytes().all(is_plain) {
+        format!("{dot}{text}")
+    } else if text.as_bytes() == name.as_bytes() {
+        format!("'{dot}{}'", text.replace('\'', r"'\''"))
+    } else {
+        format!("$'{dot}{}'", text.replace('\'', r"\'"))
+    }
+}
+
+fn is_printable(character: char) -> bool {
+    // A letter before it, since a mark that goes with a letter is printable there.
+    let is_escaped = || String::from_iter(['x', character]).escape_debug().count() > 2;
+    matches!(character, '\'' | '"') || !is_escaped()
+}
+
+fn push_hex(text: &mut String, bytes: &[u8]) {
+    for byte in bytes {
+        write!(text, "\\x{byte:02x}").expect("a string takes all text");
+    }
 }
 
 /// Rights in words, from 0 to 7.
@@ -60,6 +105,26 @@ mod tests {
             readable(b"a\\b\n\x7f\xff\x1b"),
             "a\\x5cb\\x0a\\x7f\\xff\\x1b"
         );
+    }
+
+    #[test]
+    fn every_name_can_be_printed_and_quoted() {
+        for (name, shown, word) in [
+            (&b"bus.store"[..], "bus.store", "bus.store"),
+            (b"-x", "-x", "./-x"),
+            (b"it's", "it's", r"'it'\''s'"),
+            (
+                "Rūta e\u{301}".as_bytes(),
+                "Rūta e\u{301}",
+                "'Rūta e\u{301}'",
+            ),
+            (b"a\nb\\'", r"a\x0ab\x5c'", r"$'a\x0ab\x5c\''"),
+            (b"-\xff\x1b", r"-\xff\x1b", r"$'./-\xff\x1b'"),
+        ] {
+            let name = OsStr::from_bytes(name);
+            assert_eq!(printable(name), shown);
+            assert_eq!(quoted(name), word);
+        }
     }
 
     #[test]

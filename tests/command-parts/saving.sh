@@ -63,3 +63,28 @@ done
 wait
 "$mritvelja" show bus >out
 holds "no run is lost among runs at the same time" test "$(grep -c '^/fares/[1-8]: plain file' out)" -eq 8
+
+# attribute DO FILE NAME [HEX]: sets an extended attribute, or prints it, or "none".
+attribute() {
+    python3 -c 'import os, sys
+do, file, name, *value = sys.argv[1:]
+if do == "set": os.setxattr(file, name, bytes.fromhex(value[0]))
+elif name in os.listxattr(file): print(os.getxattr(file, name).hex())
+else: print("none")' "$@"
+}
+# An access list by which user 65534 may read too, as the system stores it.
+readable=0200000001000600ffffffff02000400feff000004000000ffffffff10000400ffffffff20000000ffffffff
+access_list=system.posix_acl_access
+fresh bus
+if attribute set bus user.origin 6465706f74 2>err && attribute set bus "$access_list" "$readable" 2>err; then
+    gives "a store with attributes" 0 'the store is saved' "$mritvelja" replay bus day
+    holds "extended attributes are kept" test "$(attribute get bus user.origin)" = 6465706f74
+    holds "access lists are kept" test "$(attribute get bus "$access_list")" = "$readable"
+    mkdir inheriting
+    fresh inheriting/bus
+    attribute set inheriting system.posix_acl_default "$readable"
+    gives "a store without an access list in a directory that gives one" 0 'the store is saved' "$mritvelja" replay inheriting/bus day
+    holds "it gets none" test "$(attribute get inheriting/bus "$access_list")" = none
+else
+    printf 'command: attributes are not tested: %s\n' "$(tail -n 1 err)" >&2
+fi
