@@ -126,6 +126,17 @@ impl Tables {
         })
     }
 
+    /// The plain files without a name, in order.
+    pub fn unnamed_files(&self) -> impl Iterator<Item = usize> + '_ {
+        (0..SLOTS).filter(|&slot| self.is_kind(slot, PLAIN) && self.file(slot)[LINKS] == 0)
+    }
+
+    /// Whether some open file is a slot's.
+    pub fn is_open(&self, slot: usize) -> bool {
+        let mut open_files = self.open_files_in_use();
+        open_files.any(|open_file| self.open_file(open_file)[SLOT] as usize == slot)
+    }
+
     /// An open file's record.
     pub fn open_file(&self, open_file: usize) -> &[u32; OPEN_FILE_WIDTH] {
         &self.open_files.as_chunks().0[open_file]
@@ -179,5 +190,10 @@ impl Tables {
     /// The label that a process gets by executing, or [`NO_TRANSITION`].
     pub fn transition(&self, process_label: usize, program_label: usize) -> u8 {
         self.policy[RIGHTS_SIZE + LABELS * process_label + program_label]
+    }
+
+    /// Says which label a process gets by executing, or [`NO_TRANSITION`].
+    pub fn set_transition(&mut self, process_label: usize, program_label: usize, label: u8) {
+        self.policy[RIGHTS_SIZE + LABELS * process_label + program_label] = label;
     }
 }

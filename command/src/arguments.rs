@@ -1,15 +1,22 @@
 //! What the command line asks for.
 
+use crate::given::{unexpected, unknown_option, Given, Known};
 use crate::text;
 use std::ffi::{OsStr, OsString};
 use std::path::PathBuf;
 
-pub const USAGE: &str = "usage: mritvelja new STORE | replay STORE SCRIPT [--calls N] | show STORE | check STORE | convert OLD NEW | --help | --version";
+pub const USAGE: &str = "usage: mritvelja new STORE [--from DESCRIPTION | --empty] | describe STORE | replay STORE SCRIPT [--calls N] | show STORE | check STORE | convert OLD NEW | --help | --version";
 
 pub const HELP: &str = "\
 usage: mritvelja COMMAND
 
   new STORE       writes the test console to a new store file
+  new STORE --from DESCRIPTION
+                  writes the store of a description; DESCRIPTION may be - for
+                  standard input
+  new STORE --empty
+                  writes a store with a root directory and nothing else
+  describe STORE  prints a description of the store, for new --from
   replay STORE SCRIPT [--calls N]
                   runs a script on the store, saves the store, prints the
                   answers; SCRIPT may be - for standard input, and N is how
@@ -27,10 +34,14 @@ The status is 0 if all is well, 1 if not, 2 if the arguments are wrong.
 
 #[derive(Debug, PartialEq, Eq)]
 pub enum Command {
-    New(PathBuf),
+    New {
+        store: PathBuf,
+        contents: Contents,
+    },
+    Describe(PathBuf),
     Replay {
         store: PathBuf,
-        script: Script,
+        script: Input,
         /// How many calls to make at most; no limit if there is none.
         calls: Option<u64>,
     },
@@ -44,10 +55,18 @@ pub enum Command {
     Version,
 }
 
+/// What a new store has in it.
 #[derive(Debug, PartialEq, Eq)]
-pub enum Script {
+pub enum Contents {
+    TestConsole,
+    Empty,
+    Description(Input),
+}
+
+#[derive(Debug, PartialEq, Eq)]
+pub enum Input {
     File(PathBuf),
-    StandardInput,
+    Standard,
 }
 
 /// The command, or what is wrong with the arguments.
@@ -59,7 +78,8 @@ pub fn parse(arguments: &[OsString]) -> Result<Command, String> {
     let name = text::printable(first);
     match name.as_str() {
         "--version" if rest.is_empty() => Ok(Command::Version),
-        "new" => one_store(rest).map(Command::New),
+        "new" => parse_new(rest),
+        "describe" => one_store(rest).map(Command::Describe),
         "show" => one_store(rest).map(Command::Show),
         "check" => one_store(rest).map(Command::Check),
         "replay" => parse_replay(rest),
@@ -71,59 +91,45 @@ pub fn parse(arguments: &[OsString]) -> Result<Command, String> {
 }
 
 fn one_store(rest: &[OsString]) -> Result<PathBuf, String> {
-    match rest {
-        [] => Err("no STORE is given".into()),
-        [store, ..] if is_option(store) => Err(unknown_option(store)),
-        [store] => path("STORE", store),
-        [_, more, ..] => Err(unexpected(more)),
-    }
+    let [store] = Given::sort(rest, &[])?.operands(["STORE"])?;
+    file("STORE", store)
+}
+
+fn parse_new(rest: &[OsString]) -> Result<Command, String> {
+    const KNOWN: [Known; 2] = [("--from", Some("a DESCRIPTION")), ("--empty", None)];
+    let mut given = Given::sort(rest, &KNOWN)?;
+    let contents = match (given.take("--from"), given.take("--empty")) {
+        (None, None) => Contents::TestConsole,
+        (None, Some(_)) => Contents::Empty,
+        (Some(description), None) => Contents::Description(input("DESCRIPTION", description)?),
+        (Some(_), Some(_)) => return Err("--from and --empty do not go together".into()),
+    };
+    let [store] = given.operands(["STORE"])?;
+    let store = file("STORE", store)?;
+    Ok(Command::New { store, contents })
 }
 
 fn parse_replay(rest: &[OsString]) -> Result<Command, String> {
-    let mut calls = None;
-    let mut names = Vec::new();
-    let mut words = rest.iter();
-    while let Some(word) = words.next() {
-        if word == "--calls" {
-            if calls.is_some() {
-                return Err("--calls is given twice".into());
-            }
-            calls = Some(parse_calls(words.next())?);
-        } else if is_option(word) {
-            return Err(unknown_option(word));
-        } else {
-            names.push(word);
-        }
-    }
-    match names[..] {
-        [] => Err("no STORE is given".into()),
-        [_] => Err("no SCRIPT is given".into()),
-        [store, script] => Ok(Command::Replay {
-            store: path("STORE", store)?,
-            script: parse_script(script)?,
-            calls,
-        }),
-        [_, _, more, ..] => Err(unexpected(more)),
-    }
+    let mut given = Given::sort(rest, &[("--calls", Some("a number"))])?;
+    let calls = given.take("--calls").map(|word| parse_calls(&word));
+    let [store, script] = given.operands(["STORE", "SCRIPT"])?;
+    Ok(Command::Replay {
+        store: file("STORE", store)?,
+        script: input("SCRIPT", script)?,
+        calls: calls.transpose()?,
+    })
 }
 
 fn parse_convert(rest: &[OsString]) -> Result<Command, String> {
-    if let Some(word) = rest.iter().find(|word| is_option(word)) {
-        return Err(unknown_option(word));
-    }
-    match rest {
-        [] => Err("no OLD is given".into()),
-        [_] => Err("no NEW is given".into()),
-        [old, new] => Ok(Command::Convert {
-            old: path("OLD", old)?,
-            new: path("NEW", new)?,
-        }),
-        [_, _, more, ..] => Err(unexpected(more)),
-    }
+    let [old, new] = Given::sort(rest, &[])?.operands(["OLD", "NEW"])?;
+    Ok(Command::Convert {
+        old: file("OLD", old)?,
+        new: file("NEW", new)?,
+    })
 }
 
-fn parse_calls(word: Option<&OsString>) -> Result<u64, String> {
-    let word = text::printable(word.ok_or("--calls needs a number")?);
+fn parse_calls(word: &OsStr) -> Result<u64, String> {
+    let word = text::printable(word);
     let is_number = !word.is_empty() && word.bytes().all(|byte| byte.is_ascii_digit());
     match word.parse() {
         Ok(calls) if is_number => Ok(calls),
@@ -132,31 +138,20 @@ fn parse_calls(word: Option<&OsString>) -> Result<u64, String> {
     }
 }
 
-fn parse_script(word: &OsStr) -> Result<Script, String> {
-    match word == "-" {
-        true => Ok(Script::StandardInput),
-        false => path("SCRIPT", word).map(Script::File),
-    }
-}
-
-fn path(what: &str, word: &OsStr) -> Result<PathBuf, String> {
+fn input(what: &str, word: OsString) -> Result<Input, String> {
     match word.is_empty() {
         true => Err(format!("{what} is empty")),
-        false => Ok(word.into()),
+        false if word == "-" => Ok(Input::Standard),
+        false => Ok(Input::File(word.into())),
     }
 }
 
-/// A dash alone is standard input, and no option.
-fn is_option(word: &OsStr) -> bool {
-    word != "-" && word.as_encoded_bytes().starts_with(b"-")
-}
-
-fn unknown_option(word: &OsStr) -> String {
-    format!("unknown option: {}", text::printable(word))
-}
-
-fn unexpected(word: &OsStr) -> String {
-    format!("one argument too many: {}", text::printable(word))
+/// A store is a file, and none comes from or goes to a standard stream.
+fn file(what: &str, word: OsString) -> Result<PathBuf, String> {
+    match word == "-" {
+        true => Err(format!("{what} may not be -; a file of that name is ./-")),
+        false => Ok(word.into()),
+    }
 }
 
 #[cfg(test)]
@@ -168,7 +163,7 @@ mod tests {
         parse(&words)
     }
 
-    fn replay(script: Script, calls: Option<u64>) -> Result<Command, String> {
+    fn replay(script: Input, calls: Option<u64>) -> Result<Command, String> {
         Ok(Command::Replay {
             store: "bus".into(),
             script,
@@ -178,7 +173,19 @@ mod tests {
 
     #[test]
     fn commands_are_understood() {
-        assert_eq!(parsed("new bus"), Ok(Command::New("bus".into())));
+        let new = |contents| {
+            let store = "bus".into();
+            Ok(Command::New { store, contents })
+        };
+        let described = Contents::Description(Input::File("text".into()));
+        assert_eq!(parsed("new bus"), new(Contents::TestConsole));
+        assert_eq!(parsed("new --empty bus"), new(Contents::Empty));
+        assert_eq!(parsed("new bus --from text"), new(described));
+        assert_eq!(
+            parsed("new --from=- bus"),
+            new(Contents::Description(Input::Standard))
+        );
+        assert_eq!(parsed("describe bus"), Ok(Command::Describe("bus".into())));
         assert_eq!(parsed("show bus"), Ok(Command::Show("bus".into())));
         assert_eq!(parsed("check bus"), Ok(Command::Check("bus".into())));
         assert_eq!(
@@ -195,13 +202,16 @@ mod tests {
 
     #[test]
     fn a_replay_has_a_script_and_may_have_an_allowance() {
-        let day = || Script::File("day".into());
+        let day = || Input::File("day".into());
         assert_eq!(parsed("replay bus day"), replay(day(), None));
         assert_eq!(parsed("replay bus day --calls 0"), replay(day(), Some(0)));
         assert_eq!(
             parsed("replay --calls 12 bus -"),
-            replay(Script::StandardInput, Some(12))
+            replay(Input::Standard, Some(12))
         );
+        assert_eq!(parsed("replay bus day --calls=3"), replay(day(), Some(3)));
+        let dashed = || Input::File("-day".into());
+        assert_eq!(parsed("replay bus -- -day"), replay(dashed(), None));
     }
 
     #[test]
@@ -214,6 +224,13 @@ mod tests {
             "new",
             "new -x",
             "new bus bus",
+            "new -",
+            "new --from bus",
+            "new bus --from text --empty",
+            "new bus --empty=yes",
+            "new bus --from=",
+            "describe",
+            "describe -",
             "show",
             "check a b",
             "convert",
@@ -230,6 +247,8 @@ mod tests {
             "replay bus day --call 1",
             "replay bus day --calls 99999999999999999999",
             "replay bus day --calls 1 --calls 2",
+            "replay bus day --calls=",
+            "replay bus -- day --calls 1",
         ] {
             assert!(parsed(line).is_err(), "{line}");
         }

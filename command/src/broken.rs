@@ -6,7 +6,7 @@ const KEYS: [&str; 6] = ["proc=", "call=", "fd=", "arg=", "path=", "data="];
 const LARGEST: u32 = 65_535;
 
 /// Says which block is broken, where it begins, and what is wrong with it.
-pub fn describe(script: &[u8], start: usize, block_number: u64) -> String {
+pub fn message(script: &[u8], start: usize, block_number: u64) -> String {
     let line = 1 + script[..start]
         .iter()
         .filter(|&&byte| byte == b'\n')
@@ -171,7 +171,7 @@ mod tests {
         let fork = block(15, "0", "0", "", "");
         let script = fork.clone() + &block(16, "0", "0", "/", "");
         assert_eq!(
-            describe(script.as_bytes(), fork.len(), 2),
+            message(script.as_bytes(), fork.len(), 2),
             "block 2 is broken, which begins at byte 38, line 7; line 11: call 16 does not use \
              path=, which must be empty; nothing was changed"
         );

@@ -24,7 +24,7 @@ pub fn require_sound(store: &Path, tables: &Tables) -> Result<(), Failure> {
 }
 
 /// What is wrong with a store, nothing if it is sound.
-fn defect(tables: &Tables) -> Result<Option<Defect>, Failure> {
+pub fn defect(tables: &Tables) -> Result<Option<Defect>, Failure> {
     agreed(mritvelja::sound(tables), diagnosis::first_defect(tables))
 }
 

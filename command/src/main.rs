@@ -1,4 +1,4 @@
-//! The command `mritvelja`: makes, runs, shows, checks and converts store files
+//! The command `mritvelja`: makes, runs, shows, describes, checks and converts store files
 //! (`docs/command.md`), over the proved store.
 
 mod arguments;
@@ -7,13 +7,19 @@ mod broken;
 mod check;
 mod console;
 mod convert;
+mod describe;
+mod description;
 mod diagnosis;
 mod failure;
 mod format;
+mod given;
 mod held;
+mod input;
 mod memory;
+mod new;
 mod output;
 mod pieces;
+mod ranges;
 mod replay;
 mod save;
 mod show;
@@ -49,7 +55,8 @@ fn main() -> ExitCode {
 
 fn carry_out(command: &Command) -> Result<ExitCode, Failure> {
     let is_well = match command {
-        Command::New(store) => output::tell_warning(held::create(store, &console::test_console())?),
+        Command::New { store, contents } => output::tell_warning(new::new(store, contents)?),
+        Command::Describe(store) => describe::describe(store).map(|()| true)?,
         Command::Replay {
             store,
             script,

@@ -1,38 +1,36 @@
 //! `replay`: runs a script in memory; then saves the store, then prints the answers.
 
-use crate::arguments::Script;
+use crate::arguments::Input;
 use crate::broken;
 use crate::check;
-use crate::failure::{said, Failure};
+use crate::failure::Failure;
 use crate::held::{Held, Warning};
-use crate::memory;
+use crate::input;
 use crate::output;
 use crate::pieces::{self, Lost, Reason, Replayed};
 use crate::streams;
 use crate::text;
-use std::fs;
-use std::io::{self, Read};
 use std::path::Path;
 
 const NO_MEMORY: &str = "the answers do not fit the memory; nothing was changed";
 
 /// What was saved is answered, also where the name of the store may be lost.
-pub fn replay(store: &Path, script: &Script, calls: Option<u64>) -> Result<Warning, Failure> {
+pub fn replay(store: &Path, script: &Input, calls: Option<u64>) -> Result<Warning, Failure> {
     // Asked first: no call is made whose answer nobody can get.
     streams::require_output()?;
-    let bytes = read_script(script)?;
+    let bytes = input::read(script)?;
     let held = Held::new(store)?;
     let before = held.load()?;
     check::require_sound(store, &before)?;
 
     let mut after = before.clone();
     let run = pieces::run(&mut after, &bytes, calls).map_err(|lost| match lost {
-        Lost::Memory => Failure::new(name_of(script), NO_MEMORY),
+        Lost::Memory => input::refused(script, NO_MEMORY),
         Lost::Unexpected(why) => Failure::new("internal error", why),
     })?;
     if run.reason == Reason::Broken {
-        let why = broken::describe(&bytes, run.next, run.calls + 1);
-        return Err(Failure::new(name_of(script), why));
+        let why = broken::message(&bytes, run.next, run.calls + 1);
+        return Err(input::refused(script, why));
     }
     let is_changed = after != before;
     let warning = match is_changed {
@@ -46,25 +44,6 @@ pub fn replay(store: &Path, script: &Script, calls: Option<u64>) -> Result<Warni
         return Err(failure);
     }
     Ok(warning)
-}
-
-fn read_script(script: &Script) -> Result<Vec<u8>, Failure> {
-    let read = match script {
-        Script::File(path) => memory::grow(|| fs::read(path)),
-        Script::StandardInput => {
-            streams::require_input()?;
-            let mut bytes = Vec::new();
-            memory::grow(|| io::stdin().read_to_end(&mut bytes)).map(|_| bytes)
-        }
-    };
-    read.map_err(|error| Failure::new(name_of(script), format!("cannot be read: {}", said(&error))))
-}
-
-fn name_of(script: &Script) -> String {
-    match script {
-        Script::File(path) => text::printable(path.as_os_str()),
-        Script::StandardInput => "standard input".into(),
-    }
 }
 
 fn summary(run: &Replayed, is_changed: bool) -> String {

@@ -61,29 +61,47 @@ fn push_hex(text: &mut String, bytes: &[u8]) {
     }
 }
 
-/// Rights in words, from 0 to 7.
-pub fn rights(rights: u32) -> String {
-    let words = [(READ, "read"), (WRITE, "write"), (EXECUTE, "execute")];
-    let held: Vec<&str> = words
-        .iter()
-        .filter(|(right, _)| rights & right != 0)
-        .map(|&(_, word)| word)
-        .collect();
-    match held.is_empty() {
-        true => "none".into(),
-        false => held.join(" "),
+const RIGHTS: [(&str, u32); 3] = [("read", READ), ("write", WRITE), ("execute", EXECUTE)];
+const NO_RIGHTS: &str = "none";
+
+/// Rights in words, from 0 to 7, with something between them.
+pub fn rights(rights: u32, between: &str) -> String {
+    let held = RIGHTS.iter().filter(|(_, right)| rights & right != 0);
+    let words: Vec<&str> = held.map(|&(word, _)| word).collect();
+    match words.is_empty() {
+        true => NO_RIGHTS.into(),
+        false => words.join(between),
     }
 }
 
+/// The rights that words with commas between them name, each once.
+pub fn parse_rights(words: &[u8]) -> Option<u32> {
+    if words == NO_RIGHTS.as_bytes() {
+        return Some(0);
+    }
+    words.split(|&byte| byte == b',').try_fold(0, |held, word| {
+        let &(_, right) = RIGHTS.iter().find(|(name, _)| name.as_bytes() == word)?;
+        (held & right == 0).then_some(held | right)
+    })
+}
+
+const MODES: [(&str, u16); 4] = [
+    ("read", modes::READ),
+    ("write", modes::WRITE),
+    ("both", modes::BOTH),
+    ("append", modes::APPEND),
+];
+
 /// An open file's mode in a word, from 1 to 4.
 pub fn mode(mode: u32) -> &'static str {
-    match u16::try_from(mode) {
-        Ok(modes::READ) => "read",
-        Ok(modes::WRITE) => "write",
-        Ok(modes::BOTH) => "read and write",
-        Ok(modes::APPEND) => "append",
-        _ => "unknown",
-    }
+    let named = MODES.iter().find(|&&(_, number)| u32::from(number) == mode);
+    named.map_or("unknown", |&(word, _)| word)
+}
+
+/// The mode that a word names.
+pub fn parse_mode(word: &[u8]) -> Option<u16> {
+    let named = MODES.iter().find(|(name, _)| name.as_bytes() == word);
+    named.map(|&(_, number)| number)
 }
 
 /// A number and what it counts.
@@ -129,8 +147,20 @@ mod tests {
 
     #[test]
     fn rights_are_words() {
-        assert_eq!(rights(0), "none");
-        assert_eq!(rights(5), "read execute");
-        assert_eq!(rights(7), "read write execute");
+        assert_eq!(rights(0, " "), "none");
+        assert_eq!(rights(5, " "), "read execute");
+        for all in 0..=7 {
+            assert_eq!(parse_rights(rights(all, ",").as_bytes()), Some(all));
+        }
+        for wrong in [
+            "",
+            "read,",
+            "read,read",
+            "none,read",
+            "search",
+            "read write",
+        ] {
+            assert_eq!(parse_rights(wrong.as_bytes()), None, "{wrong}");
+        }
     }
 }

@@ -1,12 +1,10 @@
 //! "All fields in range."
 
+use crate::ranges::{label_pairs, ALL_RIGHTS, LAST_LABEL, LAST_USER};
 use mritvelja::layout::*;
 use mritvelja::modes;
 use mritvelja::Tables;
 
-const LAST_USER: u32 = 65_535;
-const LAST_LABEL: u32 = LABELS as u32 - 1;
-const ALL_RIGHTS: u32 = READ | WRITE | EXECUTE;
 const FIRST_MODE: u32 = modes::READ as u32;
 const LAST_MODE: u32 = modes::APPEND as u32;
 
@@ -83,14 +81,13 @@ fn descriptors(tables: &Tables, process: usize) -> Option<String> {
 }
 
 fn policy(tables: &Tables) -> Option<String> {
-    let cells = || (0..LABELS).flat_map(|process| (0..LABELS).map(move |file| (process, file)));
-    let rights = cells().find_map(|(process, file)| {
+    let rights = label_pairs().find_map(|(process, file)| {
         let owner = format!("policy, rights of process label {process} over file label {file}");
         let rights = u32::from(tables.rights(process, file));
         outside(owner, "the cell", rights, 0, ALL_RIGHTS)
     });
     rights.or_else(|| {
-        cells().find_map(|(process, program)| {
+        label_pairs().find_map(|(process, program)| {
             let label = tables.transition(process, program);
             let is_label = u32::from(label) <= LAST_LABEL || label == NO_TRANSITION;
             (!is_label).then(|| {

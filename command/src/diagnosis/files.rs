@@ -23,16 +23,8 @@ pub fn wrong_length(tables: &Tables) -> Option<String> {
 }
 
 pub fn neither_named_nor_open(tables: &Tables) -> Option<String> {
-    (0..SLOTS)
-        .filter(|&slot| tables.is_kind(slot, PLAIN) && tables.file(slot)[LINKS] == 0)
-        .find(|&slot| !is_open(tables, slot))
-        .map(|slot| {
-            format!("slot {slot}: a plain file that no directory entry names and no open file has")
-        })
-}
-
-fn is_open(tables: &Tables, slot: usize) -> bool {
-    tables
-        .open_files_in_use()
-        .any(|open_file| tables.open_file(open_file)[SLOT] as usize == slot)
+    let slot = tables.unnamed_files().find(|&slot| !tables.is_open(slot))?;
+    Some(format!(
+        "slot {slot}: a plain file that no directory entry names and no open file has"
+    ))
 }

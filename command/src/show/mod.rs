@@ -15,20 +15,20 @@ pub fn show(store: &Path) -> Result<(), Failure> {
     let tables = held::read(store)?;
     // Only of a sound store is it known that its directories are a tree.
     check::require_sound(store, &tables)?;
-    output::print((describe(&tables).join("\n") + "\n").as_bytes())
+    output::print((lines(&tables).join("\n") + "\n").as_bytes())
 }
 
 /// The whole store, an empty line between its parts.
-fn describe(tables: &Tables) -> Vec<String> {
+fn lines(tables: &Tables) -> Vec<String> {
     let paths = tree::paths(tables);
     let mut lines = Vec::new();
     for part in [
-        tree::describe(tables, &paths),
-        tree::describe_nameless(tables),
-        processes::describe_open_files(tables, &paths),
-        processes::describe(tables),
-        policy::describe_rights(tables),
-        policy::describe_transitions(tables),
+        tree::lines(tables, &paths),
+        tree::unnamed_lines(tables),
+        processes::open_file_lines(tables, &paths),
+        processes::lines(tables),
+        policy::rights_lines(tables),
+        policy::transition_lines(tables),
     ] {
         if !lines.is_empty() {
             lines.push(String::new());
@@ -56,7 +56,7 @@ mod tests {
 
     #[test]
     fn the_test_console_is_shown() {
-        let shown = describe(&test_console()).join("\n");
+        let shown = lines(&test_console()).join("\n");
         assert_eq!(shown, include_str!("console.expected").trim_end());
     }
 
@@ -70,14 +70,14 @@ mod tests {
         tables.process_mut(2)[PROCESS_DESCRIPTOR] = 1;
         tables.process_mut(2)[PROCESS_DESCRIPTOR + 7] = 1;
         tables.process_mut(1)[PROCESS_DESCRIPTOR] = 2;
-        tables.policy[RIGHTS_SIZE + 16 + 3] = 4;
+        tables.set_transition(1, 3, 4);
         tables.set_dirent(1, 0, b"a\\ \x80", 2);
         assert!(mritvelja::sound(&tables));
-        let lines = describe(&tables);
+        let lines = lines(&tables);
         for line in [
             "/fares/a\\x5c \\x80: plain file, slot 2, owner 10, bits 4 (read), label 0, length 5, links 1, version 0",
             "Slot 4: plain file, owner 20, bits 7 (read write execute), label 1, length 2, links 0, version 9",
-            "Open file 0: slot 4, which has no name; mode 3 (read and write), offset 1, references 2",
+            "Open file 0: slot 4, which has no name; mode 3 (both), offset 1, references 2",
             "Open file 1: slot 2, /fares/a\\x5c \\x80; mode 4 (append), offset 0, references 1",
             "Process 2: user 20, label 2; descriptor 0 holds open file 0; descriptor 7 holds open file 0",
             "Process label 1 by program label 3: to label 4",

@@ -1,26 +1,23 @@
 //! The policy: the rights that there are, and the transitions.
 
 use super::part;
+use crate::ranges::label_pairs;
 use crate::text;
 use mritvelja::layout::*;
 use mritvelja::Tables;
 
-fn label_pairs() -> impl Iterator<Item = (usize, usize)> {
-    (0..LABELS).flat_map(|process| (0..LABELS).map(move |file| (process, file)))
-}
-
-pub fn describe_rights(tables: &Tables) -> Vec<String> {
+pub fn rights_lines(tables: &Tables) -> Vec<String> {
     let lines = label_pairs()
         .map(|(process, file)| (process, file, tables.rights(process, file)))
         .filter(|&(_, _, rights)| rights != 0)
         .map(|(process, file, rights)| {
-            let words = text::rights(u32::from(rights));
+            let words = text::rights(u32::from(rights), " ");
             format!("Process label {process} over file label {file}: {words}")
         });
     part("Rights of labels", lines.collect())
 }
 
-pub fn describe_transitions(tables: &Tables) -> Vec<String> {
+pub fn transition_lines(tables: &Tables) -> Vec<String> {
     let lines = label_pairs()
         .map(|(process, program)| (process, program, tables.transition(process, program)))
         .filter(|&(_, _, label)| label != NO_TRANSITION)

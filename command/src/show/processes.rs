@@ -5,7 +5,7 @@ use crate::text;
 use mritvelja::layout::*;
 use mritvelja::Tables;
 
-pub fn describe_open_files(tables: &Tables, paths: &[(String, usize)]) -> Vec<String> {
+pub fn open_file_lines(tables: &Tables, paths: &[(String, usize)]) -> Vec<String> {
     let lines = tables.open_files_in_use().map(|number| {
         let record = tables.open_file(number);
         let slot = record[SLOT] as usize;
@@ -22,20 +22,20 @@ pub fn describe_open_files(tables: &Tables, paths: &[(String, usize)]) -> Vec<St
     part("Open files", lines.collect())
 }
 
-pub fn describe(tables: &Tables) -> Vec<String> {
+pub fn lines(tables: &Tables) -> Vec<String> {
     let lines = tables.processes_in_use().map(|process| {
         let record = tables.process(process);
         format!(
             "Process {process}: user {}, label {}; {}",
             record[USER],
             record[PROCESS_LABEL],
-            describe_descriptors(tables, process)
+            descriptors_line(tables, process)
         )
     });
     part("Processes", lines.collect())
 }
 
-fn describe_descriptors(tables: &Tables, process: usize) -> String {
+fn descriptors_line(tables: &Tables, process: usize) -> String {
     let words = tables.descriptors(process).iter().enumerate();
     let held: Vec<String> = words
         .filter(|(_, &word)| word != 0)

@@ -28,7 +28,7 @@ fn add_names(tables: &Tables, directory: usize, prefix: &str, paths: &mut Vec<(S
     }
 }
 
-pub fn describe(tables: &Tables, paths: &[(String, usize)]) -> Vec<String> {
+pub fn lines(tables: &Tables, paths: &[(String, usize)]) -> Vec<String> {
     let used = (0..SLOTS)
         .filter(|&slot| !tables.is_kind(slot, FREE))
         .count();
@@ -43,10 +43,8 @@ pub fn describe(tables: &Tables, paths: &[(String, usize)]) -> Vec<String> {
     part(&heading, lines.collect())
 }
 
-pub fn describe_nameless(tables: &Tables) -> Vec<String> {
-    let nameless =
-        (0..SLOTS).filter(|&slot| tables.is_kind(slot, PLAIN) && tables.file(slot)[LINKS] == 0);
-    let lines = nameless.map(|slot| {
+pub fn unnamed_lines(tables: &Tables) -> Vec<String> {
+    let lines = tables.unnamed_files().map(|slot| {
         format!(
             "Slot {slot}: {}, {}",
             kind(tables, slot),
@@ -69,7 +67,7 @@ fn fields(tables: &Tables, slot: usize) -> String {
         "owner {}, bits {} ({}), label {}, length {}, links {}, version {}",
         record[OWNER],
         record[BITS],
-        text::rights(record[BITS]),
+        text::rights(record[BITS], " "),
         record[LABEL],
         record[LENGTH],
         record[LINKS],
