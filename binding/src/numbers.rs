@@ -84,6 +84,28 @@ pub mod refusals {
     pub const TABLE_FULL: u32 = 13;
     /// File would pass 512 bytes.
     pub const TOO_LONG: u32 = 14;
+
+    /// What a refusal means, in words.
+    pub fn text(refusal: u32) -> &'static str {
+        match refusal {
+            GRANTED => "granted",
+            UNSOUND => "store or policy not sound",
+            NO_PROCESS => "process not in use",
+            MALFORMED => "malformed call",
+            NOT_HELD => "descriptor not held",
+            WRONG_DIRECTION => "not open for that direction",
+            NAME_MISSING => "name missing",
+            NOT_A_DIRECTORY => "not a directory",
+            WRONG_KIND => "wrong kind of file",
+            BITS_FORBID => "bits or ownership forbid",
+            LABEL_FORBIDS => "label forbids",
+            NAME_THERE => "name already there",
+            NOT_EMPTY => "directory not empty",
+            TABLE_FULL => "a table has no free place",
+            TOO_LONG => "file would pass 512 bytes",
+            _ => "unknown refusal",
+        }
+    }
 }
 
 /// Why a run of a script stopped, tested before each call in this order.

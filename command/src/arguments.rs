@@ -1,11 +1,12 @@
 //! What the command line asks for.
 
+use crate::calls::Asked;
 use crate::given::{unexpected, unknown_option, Given, Known};
 use crate::text;
 use std::ffi::{OsStr, OsString};
 use std::path::PathBuf;
 
-pub const USAGE: &str = "usage: mritvelja new STORE [--from DESCRIPTION | --empty] | describe STORE | replay STORE SCRIPT [--calls N] | show STORE | check STORE | convert OLD NEW | --help | --version";
+pub const USAGE: &str = "usage: mritvelja new STORE [--from DESCRIPTION | --empty] | describe STORE | replay STORE SCRIPT [--calls N] [--explain] | call STORE PROCESS CALL [PART..] [--hex] | show STORE | check STORE | convert OLD NEW | --help | --version";
 
 pub const HELP: &str = "\
 usage: mritvelja COMMAND
@@ -17,10 +18,26 @@ usage: mritvelja COMMAND
   new STORE --empty
                   writes a store with a root directory and nothing else
   describe STORE  prints a description of the store, for new --from
-  replay STORE SCRIPT [--calls N]
+  replay STORE SCRIPT [--calls N] [--explain]
                   runs a script on the store, saves the store, prints the
                   answers; SCRIPT may be - for standard input, and N is how
-                  many calls to make at most
+                  many calls to make at most; --explain puts a line in words
+                  before each answer
+  call STORE PROCESS CALL [PART..] [--hex]
+                  makes one call, saves the store, prints the answer in words:
+                    open PATH MODE        create PATH BITS
+                    make-directory PATH BITS
+                    unlink PATH           remove-directory PATH
+                    link PATH NEW         list PATH INDEX
+                    change-bits PATH BITS stat PATH
+                    close DESCRIPTOR      read DESCRIPTOR [SIZE]
+                    write DESCRIPTOR DATA seek DESCRIPTOR POSITION
+                    duplicate DESCRIPTOR  fork
+                    exit                  execute PATH
+                  MODE is read, write, both or append, and perhaps ,truncate;
+                  BITS are none, or read, write and execute with commas; DATA may
+                  be - for standard input; a read's bytes go to standard output
+                  as they are, or as hex
   show STORE      prints the files, open files, processes and policy
   check STORE     says whether the store is sound, or what is wrong and where
   convert OLD NEW writes the store of the file OLD, of 64 slots, to the new
@@ -44,6 +61,14 @@ pub enum Command {
         script: Input,
         /// How many calls to make at most; no limit if there is none.
         calls: Option<u64>,
+        /// Whether each answer is printed in words too.
+        is_explained: bool,
+    },
+    Call {
+        store: PathBuf,
+        asked: Asked,
+        /// Whether the bytes of a read are printed as hex digits.
+        is_hex: bool,
     },
     Show(PathBuf),
     Check(PathBuf),
@@ -83,6 +108,7 @@ pub fn parse(arguments: &[OsString]) -> Result<Command, String> {
         "show" => one_store(rest).map(Command::Show),
         "check" => one_store(rest).map(Command::Check),
         "replay" => parse_replay(rest),
+        "call" => parse_call(rest),
         "convert" => parse_convert(rest),
         "--version" => Err(unexpected(&rest[0])),
         _ if name.starts_with('-') => Err(unknown_option(first)),
@@ -110,14 +136,32 @@ fn parse_new(rest: &[OsString]) -> Result<Command, String> {
 }
 
 fn parse_replay(rest: &[OsString]) -> Result<Command, String> {
-    let mut given = Given::sort(rest, &[("--calls", Some("a number"))])?;
+    const KNOWN: [Known; 2] = [("--calls", Some("a number")), ("--explain", None)];
+    let mut given = Given::sort(rest, &KNOWN)?;
+    let is_explained = given.take("--explain").is_some();
     let calls = given.take("--calls").map(|word| parse_calls(&word));
     let [store, script] = given.operands(["STORE", "SCRIPT"])?;
     Ok(Command::Replay {
         store: file("STORE", store)?,
         script: input("SCRIPT", script)?,
         calls: calls.transpose()?,
+        is_explained,
     })
+}
+
+fn parse_call(rest: &[OsString]) -> Result<Command, String> {
+    let mut given = Given::sort(rest, &[("--hex", None)])?;
+    let is_hex = given.take("--hex").is_some();
+    match &given.all_operands()[..] {
+        [] => Err("no STORE is given".into()),
+        [_] => Err("no PROCESS is given".into()),
+        [_, _] => Err("no CALL is given".into()),
+        [store, process, name, operands @ ..] => Ok(Command::Call {
+            store: file("STORE", store.clone())?,
+            asked: Asked::parse(process, name, operands)?,
+            is_hex,
+        }),
+    }
 }
 
 fn parse_convert(rest: &[OsString]) -> Result<Command, String> {
@@ -148,9 +192,9 @@ fn input(what: &str, word: OsString) -> Result<Input, String> {
 
 /// A store is a file, and none comes from or goes to a standard stream.
 fn file(what: &str, word: OsString) -> Result<PathBuf, String> {
-    match word == "-" {
-        true => Err(format!("{what} may not be -; a file of that name is ./-")),
-        false => Ok(word.into()),
+    match input(what, word)? {
+        Input::Standard => Err(format!("{what} may not be -; a file of that name is ./-")),
+        Input::File(path) => Ok(path),
     }
 }
 
@@ -168,6 +212,7 @@ mod tests {
             store: "bus".into(),
             script,
             calls,
+            is_explained: false,
         })
     }
 

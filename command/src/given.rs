@@ -55,20 +55,19 @@ impl Given {
         Some(self.options.swap_remove(at).1)
     }
 
-    /// The operands, which must be as many as are named, and not empty.
+    /// All operands.
+    pub fn all_operands(self) -> Vec<OsString> {
+        self.operands
+    }
+
+    /// The operands, which must be as many as are named.
     pub fn operands<const N: usize>(self, names: [&str; N]) -> Result<[OsString; N], String> {
         if let Some(more) = self.operands.get(N) {
             return Err(unexpected(more));
         }
-        for (at, name) in names.into_iter().enumerate() {
-            match self.operands.get(at) {
-                None => return Err(format!("no {name} is given")),
-                Some(operand) if operand.is_empty() => return Err(format!("{name} is empty")),
-                Some(_) => {}
-            }
-        }
+        let missing = names.get(self.operands.len());
         let operands = self.operands.try_into();
-        Ok(operands.expect("there are as many as are named"))
+        operands.map_err(|_| format!("no {} is given", missing.unwrap_or(&"operand")))
     }
 }
 

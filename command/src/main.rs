@@ -1,15 +1,20 @@
 //! The command `mritvelja`: makes, runs, shows, describes, checks and converts store files
 //! (`docs/command.md`), over the proved store.
 
+mod answers;
 mod arguments;
 mod attributes;
+mod block;
 mod broken;
+mod call;
+mod calls;
 mod check;
 mod console;
 mod convert;
 mod describe;
 mod description;
 mod diagnosis;
+mod explain;
 mod failure;
 mod format;
 mod given;
@@ -61,7 +66,13 @@ fn carry_out(command: &Command) -> Result<ExitCode, Failure> {
             store,
             script,
             calls,
-        } => output::tell_warning(replay::replay(store, script, *calls)?),
+            is_explained,
+        } => output::tell_warning(replay::replay(store, script, *calls, *is_explained)?),
+        Command::Call {
+            store,
+            asked,
+            is_hex,
+        } => call::call(store, asked, *is_hex)?,
         Command::Show(store) => show::show(store).map(|()| true)?,
         Command::Check(store) => check::check(store)?,
         Command::Convert { old, new } => output::tell_warning(convert::convert(old, new)?),

@@ -1,11 +1,14 @@
 //! `replay`: runs a script in memory; then saves the store, then prints the answers.
 
+use crate::answers;
 use crate::arguments::Input;
 use crate::broken;
 use crate::check;
+use crate::explain;
 use crate::failure::Failure;
 use crate::held::{Held, Warning};
 use crate::input;
+use crate::memory;
 use crate::output;
 use crate::pieces::{self, Lost, Reason, Replayed};
 use crate::streams;
@@ -15,7 +18,12 @@ use std::path::Path;
 const NO_MEMORY: &str = "the answers do not fit the memory; nothing was changed";
 
 /// What was saved is answered, also where the name of the store may be lost.
-pub fn replay(store: &Path, script: &Input, calls: Option<u64>) -> Result<Warning, Failure> {
+pub fn replay(
+    store: &Path,
+    script: &Input,
+    calls: Option<u64>,
+    is_explained: bool,
+) -> Result<Warning, Failure> {
     // Asked first: no call is made whose answer nobody can get.
     streams::require_output()?;
     let bytes = input::read(script)?;
@@ -24,26 +32,48 @@ pub fn replay(store: &Path, script: &Input, calls: Option<u64>) -> Result<Warnin
     check::require_sound(store, &before)?;
 
     let mut after = before.clone();
-    let run = pieces::run(&mut after, &bytes, calls).map_err(|lost| match lost {
-        Lost::Memory => input::refused(script, NO_MEMORY),
-        Lost::Unexpected(why) => Failure::new("internal error", why),
-    })?;
+    let run = pieces::run(&mut after, &bytes, calls).map_err(|lost| failure(script, lost))?;
     if run.reason == Reason::Broken {
         let why = broken::message(&bytes, run.next, run.calls + 1);
         return Err(input::refused(script, why));
     }
+    let explained = match is_explained {
+        true => Some(memory::grow(|| explain::explain(&bytes, &run.answers))),
+        false => None,
+    };
+    let explained = explained
+        .transpose()
+        .map_err(|lost| failure(script, lost))?;
     let is_changed = after != before;
     let warning = match is_changed {
         true => held.save(&after)?,
         false => None,
     };
-    let printed = output::print(&run.answers);
-    output::tell(summary(&run, is_changed));
+    let printed = output::print(explained.as_ref().unwrap_or(&run.answers));
+    tell_summary(&run, is_changed);
     if let Err(failure) = printed {
         output::tell_warning(warning);
         return Err(failure);
     }
     Ok(warning)
+}
+
+fn failure(script: &Input, lost: Lost) -> Failure {
+    match lost {
+        Lost::Memory => input::refused(script, NO_MEMORY),
+        Lost::Unexpected(why) => Failure::new("internal error", why),
+    }
+}
+
+fn tell_summary(run: &Replayed, is_changed: bool) {
+    for (refusal, count) in explain::refused(&run.answers) {
+        let calls = text::count(count, "call", "calls");
+        output::tell(format_args!(
+            "{calls} refused with {}",
+            answers::refusal(refusal)
+        ));
+    }
+    output::tell(summary(run, is_changed));
 }
 
 fn summary(run: &Replayed, is_changed: bool) -> String {

@@ -18,6 +18,16 @@ pub fn readable(bytes: &[u8]) -> String {
     text
 }
 
+/// Bytes between quotes, as they stand in a description.
+pub fn quote(bytes: &[u8]) -> String {
+    format!("\"{}\"", readable(bytes).replace('"', r"\x22"))
+}
+
+/// Bytes as pairs of hex digits.
+pub fn hex(bytes: &[u8]) -> String {
+    bytes.iter().map(|byte| format!("{byte:02x}")).collect()
+}
+
 /// A file's name or an argument, in letters of any script; every byte that is not of
 /// a printable character, and the backslash, as `\xNN`: a terminal obeys none of it.
 pub fn printable(name: &OsStr) -> String {
@@ -92,10 +102,10 @@ const MODES: [(&str, u16); 4] = [
     ("append", modes::APPEND),
 ];
 
-/// An open file's mode in a word, from 1 to 4.
-pub fn mode(mode: u32) -> &'static str {
+/// A mode in a word, from 1 to 4.
+pub fn mode(mode: u32) -> Option<&'static str> {
     let named = MODES.iter().find(|&&(_, number)| u32::from(number) == mode);
-    named.map_or("unknown", |&(word, _)| word)
+    named.map(|&(word, _)| word)
 }
 
 /// The mode that a word names.

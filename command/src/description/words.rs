@@ -64,15 +64,10 @@ fn hex(text: &[u8]) -> Option<(u8, &[u8])> {
     Some((u8::try_from(16 * high + low).ok()?, after))
 }
 
-/// Bytes between quotes.
-pub fn quote(bytes: &[u8]) -> String {
-    format!("\"{}\"", text::readable(bytes).replace('"', r"\x22"))
-}
-
 /// A path, between quotes only where it needs them.
 pub fn path(path: &[u8]) -> String {
     match path.contains(&b' ') || path.contains(&b'"') {
-        true => quote(path),
+        true => text::quote(path),
         false => text::readable(path),
     }
 }

@@ -130,7 +130,7 @@ impl Files<'_> {
 
     fn data(&self, slot: usize) -> String {
         let length = self.tables.file(slot)[LENGTH] as usize;
-        format!(" data {}", words::quote(&self.tables.block(slot)[..length]))
+        format!(" data {}", text::quote(&self.tables.block(slot)[..length]))
     }
 }
 
@@ -149,7 +149,7 @@ fn open_files<'a>(
             0 => String::new(),
             offset => format!(" offset {offset}"),
         };
-        let mode = text::mode(record[MODE]);
+        let mode = text::mode(record[MODE]).expect("a sound store's mode has a word");
         format!("open {number} {file} mode {mode}{offset}")
     })
 }

@@ -4,6 +4,8 @@ mod policy;
 mod processes;
 mod tree;
 
+pub use tree::{fields, kind};
+
 use crate::check;
 use crate::failure::Failure;
 use crate::held;

@@ -14,7 +14,7 @@ pub fn open_file_lines(tables: &Tables, paths: &[(String, usize)]) -> Vec<String
             "Open file {number}: slot {slot}, {}; mode {} ({}), offset {}, references {}",
             path.map_or("which has no name", |(path, _)| path),
             record[MODE],
-            text::mode(record[MODE]),
+            text::mode(record[MODE]).expect("a sound store's mode has a word"),
             record[OFFSET],
             record[REFERENCES]
         )

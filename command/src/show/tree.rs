@@ -34,35 +34,28 @@ pub fn lines(tables: &Tables, paths: &[(String, usize)]) -> Vec<String> {
         .count();
     let heading = format!("Files, {used} of {SLOTS} slots in use");
     let lines = paths.iter().map(|(path, slot)| {
-        format!(
-            "{path}: {}, slot {slot}, {}",
-            kind(tables, *slot),
-            fields(tables, *slot)
-        )
+        let record = tables.file(*slot);
+        format!("{path}: {}, slot {slot}, {}", kind(record), fields(record))
     });
     part(&heading, lines.collect())
 }
 
 pub fn unnamed_lines(tables: &Tables) -> Vec<String> {
     let lines = tables.unnamed_files().map(|slot| {
-        format!(
-            "Slot {slot}: {}, {}",
-            kind(tables, slot),
-            fields(tables, slot)
-        )
+        let record = tables.file(slot);
+        format!("Slot {slot}: {}, {}", kind(record), fields(record))
     });
     part("Files open without a name", lines.collect())
 }
 
-fn kind(tables: &Tables, slot: usize) -> &'static str {
-    match tables.is_kind(slot, DIRECTORY) {
-        true => "directory",
-        false => "plain file",
+pub fn kind(record: &[u32; FILE_WIDTH]) -> &'static str {
+    match record[KIND] {
+        DIRECTORY => "directory",
+        _ => "plain file",
     }
 }
 
-fn fields(tables: &Tables, slot: usize) -> String {
-    let record = tables.file(slot);
+pub fn fields(record: &[u32; FILE_WIDTH]) -> String {
     format!(
         "owner {}, bits {} ({}), label {}, length {}, links {}, version {}",
         record[OWNER],

@@ -1,0 +1,183 @@
+//! The calls by their names, and the parts that each takes.
+
+use crate::text;
+use mritvelja::layout::BLOCK;
+use mritvelja::{calls, modes};
+use std::ffi::{OsStr, OsString};
+use std::os::unix::ffi::OsStrExt;
+
+/// A part of a call, as its words give it.
+#[derive(Clone, Copy, PartialEq, Eq)]
+pub enum Part {
+    Path,
+    NewPath,
+    Mode,
+    Bits,
+    Index,
+    Descriptor,
+    Size,
+    Position,
+    Data,
+}
+
+use Part::*;
+
+/// Each call's name, its number, and its parts in the order of its words.
+pub const CALLS: [(&str, u8, &[Part]); 17] = [
+    ("open", calls::OPEN, &[Path, Mode]),
+    ("create", calls::CREATE, &[Path, Bits]),
+    ("make-directory", calls::MAKE_DIRECTORY, &[Path, Bits]),
+    ("unlink", calls::UNLINK, &[Path]),
+    ("remove-directory", calls::REMOVE_DIRECTORY, &[Path]),
+    ("link", calls::LINK, &[Path, NewPath]),
+    ("list", calls::LIST, &[Path, Index]),
+    ("change-bits", calls::CHANGE_BITS, &[Path, Bits]),
+    ("stat", calls::STAT, &[Path]),
+    ("close", calls::CLOSE, &[Descriptor]),
+    ("read", calls::READ, &[Descriptor, Size]),
+    ("write", calls::WRITE, &[Descriptor, Data]),
+    ("seek", calls::SEEK, &[Descriptor, Position]),
+    ("duplicate", calls::DUPLICATE, &[Descriptor]),
+    ("fork", calls::FORK, &[]),
+    ("exit", calls::EXIT, &[]),
+    ("execute", calls::EXECUTE, &[Path]),
+];
+
+/// A call as a script may have it: its numbers need not be of any process or call.
+#[derive(Clone, Debug, Default, PartialEq, Eq)]
+pub struct Asked {
+    pub process: u16,
+    pub call: u16,
+    pub descriptor: u16,
+    /// The mode, bits, index, size or position.
+    pub number: u16,
+    pub path: Vec<u8>,
+    pub data: Vec<u8>,
+}
+
+impl Asked {
+    /// The call of a name with its operands, as many as it has parts; a read without a size is of a whole file.
+    pub fn parse(process: &OsStr, name: &OsStr, operands: &[OsString]) -> Result<Asked, String> {
+        let &(name, call, parts) = CALLS
+            .iter()
+            .find(|(known, ..)| name == *known)
+            .ok_or_else(|| format!("unknown call: {}", text::printable(name)))?;
+        if let Some(more) = operands.get(parts.len()) {
+            let more = text::printable(more);
+            return Err(format!("one argument too many for {name}: {more}"));
+        }
+        let mut asked = Asked {
+            process: number("PROCESS", process, u8::MAX.into())?,
+            call: call.into(),
+            ..Asked::default()
+        };
+        for (at, &part) in parts.iter().enumerate() {
+            match operands.get(at) {
+                Some(operand) => asked.set(part, operand)?,
+                None if part == Size => asked.number = BLOCK as u16,
+                None => return Err(format!("{name} needs {}", what(part))),
+            }
+        }
+        Ok(asked)
+    }
+
+    fn set(&mut self, part: Part, word: &OsStr) -> Result<(), String> {
+        let not = || format!("{} is {}", what(part), text::printable(word));
+        match part {
+            Path => self.path = word.as_bytes().to_vec(),
+            NewPath | Data => self.data = word.as_bytes().to_vec(),
+            Descriptor => self.descriptor = number(what(part), word, u8::MAX.into())?,
+            Index | Size | Position => self.number = number(what(part), word, u16::MAX)?,
+            Mode => {
+                self.number = parse_mode(word.as_bytes()).ok_or_else(|| {
+                    not() + ", not read, write, both or append, and perhaps ,truncate"
+                })?
+            }
+            Bits => {
+                let bits = text::parse_rights(word.as_bytes());
+                let bits = bits.ok_or_else(|| {
+                    not() + ", not none or some of read, write and execute with commas between them"
+                })?;
+                self.number = u16::try_from(bits).expect("bits are at most 7");
+            }
+        }
+        Ok(())
+    }
+
+    /// The parts of the call; nothing if there is no such call.
+    pub fn parts(&self) -> Option<(&'static str, &'static [Part])> {
+        let known = CALLS
+            .iter()
+            .find(|&&(_, number, _)| u16::from(number) == self.call);
+        known.map(|&(name, _, parts)| (name, parts))
+    }
+
+    /// The call in the words that [`Asked::parse`] takes.
+    pub fn words(&self) -> String {
+        let Some((name, parts)) = self.parts() else {
+            return format!("unknown call {}", self.call);
+        };
+        let parts = parts.iter().map(|&part| self.word(part));
+        [name.to_string()]
+            .into_iter()
+            .chain(parts)
+            .collect::<Vec<_>>()
+            .join(" ")
+    }
+
+    fn word(&self, part: Part) -> String {
+        match part {
+            Path => text::readable(&self.path),
+            NewPath => text::readable(&self.data),
+            Data => text::quote(&self.data),
+            Descriptor => self.descriptor.to_string(),
+            Index | Size | Position => self.number.to_string(),
+            Mode => mode_words(self.number).unwrap_or_else(|| self.number.to_string()),
+            Bits if self.number > 7 => self.number.to_string(),
+            Bits => text::rights(self.number.into(), ","),
+        }
+    }
+}
+
+fn what(part: Part) -> &'static str {
+    match part {
+        Path => "a PATH",
+        NewPath => "a NEW PATH",
+        Mode => "a MODE",
+        Bits => "BITS",
+        Index => "an INDEX",
+        Descriptor => "a DESCRIPTOR",
+        Size => "a SIZE",
+        Position => "a POSITION",
+        Data => "DATA",
+    }
+}
+
+fn number(what: &str, word: &OsStr, last: u16) -> Result<u16, String> {
+    let word = text::printable(word);
+    let is_number = !word.is_empty() && word.bytes().all(|byte| byte.is_ascii_digit());
+    let number = word
+        .parse()
+        .ok()
+        .filter(|&number| is_number && number <= last);
+    number.ok_or_else(|| format!("{what} is {word}, not a number from 0 to {last}"))
+}
+
+const TRUNCATE: &str = ",truncate";
+
+fn parse_mode(word: &[u8]) -> Option<u16> {
+    match word.strip_suffix(TRUNCATE.as_bytes()) {
+        Some(word) => text::parse_mode(word).map(|mode| mode | modes::TRUNCATE),
+        None => text::parse_mode(word),
+    }
+}
+
+fn mode_words(mode: u16) -> Option<String> {
+    let word = text::mode(u32::from(mode & !modes::TRUNCATE))?;
+    let truncate = if mode & modes::TRUNCATE != 0 {
+        TRUNCATE
+    } else {
+        ""
+    };
+    Some(format!("{word}{truncate}"))
+}
