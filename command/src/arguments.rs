@@ -6,7 +6,7 @@ use crate::text;
 use std::ffi::{OsStr, OsString};
 use std::path::PathBuf;
 
-pub const USAGE: &str = "usage: mritvelja new STORE [--from DESCRIPTION | --empty] | describe STORE | replay STORE SCRIPT [--calls N] [--explain] | call STORE PROCESS CALL [PART..] [--hex] | show STORE | check STORE | convert OLD NEW | --help | --version";
+pub const USAGE: &str = "usage: mritvelja new STORE [--from DESCRIPTION | --empty] | describe STORE | replay STORE SCRIPT [--calls N] [--explain] | call STORE PROCESS CALL [PART..] [--hex] | show STORE | cat STORE PATH | check STORE | convert OLD NEW | --help | --version";
 
 pub const HELP: &str = "\
 usage: mritvelja COMMAND
@@ -39,6 +39,7 @@ usage: mritvelja COMMAND
                   be - for standard input; a read's bytes go to standard output
                   as they are, or as hex
   show STORE      prints the files, open files, processes and policy
+  cat STORE PATH  prints the bytes of a file, whatever bits and labels say
   check STORE     says whether the store is sound, or what is wrong and where
   convert OLD NEW writes the store of the file OLD, of 64 slots, to the new
                   file NEW, of 128; OLD is left as it is
@@ -71,6 +72,11 @@ pub enum Command {
         is_hex: bool,
     },
     Show(PathBuf),
+    Cat {
+        store: PathBuf,
+        /// A path in the store.
+        file: OsString,
+    },
     Check(PathBuf),
     Convert {
         old: PathBuf,
@@ -109,6 +115,7 @@ pub fn parse(arguments: &[OsString]) -> Result<Command, String> {
         "check" => one_store(rest).map(Command::Check),
         "replay" => parse_replay(rest),
         "call" => parse_call(rest),
+        "cat" => parse_cat(rest),
         "convert" => parse_convert(rest),
         "--version" => Err(unexpected(&rest[0])),
         _ if name.starts_with('-') => Err(unknown_option(first)),
@@ -162,6 +169,14 @@ fn parse_call(rest: &[OsString]) -> Result<Command, String> {
             is_hex,
         }),
     }
+}
+
+fn parse_cat(rest: &[OsString]) -> Result<Command, String> {
+    let [store, file_in_it] = Given::sort(rest, &[])?.operands(["STORE", "PATH"])?;
+    Ok(Command::Cat {
+        store: file("STORE", store)?,
+        file: file_in_it,
+    })
 }
 
 fn parse_convert(rest: &[OsString]) -> Result<Command, String> {

@@ -8,6 +8,7 @@ mod block;
 mod broken;
 mod call;
 mod calls;
+mod cat;
 mod check;
 mod console;
 mod convert;
@@ -23,6 +24,7 @@ mod input;
 mod memory;
 mod new;
 mod output;
+mod path;
 mod pieces;
 mod ranges;
 mod replay;
@@ -74,6 +76,7 @@ fn carry_out(command: &Command) -> Result<ExitCode, Failure> {
             is_hex,
         } => call::call(store, asked, *is_hex)?,
         Command::Show(store) => show::show(store).map(|()| true)?,
+        Command::Cat { store, file } => cat::cat(store, file).map(|()| true)?,
         Command::Check(store) => check::check(store)?,
         Command::Convert { old, new } => output::tell_warning(convert::convert(old, new)?),
         Command::Help => output::print(HELP.as_bytes()).map(|()| true)?,

@@ -1,7 +1,7 @@
 # shellcheck shell=bash disable=SC2154,SC2016 # tests/command sets the names; some lines are for another shell
 # Arguments: a usage line and status 2; help and version.
 
-for arguments in '' 'open bus' '-x' '--version bus' 'new' 'new a b' 'new --x' 'new -' 'new a --from' 'describe' 'describe a b' 'show' 'check' 'check a b' 'convert' 'convert bus' 'convert bus a b' 'convert bus --x' 'replay' 'replay bus' \
+for arguments in '' 'open bus' '-x' '--version bus' 'new' 'new a b' 'new --x' 'new -' 'new a --from' 'describe' 'describe a b' 'cat' 'cat a' 'cat a b c' 'cat - /a' 'show' 'check' 'check a b' 'convert' 'convert bus' 'convert bus a b' 'convert bus --x' 'replay' 'replay bus' \
     'replay bus day more' 'replay bus day --calls' 'replay bus day --calls x' 'replay bus day --calls -1' \
     'replay bus day --calls 1 --calls 1' 'replay bus day --calls 99999999999999999999'; do
     # shellcheck disable=SC2086 # the words are arguments

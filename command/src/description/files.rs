@@ -4,6 +4,7 @@
 use super::building::Building;
 use super::line::Line;
 use super::lowest_free;
+use crate::path;
 use crate::ranges::{LAST_LABEL, LAST_USER};
 use crate::text;
 use mritvelja::layout::*;
@@ -154,13 +155,6 @@ fn is_name(name: &[u8]) -> bool {
 
 /// The slot that a path names, a slash before each name.
 fn slot_at(tables: &Tables, path: &[u8]) -> Option<usize> {
-    let names = path.strip_prefix(b"/")?;
-    names
-        .split(|&byte| byte == b'/')
-        .try_fold(ROOT, |directory, name| {
-            let is_directory = tables.is_kind(directory, DIRECTORY);
-            let mut entries = tables.dirents_in_use(directory).filter(|_| is_directory);
-            let entry = entries.find(|&entry| tables.dirent_name(directory, entry) == name)?;
-            Some(tables.dirent_slot(directory, entry))
-        })
+    let names = path.strip_prefix(b"/")?.split(|&byte| byte == b'/');
+    path::slot_at(tables, names)
 }

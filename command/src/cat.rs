@@ -1,0 +1,30 @@
+//! `cat`: a file's bytes as the host sees them, whatever bits and labels say.
+
+use crate::check;
+use crate::failure::Failure;
+use crate::held;
+use crate::output;
+use crate::path;
+use crate::text;
+use mritvelja::layout::{DIRECTORY, LENGTH};
+use std::ffi::OsStr;
+use std::os::unix::ffi::OsStrExt;
+use std::path::Path;
+
+pub fn cat(store: &Path, file: &OsStr) -> Result<(), Failure> {
+    let tables = held::read(store)?;
+    check::require_sound(store, &tables)?;
+    let refused = |why: &str| Failure::of(store, format!("{}: {why}", text::printable(file)));
+    if !file.as_bytes().starts_with(b"/") {
+        return Err(refused("a path begins with a slash"));
+    }
+    // Slashes in a row count as one, as they do for calls.
+    let names = file.as_bytes().split(|&byte| byte == b'/');
+    let names = names.filter(|name| !name.is_empty());
+    let slot = path::slot_at(&tables, names).ok_or_else(|| refused("name missing"))?;
+    if tables.is_kind(slot, DIRECTORY) {
+        return Err(refused("is a directory"));
+    }
+    let length = tables.file(slot)[LENGTH] as usize;
+    output::print(&tables.block(slot)[..length])
+}
