@@ -2,11 +2,13 @@
 
 use crate::calls::Asked;
 use crate::given::{unexpected, unknown_option, Given, Known};
+use crate::lock::Wait;
 use crate::text;
-use std::ffi::{OsStr, OsString};
+use std::ffi::OsString;
 use std::path::PathBuf;
+use std::time::Duration;
 
-pub const USAGE: &str = "usage: mritvelja new STORE [--from DESCRIPTION | --empty] | describe STORE | replay STORE SCRIPT [--calls N] [--explain] | call STORE PROCESS CALL [PART..] [--hex] | show STORE | cat STORE PATH | check STORE | convert OLD NEW | --help | --version";
+pub const USAGE: &str = "usage: mritvelja new STORE [--from DESCRIPTION | --empty] | describe STORE | replay STORE SCRIPT [--calls N] [--explain] | call STORE PROCESS CALL [PART..] [--hex] | show STORE | cat STORE PATH | check STORE | convert OLD NEW, all but new with [--wait SECONDS] | --help | --version";
 
 pub const HELP: &str = "\
 usage: mritvelja COMMAND
@@ -44,6 +46,8 @@ usage: mritvelja COMMAND
   convert OLD NEW writes the store of the file OLD, of 64 slots, to the new
                   file NEW, of 128; OLD is left as it is
 
+  --wait SECONDS  with all but new: waits so long for another run to let go of
+                  the store, and not without end
   --help          prints this
   --version       prints the version
 
@@ -56,9 +60,9 @@ pub enum Command {
         store: PathBuf,
         contents: Contents,
     },
-    Describe(PathBuf),
+    Describe(Store),
     Replay {
-        store: PathBuf,
+        store: Store,
         script: Input,
         /// How many calls to make at most; no limit if there is none.
         calls: Option<u64>,
@@ -66,24 +70,31 @@ pub enum Command {
         is_explained: bool,
     },
     Call {
-        store: PathBuf,
+        store: Store,
         asked: Asked,
         /// Whether the bytes of a read are printed as hex digits.
         is_hex: bool,
     },
-    Show(PathBuf),
+    Show(Store),
     Cat {
-        store: PathBuf,
+        store: Store,
         /// A path in the store.
         file: OsString,
     },
-    Check(PathBuf),
+    Check(Store),
     Convert {
-        old: PathBuf,
+        old: Store,
         new: PathBuf,
     },
     Help,
     Version,
+}
+
+/// A store's file, and how long to wait for its lock.
+#[derive(Debug, PartialEq, Eq)]
+pub struct Store {
+    pub path: PathBuf,
+    pub wait: Wait,
 }
 
 /// What a new store has in it.
@@ -123,9 +134,14 @@ pub fn parse(arguments: &[OsString]) -> Result<Command, String> {
     }
 }
 
-fn one_store(rest: &[OsString]) -> Result<PathBuf, String> {
-    let [store] = Given::sort(rest, &[])?.operands(["STORE"])?;
-    file("STORE", store)
+const WAIT: Known = ("--wait", Some("SECONDS"));
+
+fn one_store(rest: &[OsString]) -> Result<Store, String> {
+    let mut given = Given::sort(rest, &[WAIT])?;
+    let wait = take_wait(&mut given)?;
+    let [store] = given.operands(["STORE"])?;
+    let path = file("STORE", store)?;
+    Ok(Store { path, wait })
 }
 
 fn parse_new(rest: &[OsString]) -> Result<Command, String> {
@@ -143,28 +159,36 @@ fn parse_new(rest: &[OsString]) -> Result<Command, String> {
 }
 
 fn parse_replay(rest: &[OsString]) -> Result<Command, String> {
-    const KNOWN: [Known; 2] = [("--calls", Some("a number")), ("--explain", None)];
+    const KNOWN: [Known; 3] = [("--calls", Some("a number")), ("--explain", None), WAIT];
     let mut given = Given::sort(rest, &KNOWN)?;
+    let wait = take_wait(&mut given)?;
     let is_explained = given.take("--explain").is_some();
-    let calls = given.take("--calls").map(|word| parse_calls(&word));
+    let calls = take_number(&mut given, "--calls")?;
     let [store, script] = given.operands(["STORE", "SCRIPT"])?;
     Ok(Command::Replay {
-        store: file("STORE", store)?,
+        store: Store {
+            path: file("STORE", store)?,
+            wait,
+        },
         script: input("SCRIPT", script)?,
-        calls: calls.transpose()?,
+        calls,
         is_explained,
     })
 }
 
 fn parse_call(rest: &[OsString]) -> Result<Command, String> {
-    let mut given = Given::sort(rest, &[("--hex", None)])?;
+    let mut given = Given::sort(rest, &[("--hex", None), WAIT])?;
+    let wait = take_wait(&mut given)?;
     let is_hex = given.take("--hex").is_some();
     match &given.all_operands()[..] {
         [] => Err("no STORE is given".into()),
         [_] => Err("no PROCESS is given".into()),
         [_, _] => Err("no CALL is given".into()),
         [store, process, name, operands @ ..] => Ok(Command::Call {
-            store: file("STORE", store.clone())?,
+            store: Store {
+                path: file("STORE", store.clone())?,
+                wait,
+            },
             asked: Asked::parse(process, name, operands)?,
             is_hex,
         }),
@@ -172,28 +196,43 @@ fn parse_call(rest: &[OsString]) -> Result<Command, String> {
 }
 
 fn parse_cat(rest: &[OsString]) -> Result<Command, String> {
-    let [store, file_in_it] = Given::sort(rest, &[])?.operands(["STORE", "PATH"])?;
+    let mut given = Given::sort(rest, &[WAIT])?;
+    let wait = take_wait(&mut given)?;
+    let [store, inner] = given.operands(["STORE", "PATH"])?;
+    let path = file("STORE", store)?;
     Ok(Command::Cat {
-        store: file("STORE", store)?,
-        file: file_in_it,
+        store: Store { path, wait },
+        file: inner,
     })
 }
 
 fn parse_convert(rest: &[OsString]) -> Result<Command, String> {
-    let [old, new] = Given::sort(rest, &[])?.operands(["OLD", "NEW"])?;
+    let mut given = Given::sort(rest, &[WAIT])?;
+    let wait = take_wait(&mut given)?;
+    let [old, new] = given.operands(["OLD", "NEW"])?;
+    let path = file("OLD", old)?;
     Ok(Command::Convert {
-        old: file("OLD", old)?,
+        old: Store { path, wait },
         new: file("NEW", new)?,
     })
 }
 
-fn parse_calls(word: &OsStr) -> Result<u64, String> {
-    let word = text::printable(word);
+fn take_wait(given: &mut Given) -> Result<Wait, String> {
+    let seconds = take_number(given, WAIT.0)?;
+    Ok(seconds.map(Duration::from_secs))
+}
+
+/// Takes an option's value as a whole number, if it is given.
+fn take_number(given: &mut Given, name: &str) -> Result<Option<u64>, String> {
+    let Some(word) = given.take(name) else {
+        return Ok(None);
+    };
+    let word = text::printable(&word);
     let is_number = !word.is_empty() && word.bytes().all(|byte| byte.is_ascii_digit());
     match word.parse() {
-        Ok(calls) if is_number => Ok(calls),
-        _ if is_number => Err(format!("--calls: {word} is too large")),
-        _ => Err(format!("--calls: not a whole number: {word}")),
+        Ok(number) if is_number => Ok(Some(number)),
+        _ if is_number => Err(format!("{name}: {word} is too large")),
+        _ => Err(format!("{name}: not a whole number: {word}")),
     }
 }
 
@@ -222,9 +261,16 @@ mod tests {
         parse(&words)
     }
 
+    fn bus(wait: Option<u64>) -> Store {
+        Store {
+            path: "bus".into(),
+            wait: wait.map(Duration::from_secs),
+        }
+    }
+
     fn replay(script: Input, calls: Option<u64>) -> Result<Command, String> {
         Ok(Command::Replay {
-            store: "bus".into(),
+            store: bus(None),
             script,
             calls,
             is_explained: false,
@@ -245,13 +291,14 @@ mod tests {
             parsed("new --from=- bus"),
             new(Contents::Description(Input::Standard))
         );
-        assert_eq!(parsed("describe bus"), Ok(Command::Describe("bus".into())));
-        assert_eq!(parsed("show bus"), Ok(Command::Show("bus".into())));
-        assert_eq!(parsed("check bus"), Ok(Command::Check("bus".into())));
+        assert_eq!(parsed("describe bus"), Ok(Command::Describe(bus(None))));
+        assert_eq!(parsed("show bus"), Ok(Command::Show(bus(None))));
+        assert_eq!(parsed("check bus"), Ok(Command::Check(bus(None))));
+        assert_eq!(parsed("show bus --wait 0"), Ok(Command::Show(bus(Some(0)))));
         assert_eq!(
             parsed("convert bus bus.new"),
             Ok(Command::Convert {
-                old: "bus".into(),
+                old: bus(None),
                 new: "bus.new".into()
             })
         );
@@ -308,6 +355,9 @@ mod tests {
             "replay bus day --calls 99999999999999999999",
             "replay bus day --calls 1 --calls 2",
             "replay bus day --calls=",
+            "show bus --wait",
+            "show bus --wait soon",
+            "new bus --wait 1",
             "replay bus -- day --calls 1",
         ] {
             assert!(parsed(line).is_err(), "{line}");

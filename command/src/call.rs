@@ -1,7 +1,7 @@
 //! `call`: one call on a store, its answer in words.
 
 use crate::answers::{self, Told};
-use crate::arguments::Input;
+use crate::arguments::{Input, Store};
 use crate::calls::{Asked, Part};
 use crate::check;
 use crate::failure::Failure;
@@ -11,16 +11,15 @@ use crate::output;
 use crate::streams;
 use crate::text;
 use mritvelja::{calls, Answer, Request};
-use std::path::Path;
 
 /// Makes the call, saves the store, then prints the answer. Answers whether all is well: the call is
 /// granted, and the store's name is on the disk.
-pub fn call(store: &Path, asked: &Asked, is_hex: bool) -> Result<bool, Failure> {
+pub fn call(store: &Store, asked: &Asked, is_hex: bool) -> Result<bool, Failure> {
     streams::require_output()?;
     let given = read_data(asked)?;
     let held = Held::new(store)?;
     let before = held.load()?;
-    check::require_sound(store, &before)?;
+    check::require_sound(&store.path, &before)?;
     let mut after = before.clone();
     let mut buffer = vec![0; asked.number.into()];
     let answer = mritvelja::call(&mut after, &request(asked, given.as_deref()), &mut buffer);

@@ -1,5 +1,6 @@
 //! `cat`: a file's bytes as the host sees them, whatever bits and labels say.
 
+use crate::arguments::Store;
 use crate::check;
 use crate::failure::Failure;
 use crate::held;
@@ -9,12 +10,11 @@ use crate::text;
 use mritvelja::layout::{DIRECTORY, LENGTH};
 use std::ffi::OsStr;
 use std::os::unix::ffi::OsStrExt;
-use std::path::Path;
 
-pub fn cat(store: &Path, file: &OsStr) -> Result<(), Failure> {
+pub fn cat(store: &Store, file: &OsStr) -> Result<(), Failure> {
     let tables = held::read(store)?;
-    check::require_sound(store, &tables)?;
-    let refused = |why: &str| Failure::of(store, format!("{}: {why}", text::printable(file)));
+    check::require_sound(&store.path, &tables)?;
+    let refused = |why: &str| Failure::of(&store.path, format!("{}: {why}", text::printable(file)));
     if !file.as_bytes().starts_with(b"/") {
         return Err(refused("a path begins with a slash"));
     }

@@ -1,5 +1,6 @@
 //! `check`: the verdict is the proved store's; the diagnosis says where and why.
 
+use crate::arguments::Store;
 use crate::diagnosis::{self, Defect};
 use crate::failure::Failure;
 use crate::held;
@@ -8,7 +9,7 @@ use mritvelja::Tables;
 use std::path::Path;
 
 /// Says whether a store is sound, and answers that.
-pub fn check(store: &Path) -> Result<bool, Failure> {
+pub fn check(store: &Store) -> Result<bool, Failure> {
     match defect(&held::read(store)?)? {
         None => output::print(b"sound\n").map(|()| true),
         Some(defect) => output::print(format!("{defect}\n").as_bytes()).map(|()| false),

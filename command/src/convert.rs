@@ -1,12 +1,13 @@
 //! `convert`: a store file of 64 slots as one of 128, in a new file. The old one is only read.
 
+use crate::arguments::Store;
 use crate::check;
 use crate::failure::Failure;
 use crate::held::{self, Warning};
 use std::path::Path;
 
-pub fn convert(old: &Path, new: &Path) -> Result<Warning, Failure> {
+pub fn convert(old: &Store, new: &Path) -> Result<Warning, Failure> {
     let tables = held::read_former(old)?;
-    check::require_sound(old, &tables)?;
+    check::require_sound(&old.path, &tables)?;
     held::create(new, &tables)
 }

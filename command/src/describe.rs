@@ -1,14 +1,14 @@
 //! `describe`: a sound store as text from which it can be made again.
 
+use crate::arguments::Store;
 use crate::check;
 use crate::description;
 use crate::failure::Failure;
 use crate::held;
 use crate::output;
-use std::path::Path;
 
-pub fn describe(store: &Path) -> Result<(), Failure> {
+pub fn describe(store: &Store) -> Result<(), Failure> {
     let tables = held::read(store)?;
-    check::require_sound(store, &tables)?;
+    check::require_sound(&store.path, &tables)?;
     output::print(description::write(&tables).as_bytes())
 }

@@ -1,26 +1,33 @@
 //! A store file as it lies on the disk: read, made, and held while it is changed.
 
+use crate::arguments::Store;
 use crate::failure::Failure;
 use crate::format::{self, Refused, FORMER_SLOTS};
+use crate::lock::{self, Kind};
 use crate::save::{self, Trouble, CANNOT_BE_SAVED};
-use crate::temporary::Temporary;
+use crate::temporary::{self, Temporary};
 use crate::text;
 use mritvelja::layout::SLOTS;
 use mritvelja::Tables;
 use std::fs::{self, File};
 use std::io::{self, ErrorKind, Read, Seek};
-use std::os::unix::fs::MetadataExt;
 use std::path::{Path, PathBuf};
 
-/// Reads a store. A saved store is replaced whole, so that none is ever half read.
-pub fn read(path: &Path) -> Result<Tables, Failure> {
-    decode(path, &Bytes::of(path, &open(path, path)?)?)
+/// Reads a store, when no run changes it.
+pub fn read(store: &Store) -> Result<Tables, Failure> {
+    decode(&store.path, &read_bytes(store)?)
 }
 
 /// Reads a store from a file of 64 slots.
-pub fn read_former(path: &Path) -> Result<Tables, Failure> {
-    let bytes = Bytes::of(path, &open(path, path)?)?;
-    format::decode_former(&bytes.first, bytes.length).map_err(|why| Failure::of(path, why))
+pub fn read_former(store: &Store) -> Result<Tables, Failure> {
+    let bytes = read_bytes(store)?;
+    let tables = format::decode_former(&bytes.first, bytes.length);
+    tables.map_err(|why| Failure::of(&store.path, why))
+}
+
+fn read_bytes(store: &Store) -> Result<Bytes, Failure> {
+    let (_, file) = lock::open(store, Kind::Shared)?;
+    Bytes::of(&store.path, &file)
 }
 
 /// What remains to be told of a store that is in its file: nothing, or what may become of it.
@@ -36,6 +43,7 @@ pub fn create(path: &Path, tables: &Tables) -> Result<Warning, Failure> {
     if fs::symlink_metadata(path).is_ok() {
         return Err(cannot(ErrorKind::AlreadyExists.into()));
     }
+    temporary::clear(path);
     let temporary = Temporary::beside(path).map_err(cannot)?;
     temporary
         .write(&format::encode(tables))
@@ -66,23 +74,16 @@ pub struct Held {
 }
 
 impl Held {
-    /// Waits until no other run holds the store.
-    pub fn new(named: &Path) -> Result<Held, Failure> {
-        loop {
-            let path = fs::canonicalize(named)
-                .map_err(|error| Failure::tried(named, "cannot be opened", &error))?;
-            let file = open(&path, named)?;
-            file.lock()
-                .map_err(|error| Failure::tried(named, "cannot be locked", &error))?;
-            if is_at(&file, &path) {
-                return Ok(Held {
-                    named: named.to_path_buf(),
-                    path,
-                    bytes: Bytes::of(named, &file)?,
-                    file,
-                });
-            }
-        }
+    /// Waits until no other run holds the store. What runs that were cut off left beside it goes.
+    pub fn new(store: &Store) -> Result<Held, Failure> {
+        let (path, file) = lock::open(store, Kind::Exclusive)?;
+        temporary::clear(&path);
+        Ok(Held {
+            named: store.path.clone(),
+            path,
+            bytes: Bytes::of(&store.path, &file)?,
+            file,
+        })
     }
 
     pub fn load(&self) -> Result<Tables, Failure> {
@@ -105,8 +106,8 @@ impl Held {
 
     /// Other programs know nothing of the lock. What they did with the file is not overwritten.
     fn require_as_read(&self) -> Result<(), Failure> {
-        let is_as_read = is_at(&self.file, &self.named)
-            && is_at(&self.file, &self.path)
+        let is_as_read = lock::has_name(&self.file, &self.named)
+            && lock::has_name(&self.file, &self.path)
             && Bytes::of(&self.named, &self.file)? == self.bytes;
         match is_as_read {
             true => Ok(()),
@@ -116,24 +117,6 @@ impl Held {
             )),
         }
     }
-}
-
-/// Whether an open file still has a name.
-fn is_at(file: &File, path: &Path) -> bool {
-    let identity = |metadata: fs::Metadata| (metadata.dev(), metadata.ino());
-    match (file.metadata(), fs::metadata(path)) {
-        (Ok(held), Ok(there)) => identity(held) == identity(there),
-        _ => false,
-    }
-}
-
-fn open(path: &Path, named: &Path) -> Result<File, Failure> {
-    let cannot = |error| Failure::tried(named, "cannot be opened", &error);
-    // Looked at before it is opened: opening a pipe would wait for its other end.
-    if !fs::metadata(path).map_err(cannot)?.is_file() {
-        return Err(Failure::of(named, "is not a regular file"));
-    }
-    File::open(path).map_err(cannot)
 }
 
 fn decode(path: &Path, bytes: &Bytes) -> Result<Tables, Failure> {

@@ -21,6 +21,7 @@ mod format;
 mod given;
 mod held;
 mod input;
+mod lock;
 mod memory;
 mod new;
 mod output;

@@ -1,7 +1,7 @@
 //! `replay`: runs a script in memory; then saves the store, then prints the answers.
 
 use crate::answers;
-use crate::arguments::Input;
+use crate::arguments::{Input, Store};
 use crate::broken;
 use crate::check;
 use crate::explain;
@@ -13,13 +13,12 @@ use crate::output;
 use crate::pieces::{self, Lost, Reason, Replayed};
 use crate::streams;
 use crate::text;
-use std::path::Path;
 
 const NO_MEMORY: &str = "the answers do not fit the memory; nothing was changed";
 
 /// What was saved is answered, also where the name of the store may be lost.
 pub fn replay(
-    store: &Path,
+    store: &Store,
     script: &Input,
     calls: Option<u64>,
     is_explained: bool,
@@ -29,7 +28,7 @@ pub fn replay(
     let bytes = input::read(script)?;
     let held = Held::new(store)?;
     let before = held.load()?;
-    check::require_sound(store, &before)?;
+    check::require_sound(&store.path, &before)?;
 
     let mut after = before.clone();
     let run = pieces::run(&mut after, &bytes, calls).map_err(|lost| failure(script, lost))?;

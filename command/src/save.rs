@@ -2,7 +2,7 @@
 
 use crate::attributes;
 use crate::system;
-use crate::temporary::Temporary;
+use crate::temporary::{self, Temporary};
 use std::fs::{self, File, OpenOptions};
 use std::io;
 use std::os::unix::fs::{fchown, MetadataExt};
@@ -48,11 +48,7 @@ fn keep_owner(file: &File, old: &fs::Metadata) -> io::Result<()> {
 
 /// Sees to it that a file's name is on the disk, as its bytes are.
 pub fn sync_name(path: &Path, file: &File) -> io::Result<()> {
-    let directory = match path.parent() {
-        Some(parent) if parent != Path::new("") => parent,
-        _ => Path::new("."),
-    };
-    match File::open(directory) {
+    match File::open(temporary::directory(path)) {
         Ok(directory) => directory.sync_all(),
         // A directory that may be written need not be one that may be read.
         Err(_) => system::sync_file_system(file),

@@ -1,14 +1,19 @@
 //! A file beside the store, which takes the store's name when it is whole and on the disk.
 
 use crate::system;
+use std::ffi::{OsStr, OsString};
 use std::fs::{self, File, OpenOptions};
 use std::io::{self, ErrorKind, Write};
+use std::os::unix::ffi::{OsStrExt, OsStringExt};
 use std::os::unix::fs::OpenOptionsExt;
 use std::path::{Path, PathBuf};
 use std::process;
 
 /// A saved store shows every file's bytes, so that a new one is its maker's alone.
 const MODE: u32 = 0o600;
+const ENDING: &str = ".tmp";
+/// Leaves room in a name of 255 bytes for what else is in it.
+const LONGEST_STORE: usize = 200;
 
 pub struct Temporary {
     path: PathBuf,
@@ -16,11 +21,12 @@ pub struct Temporary {
 }
 
 impl Temporary {
-    /// A new file in the same directory. What other runs left there is not touched.
+    /// A new file in the same directory.
     pub fn beside(path: &Path) -> io::Result<Temporary> {
         let mut number = 0;
         loop {
-            let name = format!(".mritvelja-{}-{number}.tmp", process::id());
+            let mut name = beginning(path);
+            name.push(format!("{}-{number}{ENDING}", process::id()));
             let path = path.with_file_name(name);
             let made = OpenOptions::new()
                 .write(true)
@@ -28,7 +34,11 @@ impl Temporary {
                 .mode(MODE)
                 .open(&path);
             match made {
-                Ok(file) => return Ok(Temporary { path, file }),
+                Ok(file) => {
+                    // As long as its maker runs it is no leftover. Where there are no locks, none is cleared.
+                    let _ = file.try_lock();
+                    return Ok(Temporary { path, file });
+                }
                 Err(error) if error.kind() == ErrorKind::AlreadyExists => number += 1,
                 Err(error) => return Err(error),
             }
@@ -64,6 +74,42 @@ impl Temporary {
             }
             renamed => renamed,
         }
+    }
+}
+
+/// What the names of a store's temporary files begin with.
+fn beginning(path: &Path) -> OsString {
+    let store = path.file_name().unwrap_or_default().as_bytes();
+    let store = &store[..store.len().min(LONGEST_STORE)];
+    let name = [b".", store, b".mritvelja-"].concat();
+    OsString::from_vec(name)
+}
+
+/// Removes the temporary files of a store whose makers were cut off. One that is still being written is locked.
+pub fn clear(path: &Path) {
+    let beginning = beginning(path);
+    let entries = fs::read_dir(directory(path))
+        .into_iter()
+        .flatten()
+        .flatten();
+    let is_ours = |name: &OsStr| {
+        let name = name.as_bytes();
+        name.starts_with(beginning.as_bytes()) && name.ends_with(ENDING.as_bytes())
+    };
+    for entry in entries.filter(|entry| is_ours(&entry.file_name())) {
+        let is_file = entry.file_type().is_ok_and(|kind| kind.is_file());
+        let file = is_file.then(|| File::open(entry.path()).ok()).flatten();
+        if file.is_some_and(|file| file.try_lock().is_ok()) {
+            let _ = fs::remove_file(entry.path());
+        }
+    }
+}
+
+/// The directory in which a file is.
+pub fn directory(path: &Path) -> &Path {
+    match path.parent() {
+        Some(parent) if parent != Path::new("") => parent,
+        _ => Path::new("."),
     }
 }
 

@@ -15,13 +15,31 @@ holds "the store behind it is saved" cmp bus whole
 holds "the permissions are kept" test "$(stat -c %a bus)" = 640
 holds "nothing is left beside the store" no_leftovers
 
-# The name that this very process will take first is taken.
+# The name that this very process will take first is taken, by a file that another process still holds.
 fresh bus
-gives "an old temporary file beside the store" 0 'the store is saved' \
-    bash -c 'echo old >.mritvelja-$$-0.tmp; exec "$0" replay bus day' "$mritvelja"
+gives "a temporary file of another run" 0 'the store is saved' bash -c 'exec 9>.bus.mritvelja-$$-0.tmp; flock 9; echo held >&9
+    exec "$0" replay bus day' "$mritvelja"
 holds "the store is saved all the same" cmp bus whole
-holds "the old temporary file is left as it is" grep -qx old .mritvelja-*-0.tmp
-rm -f .mritvelja-*
+holds "the other run's file is left as it is" grep -q held .bus.mritvelja-*-0.tmp
+rm -f .*.tmp
+
+# What runs that were killed left goes with the next run that holds the lock: of this store, and nothing else.
+fresh bus
+for call in write fsync rename; do
+    failing "$call 1 kill" "$mritvelja" replay bus day >out 2>err || true
+    holds "a run killed at its $call leaves one file, which names its store" test "$(find . -name '.bus.mritvelja-*.tmp' | wc -l)" -eq 1
+done
+touch .other.mritvelja-1-0.tmp .bus.mritvelja-1-0.keep
+mkdir .bus.mritvelja-1-1.tmp
+ln -s day .bus.mritvelja-1-2.tmp
+gives "the run after those that were killed" 0 'the store is saved' "$mritvelja" replay bus day
+holds "the run after those that were killed: the store" cmp bus whole
+holds "leftovers of the store are cleared, and nothing else" test "$(find . -name '.*mritvelja-*' | sort | tr -d '\n')" = \
+    "./.bus.mritvelja-1-0.keep./.bus.mritvelja-1-1.tmp./.bus.mritvelja-1-2.tmp./.other.mritvelja-1-0.tmp"
+rm -rf .*mritvelja-*
+long=$(printf 'l%.0s' {1..255})
+fresh "$long"
+gives "a store of the longest name" 0 'the store is saved' "$mritvelja" replay "$long" day
 
 # A disk that takes no more: the system refuses the write, or stops the process in the middle of it.
 fresh bus
@@ -37,7 +55,7 @@ holds "stopped in the middle, no answer is printed" test ! -s out
 holds "stopped in the middle, the old store stays" cmp bus console
 gives "stopped in the middle, the next run goes on" 0 'the store is saved' "$mritvelja" replay bus day
 holds "and saves the store" cmp bus whole
-rm -f .mritvelja-*
+rm -f .*.tmp
 refuses "a new store that cannot be written whole" 'fresh: cannot be made: File too large' \
     bash -c 'trap "" XFSZ; ulimit -f 8; exec "$0" new fresh' "$mritvelja"
 holds "nothing is left of it" test ! -e fresh

@@ -6,17 +6,17 @@ mod tree;
 
 pub use tree::{fields, kind};
 
+use crate::arguments::Store;
 use crate::check;
 use crate::failure::Failure;
 use crate::held;
 use crate::output;
 use mritvelja::Tables;
-use std::path::Path;
 
-pub fn show(store: &Path) -> Result<(), Failure> {
+pub fn show(store: &Store) -> Result<(), Failure> {
     let tables = held::read(store)?;
     // Only of a sound store is it known that its directories are a tree.
-    check::require_sound(store, &tables)?;
+    check::require_sound(&store.path, &tables)?;
     output::print((lines(&tables).join("\n") + "\n").as_bytes())
 }
 
