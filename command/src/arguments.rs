@@ -8,52 +8,6 @@ use std::ffi::OsString;
 use std::path::PathBuf;
 use std::time::Duration;
 
-pub const USAGE: &str = "usage: mritvelja new STORE [--from DESCRIPTION | --empty] | describe STORE | replay STORE SCRIPT [--calls N] [--explain] | call STORE PROCESS CALL [PART..] [--hex] | show STORE | cat STORE PATH | check STORE | convert OLD NEW, all but new with [--wait SECONDS] | --help | --version";
-
-pub const HELP: &str = "\
-usage: mritvelja COMMAND
-
-  new STORE       writes the test console to a new store file
-  new STORE --from DESCRIPTION
-                  writes the store of a description; DESCRIPTION may be - for
-                  standard input
-  new STORE --empty
-                  writes a store with a root directory and nothing else
-  describe STORE  prints a description of the store, for new --from
-  replay STORE SCRIPT [--calls N] [--explain]
-                  runs a script on the store, saves the store, prints the
-                  answers; SCRIPT may be - for standard input, and N is how
-                  many calls to make at most; --explain puts a line in words
-                  before each answer
-  call STORE PROCESS CALL [PART..] [--hex]
-                  makes one call, saves the store, prints the answer in words:
-                    open PATH MODE        create PATH BITS
-                    make-directory PATH BITS
-                    unlink PATH           remove-directory PATH
-                    link PATH NEW         list PATH INDEX
-                    change-bits PATH BITS stat PATH
-                    close DESCRIPTOR      read DESCRIPTOR [SIZE]
-                    write DESCRIPTOR DATA seek DESCRIPTOR POSITION
-                    duplicate DESCRIPTOR  fork
-                    exit                  execute PATH
-                  MODE is read, write, both or append, and perhaps ,truncate;
-                  BITS are none, or read, write and execute with commas; DATA may
-                  be - for standard input; a read's bytes go to standard output
-                  as they are, or as hex
-  show STORE      prints the files, open files, processes and policy
-  cat STORE PATH  prints the bytes of a file, whatever bits and labels say
-  check STORE     says whether the store is sound, or what is wrong and where
-  convert OLD NEW writes the store of the file OLD, of 64 slots, to the new
-                  file NEW, of 128; OLD is left as it is
-
-  --wait SECONDS  with all but new: waits so long for another run to let go of
-                  the store, and not without end
-  --help          prints this
-  --version       prints the version
-
-The status is 0 if all is well, 1 if not, 2 if the arguments are wrong.
-";
-
 #[derive(Debug, PartialEq, Eq)]
 pub enum Command {
     New {
@@ -86,7 +40,8 @@ pub enum Command {
         old: Store,
         new: PathBuf,
     },
-    Help,
+    /// The page of a command, or what there is if it names none.
+    Help(String),
     Version,
 }
 
@@ -114,21 +69,22 @@ pub enum Input {
 /// The command, or what is wrong with the arguments.
 pub fn parse(arguments: &[OsString]) -> Result<Command, String> {
     let (first, rest) = arguments.split_first().ok_or("no command is given")?;
-    if arguments.iter().any(|argument| argument == "--help") {
-        return Ok(Command::Help);
-    }
     let name = text::printable(first);
-    match name.as_str() {
-        "--version" if rest.is_empty() => Ok(Command::Version),
-        "new" => parse_new(rest),
-        "describe" => one_store(rest).map(Command::Describe),
-        "show" => one_store(rest).map(Command::Show),
-        "check" => one_store(rest).map(Command::Check),
-        "replay" => parse_replay(rest),
-        "call" => parse_call(rest),
-        "cat" => parse_cat(rest),
-        "convert" => parse_convert(rest),
-        "--version" => Err(unexpected(&rest[0])),
+    let mut options = arguments.iter().take_while(|&word| word != "--");
+    if options.any(|word| word == "--help" || word == "-h") {
+        return Ok(Command::Help(name));
+    }
+    match (name.as_str(), rest) {
+        ("--version" | "-V", []) => Ok(Command::Version),
+        ("--version" | "-V", [more, ..]) => Err(unexpected(more)),
+        ("new", _) => parse_new(rest),
+        ("describe", _) => one_store(rest).map(Command::Describe),
+        ("show", _) => one_store(rest).map(Command::Show),
+        ("check", _) => one_store(rest).map(Command::Check),
+        ("replay", _) => parse_replay(rest),
+        ("call", _) => parse_call(rest),
+        ("cat", _) => parse_cat(rest),
+        ("convert", _) => parse_convert(rest),
         _ if name.starts_with('-') => Err(unknown_option(first)),
         _ => Err(format!("unknown command: {name}")),
     }
@@ -302,9 +258,16 @@ mod tests {
                 new: "bus.new".into()
             })
         );
-        assert_eq!(parsed("--help"), Ok(Command::Help));
-        assert_eq!(parsed("replay --help"), Ok(Command::Help));
+        for (line, page) in [
+            ("--help", "--help"),
+            ("-h", "-h"),
+            ("replay --help", "replay"),
+            ("call bus 2 -h", "call"),
+        ] {
+            assert_eq!(parsed(line), Ok(Command::Help(page.into())));
+        }
         assert_eq!(parsed("--version"), Ok(Command::Version));
+        assert_eq!(parsed("-V"), Ok(Command::Version));
     }
 
     #[test]
@@ -328,6 +291,8 @@ mod tests {
             "open bus",
             "-x",
             "--version bus",
+            "-V bus",
+            "cat bus -- -h more",
             "new",
             "new -x",
             "new bus bus",

@@ -20,6 +20,7 @@ mod failure;
 mod format;
 mod given;
 mod held;
+mod help;
 mod input;
 mod lock;
 mod memory;
@@ -36,7 +37,7 @@ mod system;
 mod temporary;
 mod text;
 
-use arguments::{Command, HELP, USAGE};
+use arguments::Command;
 use failure::Failure;
 use std::env;
 use std::ffi::OsString;
@@ -55,7 +56,9 @@ fn main() -> ExitCode {
             ExitCode::from(FAILED)
         }),
         Err(complaint) => {
-            output::tell(format_args!("{complaint}\n{USAGE}"));
+            let command = arguments.first().and_then(|first| first.to_str());
+            let usage = help::usage(command.unwrap_or_default());
+            output::tell(format_args!("{complaint}\n{usage}"));
             ExitCode::from(BAD_ARGUMENTS)
         }
     }
@@ -80,7 +83,7 @@ fn carry_out(command: &Command) -> Result<ExitCode, Failure> {
         Command::Cat { store, file } => cat::cat(store, file).map(|()| true)?,
         Command::Check(store) => check::check(store)?,
         Command::Convert { old, new } => output::tell_warning(convert::convert(old, new)?),
-        Command::Help => output::print(HELP.as_bytes()).map(|()| true)?,
+        Command::Help(command) => output::print(help::help(command).as_bytes()).map(|()| true)?,
         Command::Version => output::print(VERSION.as_bytes()).map(|()| true)?,
     };
     Ok(match is_well {
