@@ -14,7 +14,10 @@ pub enum Command {
         store: PathBuf,
         contents: Contents,
     },
-    Describe(Store),
+    Describe {
+        store: Store,
+        form: Form,
+    },
     Replay {
         store: Store,
         script: Input,
@@ -29,13 +32,19 @@ pub enum Command {
         /// Whether the bytes of a read are printed as hex digits.
         is_hex: bool,
     },
-    Show(Store),
+    Show {
+        store: Store,
+        form: Form,
+    },
     Cat {
         store: Store,
         /// A path in the store.
         file: OsString,
     },
-    Check(Store),
+    Check {
+        store: Store,
+        form: Form,
+    },
     Convert {
         old: Store,
         new: PathBuf,
@@ -50,6 +59,15 @@ pub enum Command {
 pub struct Store {
     pub path: PathBuf,
     pub wait: Wait,
+}
+
+/// Whom what is printed is for.
+#[derive(Clone, Copy, Debug, PartialEq, Eq)]
+pub enum Form {
+    /// People.
+    Text,
+    /// Programs.
+    Json,
 }
 
 /// What a new store has in it.
@@ -78,9 +96,9 @@ pub fn parse(arguments: &[OsString]) -> Result<Command, String> {
         ("--version" | "-V", []) => Ok(Command::Version),
         ("--version" | "-V", [more, ..]) => Err(unexpected(more)),
         ("new", _) => parse_new(rest),
-        ("describe", _) => one_store(rest).map(Command::Describe),
-        ("show", _) => one_store(rest).map(Command::Show),
-        ("check", _) => one_store(rest).map(Command::Check),
+        ("describe", _) => printed(rest).map(|(store, form)| Command::Describe { store, form }),
+        ("show", _) => printed(rest).map(|(store, form)| Command::Show { store, form }),
+        ("check", _) => printed(rest).map(|(store, form)| Command::Check { store, form }),
         ("replay", _) => parse_replay(rest),
         ("call", _) => parse_call(rest),
         ("cat", _) => parse_cat(rest),
@@ -92,12 +110,17 @@ pub fn parse(arguments: &[OsString]) -> Result<Command, String> {
 
 const WAIT: Known = ("--wait", Some("SECONDS"));
 
-fn one_store(rest: &[OsString]) -> Result<Store, String> {
-    let mut given = Given::sort(rest, &[WAIT])?;
+/// The store that a command prints something of, and in what form.
+fn printed(rest: &[OsString]) -> Result<(Store, Form), String> {
+    let mut given = Given::sort(rest, &[("--json", None), WAIT])?;
     let wait = take_wait(&mut given)?;
+    let form = match given.take("--json") {
+        Some(_) => Form::Json,
+        None => Form::Text,
+    };
     let [store] = given.operands(["STORE"])?;
     let path = file("STORE", store)?;
-    Ok(Store { path, wait })
+    Ok((Store { path, wait }, form))
 }
 
 fn parse_new(rest: &[OsString]) -> Result<Command, String> {
@@ -247,10 +270,16 @@ mod tests {
             parsed("new --from=- bus"),
             new(Contents::Description(Input::Standard))
         );
-        assert_eq!(parsed("describe bus"), Ok(Command::Describe(bus(None))));
-        assert_eq!(parsed("show bus"), Ok(Command::Show(bus(None))));
-        assert_eq!(parsed("check bus"), Ok(Command::Check(bus(None))));
-        assert_eq!(parsed("show bus --wait 0"), Ok(Command::Show(bus(Some(0)))));
+        let text = |wait| (bus(wait), Form::Text);
+        let show = |(store, form)| Ok(Command::Show { store, form });
+        let check = |(store, form)| Ok(Command::Check { store, form });
+        let describe = |(store, form)| Ok(Command::Describe { store, form });
+        assert_eq!(parsed("describe bus"), describe(text(None)));
+        let json = (bus(None), Form::Json);
+        assert_eq!(parsed("describe --json bus"), describe(json));
+        assert_eq!(parsed("show bus"), show(text(None)));
+        assert_eq!(parsed("check bus"), check(text(None)));
+        assert_eq!(parsed("show bus --wait 0"), show(text(Some(0))));
         assert_eq!(
             parsed("convert bus bus.new"),
             Ok(Command::Convert {

@@ -59,11 +59,11 @@ fn request<'a>(asked: &'a Asked, data: Option<&'a [u8]>) -> Request<'a> {
 fn print(asked: &Asked, answer: &Answer, buffer: &[u8], is_hex: bool) -> Result<(), Failure> {
     let words = answers::words(asked.call, &Told::from(answer));
     if asked.call != calls::READ.into() {
-        return output::print(format!("{words}\n").as_bytes());
+        return output::print_line(words);
     }
     let bytes = &buffer[..answer.value as usize];
     let printed = match is_hex {
-        true => output::print(format!("{}\n", text::hex(bytes)).as_bytes()),
+        true => output::print_line(text::hex(bytes)),
         false => output::print(bytes),
     };
     output::tell(words);

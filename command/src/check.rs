@@ -1,19 +1,33 @@
 //! `check`: the verdict is the proved store's; the diagnosis says where and why.
 
-use crate::arguments::Store;
+use crate::arguments::{Form, Store};
 use crate::diagnosis::{self, Defect};
 use crate::failure::Failure;
 use crate::held;
+use crate::json::Json;
 use crate::output;
 use mritvelja::Tables;
 use std::path::Path;
 
 /// Says whether a store is sound, and answers that.
-pub fn check(store: &Store) -> Result<bool, Failure> {
-    match defect(&held::read(store)?)? {
-        None => output::print(b"sound\n").map(|()| true),
-        Some(defect) => output::print(format!("{defect}\n").as_bytes()).map(|()| false),
+pub fn check(store: &Store, form: Form) -> Result<bool, Failure> {
+    let defect = defect(&held::read(store)?)?;
+    let is_sound = defect.is_none();
+    match (form, defect) {
+        (Form::Text, None) => output::print_line("sound")?,
+        (Form::Text, Some(defect)) => output::print_line(defect)?,
+        (Form::Json, defect) => output::print_line(verdict(defect))?,
     }
+    Ok(is_sound)
+}
+
+fn verdict(defect: Option<Defect>) -> Json {
+    let mut fields = vec![("sound", defect.is_none().into())];
+    if let Some(Defect { clause, place }) = defect {
+        fields.push(("clause", clause.into()));
+        fields.push(("where", place.into()));
+    }
+    Json::Object(fields)
 }
 
 /// Refuses a store that is not sound.

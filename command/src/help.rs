@@ -34,11 +34,13 @@ left as it is.
     },
     Page {
         command: "describe",
-        arguments: "STORE [--wait SECONDS]",
+        arguments: "STORE [--json] [--wait SECONDS]",
         summary: "prints a store as text, for new --from",
         text: "
 Prints the store as text, one line a thing, from which new --from makes the
 same store again.
+
+  --json          prints it as JSON, which new does not read
 ",
     },
     Page {
@@ -80,10 +82,12 @@ be - for standard input. The bytes of a read go to standard output.
     },
     Page {
         command: "show",
-        arguments: "STORE [--wait SECONDS]",
+        arguments: "STORE [--json] [--wait SECONDS]",
         summary: "prints what is in a store, for people",
         text: "
 Prints the files, open files, processes and policy, a line each.
+
+  --json          prints them as JSON
 ",
     },
     Page {
@@ -96,11 +100,13 @@ Prints the bytes of a file of the store, whatever its bits and label say.
     },
     Page {
         command: "check",
-        arguments: "STORE [--wait SECONDS]",
+        arguments: "STORE [--json] [--wait SECONDS]",
         summary: "says whether a store is sound",
         text: "
 Says whether the store is sound, or what is wrong and where; then the status
 is 1.
+
+  --json          says it as JSON
 ",
     },
     Page {

@@ -22,6 +22,7 @@ mod given;
 mod held;
 mod help;
 mod input;
+mod json;
 mod lock;
 mod memory;
 mod new;
@@ -32,6 +33,7 @@ mod ranges;
 mod replay;
 mod save;
 mod show;
+mod store_json;
 mod streams;
 mod system;
 mod temporary;
@@ -67,7 +69,7 @@ fn main() -> ExitCode {
 fn carry_out(command: &Command) -> Result<ExitCode, Failure> {
     let is_well = match command {
         Command::New { store, contents } => output::tell_warning(new::new(store, contents)?),
-        Command::Describe(store) => describe::describe(store).map(|()| true)?,
+        Command::Describe { store, form } => describe::describe(store, *form).map(|()| true)?,
         Command::Replay {
             store,
             script,
@@ -79,9 +81,9 @@ fn carry_out(command: &Command) -> Result<ExitCode, Failure> {
             asked,
             is_hex,
         } => call::call(store, asked, *is_hex)?,
-        Command::Show(store) => show::show(store).map(|()| true)?,
+        Command::Show { store, form } => show::show(store, *form).map(|()| true)?,
         Command::Cat { store, file } => cat::cat(store, file).map(|()| true)?,
-        Command::Check(store) => check::check(store)?,
+        Command::Check { store, form } => check::check(store, *form)?,
         Command::Convert { old, new } => output::tell_warning(convert::convert(old, new)?),
         Command::Help(command) => output::print(help::help(command).as_bytes()).map(|()| true)?,
         Command::Version => output::print(VERSION.as_bytes()).map(|()| true)?,

@@ -20,6 +20,11 @@ pub fn print(bytes: &[u8]) -> Result<(), Failure> {
         })
 }
 
+/// Writes a line to standard output.
+pub fn print_line(line: impl Display) -> Result<(), Failure> {
+    print(format!("{line}\n").as_bytes())
+}
+
 /// Says something on standard error. Where that is closed nobody can be told.
 pub fn tell(what: impl Display) {
     let _ = io::stderr().write_all(format!("mritvelja: {what}\n").as_bytes());

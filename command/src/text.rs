@@ -74,10 +74,15 @@ fn push_hex(text: &mut String, bytes: &[u8]) {
 const RIGHTS: [(&str, u32); 3] = [("read", READ), ("write", WRITE), ("execute", EXECUTE)];
 const NO_RIGHTS: &str = "none";
 
+/// The word of each right, of rights from 0 to 7.
+pub fn right_words(rights: u32) -> Vec<&'static str> {
+    let held = RIGHTS.iter().filter(|(_, right)| rights & right != 0);
+    held.map(|&(word, _)| word).collect()
+}
+
 /// Rights in words, from 0 to 7, with something between them.
 pub fn rights(rights: u32, between: &str) -> String {
-    let held = RIGHTS.iter().filter(|(_, right)| rights & right != 0);
-    let words: Vec<&str> = held.map(|&(word, _)| word).collect();
+    let words = right_words(rights);
     match words.is_empty() {
         true => NO_RIGHTS.into(),
         false => words.join(between),

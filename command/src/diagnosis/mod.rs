@@ -59,8 +59,8 @@ const CLAUSES: [(&str, Clause); 12] = [
 /// A clause that fails, and where.
 #[derive(Debug, PartialEq, Eq)]
 pub struct Defect {
-    clause: &'static str,
-    place: String,
+    pub clause: &'static str,
+    pub place: String,
 }
 
 impl fmt::Display for Defect {

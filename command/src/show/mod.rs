@@ -4,25 +4,29 @@ mod policy;
 mod processes;
 mod tree;
 
-pub use tree::{fields, kind};
+pub use tree::{fields, kind, paths};
 
-use crate::arguments::Store;
+use crate::arguments::{Form, Store};
 use crate::check;
 use crate::failure::Failure;
 use crate::held;
 use crate::output;
+use crate::store_json::{self, Detail};
 use mritvelja::Tables;
 
-pub fn show(store: &Store) -> Result<(), Failure> {
+pub fn show(store: &Store, form: Form) -> Result<(), Failure> {
     let tables = held::read(store)?;
     // Only of a sound store is it known that its directories are a tree.
     check::require_sound(&store.path, &tables)?;
-    output::print((lines(&tables).join("\n") + "\n").as_bytes())
+    match form {
+        Form::Text => output::print_line(lines(&tables).join("\n")),
+        Form::Json => output::print_line(store_json::store(&tables, Detail::Shown)),
+    }
 }
 
 /// The whole store, an empty line between its parts.
 fn lines(tables: &Tables) -> Vec<String> {
-    let paths = tree::paths(tables);
+    let paths = paths(tables);
     let mut lines = Vec::new();
     for part in [
         tree::lines(tables, &paths),
