@@ -16,6 +16,9 @@
 #include <stddef.h>
 #include <stdint.h>
 
+/* The version of this header and of the library that it is of. */
+#define MRITVELJA_VERSION "0.1.0"
+
 #ifdef __cplusplus
 extern "C" {
 #endif

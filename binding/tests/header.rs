@@ -67,6 +67,23 @@ fn in_package() -> Values {
 }
 
 #[test]
+fn the_version_is_the_headers() {
+    let version = env!("CARGO_PKG_VERSION");
+    let line = format!("#define MRITVELJA_VERSION \"{version}\"\n");
+    assert!(HEADER.contains(&line), "{line}");
+}
+
+#[test]
+fn the_refusals_are_said_in_the_headers_words() {
+    const STORE_HEADER: &str = include_str!("../../include/mritvelja_store.h");
+    let texts = STORE_HEADER.split("texts[] = {").nth(1).unwrap();
+    let texts = texts.split('}').next().unwrap();
+    let texts: Vec<&str> = texts.split('"').skip(1).step_by(2).collect();
+    let said: Vec<&str> = (0..=refusals::TOO_LONG).map(refusals::text).collect();
+    assert_eq!(texts, said);
+}
+
+#[test]
 fn the_constants_are_those_of_the_header() {
     assert_eq!(in_package(), in_header());
 }

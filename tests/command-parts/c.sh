@@ -1,0 +1,104 @@
+# shellcheck shell=bash disable=SC2154,SC2016 # tests/command sets the names; some lines are for another shell
+# The struct and its functions for C and C++, against the command: each call by its name, files loaded and saved.
+
+cat >calls.c <<'C'
+#define _POSIX_C_SOURCE 200809L
+#include "mritvelja_file.h"
+
+static int say(mritvelja_answer answer) {
+  printf("%u %u %u\n", (unsigned)answer.refusal, (unsigned)answer.stop, (unsigned)answer.value);
+  return answer.refusal != 0;
+}
+
+int main(int count, char **words) {
+  static mritvelja_store s;
+  uint8_t buffer[16];
+  if (count != 3 || !mritvelja_load(&s, words[1])) {
+    perror("load");
+    return 1;
+  }
+  say(mritvelja_open(&s, 2, "/fares/now", MRITVELJA_MODE_READ));
+  say(mritvelja_read(&s, 2, 0, buffer, sizeof buffer));
+  fwrite(buffer, 1, 5, stdout);
+  say(mritvelja_seek(&s, 2, 0, 2));
+  say(mritvelja_duplicate(&s, 2, 0));
+  say(mritvelja_fork(&s, 2));
+  say(mritvelja_close(&s, 3, 1));
+  say(mritvelja_exit(&s, 3));
+  say(mritvelja_create(&s, 1, "/fares/next", MRITVELJA_READ | MRITVELJA_WRITE | MRITVELJA_EXECUTE));
+  say(mritvelja_open(&s, 1, "/fares/next", MRITVELJA_MODE_WRITE | MRITVELJA_MODE_TRUNCATE));
+  say(mritvelja_write(&s, 1, 0, "2.60\n", 5));
+  say(mritvelja_link(&s, 1, "/fares/next", "/fares/later"));
+  say(mritvelja_unlink(&s, 1, "/fares/next"));
+  say(mritvelja_make_directory(&s, 1, "/fares/old", MRITVELJA_READ));
+  say(mritvelja_remove_directory(&s, 1, "/fares/old"));
+  say(mritvelja_list(&s, 1, "/fares", 0));
+  say(mritvelja_change_bits(&s, 1, "/fares/later", MRITVELJA_READ | MRITVELJA_EXECUTE));
+  say(mritvelja_stat(&s, 1, "/fares/later"));
+  say(mritvelja_execute(&s, 1, "/fares/later"));
+  say(mritvelja_open(&s, 2, "/fares/none", MRITVELJA_MODE_READ));
+  say(mritvelja_read(&s, 2, 7, buffer, 0));
+  if (!mritvelja_save(&s, words[2])) {
+    perror("save");
+    return 1;
+  }
+  return 0;
+}
+C
+flags=(-Wall -Wextra -Wpedantic -Werror -O2 -I"$root/include")
+holds "the headers are C" gcc -std=c99 "${flags[@]}" -o calls-c calls.c "$root/target/library/libmritvelja.a"
+holds "the headers are C++" g++ -x c++ -std=c++11 "${flags[@]}" -o calls-c++ calls.c -x none "$root/target/library/libmritvelja.a"
+
+# The same calls by the command.
+fresh c-expected
+while read -r words; do
+    # shellcheck disable=SC2086 # the words are arguments
+    "$mritvelja" call c-expected $words >/dev/null 2>&1 || true
+done <<'CALLS'
+2 open /fares/now read
+2 read 0 16
+2 seek 0 2
+2 duplicate 0
+2 fork
+3 close 1
+3 exit
+1 create /fares/next read,write,execute
+1 open /fares/next write,truncate
+1 write 0 12345
+1 link /fares/next /fares/later
+1 unlink /fares/next
+1 make-directory /fares/old read
+1 remove-directory /fares/old
+1 change-bits /fares/later read,execute
+CALLS
+"$mritvelja" describe c-expected | sed 's/12345/2.60\\x0a/' >c-expected.description
+printf '%s\n' '0 0 0' '0 0 5' 2.40 '0 0 2' '0 0 1' '0 0 3' '0 0 0' '0 0 0' '0 0 4' '0 0 0' '0 0 5' '0 0 0' '0 0 0' '0 0 5' '0 0 0' '0 0 1' '0 0 0' '0 0 0' \
+    '0 0 0' '6 2 0' '4 0 0' >c-answers
+for program in calls-c calls-c++; do
+    cp console c-store
+    chmod 640 c-store
+    gives "$program" 0 '' "./$program" c-store c-store
+    holds "$program: the answers" cmp out c-answers
+    holds "$program: the store is as the command makes it" cmp <("$mritvelja" describe c-store) c-expected.description
+    holds "$program: the permissions are kept" test "$(stat -c %a c-store)" = 640
+    gives "$program: a new file" 0 '' "./$program" console c-new
+    holds "$program: a new file is its maker's alone" test "$(stat -c %a c-new)" = 600
+    rm -f c-new
+done
+: >c-empty
+head -c 70507 console >c-short
+{ cat console && printf x; } >c-long
+head -c 70508 /dev/zero >c-zeros
+cp console c-newer && put c-newer 7 '\002'
+cp console c-damaged && put c-damaged $((12 + 2 * 28 + 20)) '\002'
+mkdir c-folder
+for wrong in c-empty c-short c-long c-zeros c-newer c-damaged before-128; do
+    gives "C: load of $wrong" 1 'load: Invalid argument' ./calls-c "$wrong" c-new
+    holds "C: load of $wrong: nothing is saved" test ! -e c-new
+done
+gives "C: load of no file" 1 'load: No such file or directory' ./calls-c c-missing c-new
+gives "C: load of a directory" 1 'load: Is a directory' ./calls-c c-folder c-new
+gives "C: save in no directory" 1 'save: No such file or directory' ./calls-c console none/c-new
+gives "C: a save that fails" 1 'save: Input/output error' failing 'fsync 1 5' ./calls-c console c-store
+holds "C: a save that fails leaves the old store" cmp <("$mritvelja" describe c-store) c-expected.description
+holds "C: a save that fails leaves nothing beside it" test -z "$(find . -name 'c-store.*')"
