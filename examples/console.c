@@ -1,9 +1,10 @@
-/* The paper's test console, built and called from C. */
+/* The paper's test console, built and called from C; with an argument, saved to a store file of that name. */
+#define _POSIX_C_SOURCE 200809L
 #include <inttypes.h>
 #include <stdio.h>
 #include <string.h>
 
-#include "mritvelja_store.h"
+#include "mritvelja_file.h"
 
 static void set_file(mritvelja_store *s, int slot, uint32_t kind, uint32_t owner, uint32_t bits, uint32_t label,
                      uint32_t length, uint32_t links) {
@@ -52,12 +53,17 @@ static void say(const char *what, mritvelja_answer answer) {
            answer.stop);
 }
 
-int main(void) {
+int main(int count, char **words) {
   static mritvelja_store s;
   uint8_t buffer[16] = {0};
   mritvelja_answer answer;
 
   make_console(&s);
+  if (count > 1) {
+    if (mritvelja_save(&s, words[1])) return 0;
+    perror(words[1]);
+    return 1;
+  }
   printf("the test console is sound: %" PRIu32 "\n", mritvelja_is_sound(&s));
 
   answer = mritvelja_open(&s, 2, "/fares/now", MRITVELJA_MODE_READ);
