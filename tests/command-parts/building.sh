@@ -1,8 +1,9 @@
 # shellcheck shell=bash disable=SC2154,SC2016 # tests/command sets the names; some lines are for another shell
 # The library's build, over a toolchain that only says what it would prove: it tells how far it is, and does nothing twice.
 
-mkdir -p building/tools building/path
+mkdir -p building/{tools,path,include}
 cp "$root/tools/build-library" building/tools
+cp "$root/include/mritvelja.h" building/include
 cp "$root/crates.txt" building
 while read -r crate; do
     mkdir -p "building/crates/$crate/src" "building/crates/$crate/must-fail"
