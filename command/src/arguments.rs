@@ -287,6 +287,10 @@ mod tests {
                 new: "bus.new".into()
             })
         );
+    }
+
+    #[test]
+    fn help_is_of_the_command_before_it() {
         for (line, page) in [
             ("--help", "--help"),
             ("-h", "-h"),
@@ -313,47 +317,49 @@ mod tests {
         assert_eq!(parsed("replay bus -- -day"), replay(dashed(), None));
     }
 
+    const WRONG: &[&str] = &[
+        "",
+        "open bus",
+        "-x",
+        "--version bus",
+        "-V bus",
+        "cat bus -- -h more",
+        "new",
+        "new -x",
+        "new bus bus",
+        "new -",
+        "new --from bus",
+        "new bus --from text --empty",
+        "new bus --empty=yes",
+        "new bus --from=",
+        "describe",
+        "describe -",
+        "show",
+        "check a b",
+        "convert",
+        "convert bus",
+        "convert bus -x",
+        "convert a b c",
+        "replay",
+        "replay bus",
+        "replay bus a b",
+        "replay bus day --calls",
+        "replay bus day --calls -1",
+        "replay bus day --calls +1",
+        "replay bus day --calls 1.5",
+        "replay bus day --call 1",
+        "replay bus day --calls 99999999999999999999",
+        "replay bus day --calls 1 --calls 2",
+        "replay bus day --calls=",
+        "show bus --wait",
+        "show bus --wait soon",
+        "new bus --wait 1",
+        "replay bus -- day --calls 1",
+    ];
+
     #[test]
     fn other_arguments_are_refused() {
-        for line in [
-            "",
-            "open bus",
-            "-x",
-            "--version bus",
-            "-V bus",
-            "cat bus -- -h more",
-            "new",
-            "new -x",
-            "new bus bus",
-            "new -",
-            "new --from bus",
-            "new bus --from text --empty",
-            "new bus --empty=yes",
-            "new bus --from=",
-            "describe",
-            "describe -",
-            "show",
-            "check a b",
-            "convert",
-            "convert bus",
-            "convert bus -x",
-            "convert a b c",
-            "replay",
-            "replay bus",
-            "replay bus a b",
-            "replay bus day --calls",
-            "replay bus day --calls -1",
-            "replay bus day --calls +1",
-            "replay bus day --calls 1.5",
-            "replay bus day --call 1",
-            "replay bus day --calls 99999999999999999999",
-            "replay bus day --calls 1 --calls 2",
-            "replay bus day --calls=",
-            "show bus --wait",
-            "show bus --wait soon",
-            "new bus --wait 1",
-            "replay bus -- day --calls 1",
-        ] {
+        for line in WRONG {
             assert!(parsed(line).is_err(), "{line}");
         }
         assert!(parse(&["new".into(), "".into()]).is_err());

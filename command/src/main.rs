@@ -29,6 +29,7 @@ mod new;
 mod output;
 mod path;
 mod pieces;
+mod progress;
 mod ranges;
 mod replay;
 mod save;

@@ -1,6 +1,7 @@
 //! A script run in pieces, so that the output's size is never a reason to stop.
 
 use crate::memory;
+use crate::progress::Progress;
 use mritvelja::reasons::{ALLOWANCE, BROKEN, END, ROOM};
 use mritvelja::Tables;
 use std::collections::TryReserveError;
@@ -58,6 +59,7 @@ fn run_within(
         next: 0,
         reason: Reason::End,
     };
+    let mut progress = Progress::new();
     loop {
         let left = allowed.map_or(u64::MAX, |allowed| allowed - run.calls);
         let allowance = u32::try_from(left).unwrap_or(u32::MAX);
@@ -71,7 +73,10 @@ fn run_within(
             ALLOWANCE if allowed == Some(run.calls) => Reason::Allowance,
             BROKEN => Reason::Broken,
             // There is more to do, and the output is empty again.
-            ALLOWANCE | ROOM if piece.calls > 0 => continue,
+            ALLOWANCE | ROOM if piece.calls > 0 => {
+                progress.tell(run.calls, run.next, script.len());
+                continue;
+            }
             reason => {
                 return Err(Lost::Unexpected(format!(
                     "the run stopped for reason {reason} after {} calls, at byte {}",
