@@ -1,14 +1,48 @@
 //! A block of a script (`docs/scripts.md`): the call that it asks for, or the line at which it breaks and how.
 
-use crate::calls::{Asked, Part};
+use crate::calls::{self, Asked, Part};
+use mritvelja::layout::{BLOCK, LONGEST_PATH};
 
 const KEYS: [&str; 6] = ["proc=", "call=", "fd=", "arg=", "path=", "data="];
 
 /// The block's line, from 0, at which it breaks, and how.
 pub type Break = (usize, String);
 
-/// The call of the first block, and how many bytes the block has.
-pub fn parse(script: &[u8]) -> Result<(Asked, usize), Break> {
+/// A call as a block has it, its data still in hex. Its numbers need not be of any process or call.
+#[derive(Debug, PartialEq, Eq)]
+pub struct Block<'a> {
+    pub process: u16,
+    pub call: u16,
+    descriptor: u16,
+    number: u16,
+    path: &'a [u8],
+    data: &'a [u8],
+    /// How many bytes the block has.
+    pub size: usize,
+}
+
+impl Block<'_> {
+    /// The call in words. Of a path or data that are longer than any that is granted, only how long they are.
+    pub fn words(&self) -> String {
+        let (path_size, data_size) = (self.path.len(), self.data.len() / 2);
+        if path_size > LONGEST_PATH || data_size > BLOCK {
+            let name = calls::parts(self.call).map_or("call", |(name, _)| name);
+            return format!("{name} of {} bytes", path_size + data_size);
+        }
+        let asked = Asked {
+            process: self.process,
+            call: self.call,
+            descriptor: self.descriptor,
+            number: self.number,
+            path: self.path.to_vec(),
+            data: from_hex(self.data).unwrap_or_default(),
+        };
+        asked.words()
+    }
+}
+
+/// The first block of a script.
+pub fn parse(script: &[u8]) -> Result<Block<'_>, Break> {
     let mut rest = script;
     let mut numbers = [0; 4];
     let mut texts = [&b""[..]; 2];
@@ -20,21 +54,23 @@ pub fn parse(script: &[u8]) -> Result<(Asked, usize), Break> {
         }
         rest = after;
     }
-    let [process, call, descriptor, number] = numbers;
-    let asked = Asked {
+    let ([process, call, descriptor, number], [path, data]) = (numbers, texts);
+    if !is_hex(data) {
+        let why = "the data is not pairs of the digits 0 to 9 and a to f";
+        return Err((5, why.into()));
+    }
+    let block = Block {
         process,
         call,
         descriptor,
         number,
-        path: texts[0].to_vec(),
-        data: from_hex(texts[1]).ok_or((
-            5,
-            String::from("the data is not pairs of the digits 0 to 9 and a to f"),
-        ))?,
+        path,
+        data,
+        size: script.len() - rest.len(),
     };
-    match unused_but_given(&asked) {
-        None => Ok((asked, script.len() - rest.len())),
-        Some(at) => Err(at),
+    match unused_but_given(&block) {
+        None => Ok(block),
+        Some(found) => Err(found),
     }
 }
 
@@ -60,39 +96,38 @@ fn number(text: &[u8]) -> Result<u16, &'static str> {
     }
 }
 
+fn is_hex(text: &[u8]) -> bool {
+    let is_digit = |byte| matches!(byte, b'0'..=b'9' | b'a'..=b'f');
+    text.len().is_multiple_of(2) && text.iter().copied().all(is_digit)
+}
+
 /// The bytes that pairs of the digits 0 to 9 and a to f stand for.
 pub fn from_hex(text: &[u8]) -> Option<Vec<u8>> {
-    let digit = |byte: u8| match byte {
-        b'0'..=b'9' => Some(byte - b'0'),
-        b'a'..=b'f' => Some(byte - b'a' + 10),
-        _ => None,
-    };
-    let (pairs, rest) = text.as_chunks::<2>();
+    let value = |digit: u8| char::from(digit).to_digit(16);
+    let (pairs, _) = text.as_chunks::<2>();
     let bytes = pairs
         .iter()
-        .map(|&[high, low]| Some(16 * digit(high)? + digit(low)?));
-    bytes
-        .collect::<Option<Vec<u8>>>()
-        .filter(|_| rest.is_empty())
+        .map(|&[high, low]| u8::try_from(16 * value(high)? + value(low)?).ok());
+    bytes.collect::<Option<Vec<u8>>>().filter(|_| is_hex(text))
 }
 
 /// The first part that stands in the block though its call does not use it.
-fn unused_but_given(asked: &Asked) -> Option<Break> {
+fn unused_but_given(block: &Block) -> Option<Break> {
     use Part::*;
     // An unknown call may have all of them.
-    let (_, parts) = asked.parts()?;
+    let (_, parts) = calls::parts(block.call)?;
     let uses = |some: &[Part]| parts.iter().any(|part| some.contains(part));
     let unused = [
-        (asked.descriptor != 0 && !uses(&[Descriptor]), "0"),
+        (block.descriptor != 0 && !uses(&[Descriptor]), "0"),
         (
-            asked.number != 0 && !uses(&[Mode, Bits, Index, Size, Position]),
+            block.number != 0 && !uses(&[Mode, Bits, Index, Size, Position]),
             "0",
         ),
-        (!asked.path.is_empty() && !uses(&[Path]), "empty"),
-        (!asked.data.is_empty() && !uses(&[Data, NewPath]), "empty"),
+        (!block.path.is_empty() && !uses(&[Path]), "empty"),
+        (!block.data.is_empty() && !uses(&[Data, NewPath]), "empty"),
     ];
     let at = unused.iter().position(|&(is_given, _)| is_given)?;
-    let (call, key, must_be) = (asked.call, KEYS[at + 2], unused[at].1);
+    let (call, key, must_be) = (block.call, KEYS[at + 2], unused[at].1);
     Some((
         at + 2,
         format!("call {call} does not use {key}, which must be {must_be}"),
@@ -164,11 +199,24 @@ mod tests {
 
     #[test]
     fn a_block_is_the_call_that_its_words_are() {
+        let open = block(1, "0", "10", "/a", "");
+        let followed = open.clone() + "x";
+        let parsed = parse(followed.as_bytes()).unwrap();
+        assert_eq!(parsed.size, open.len());
+        assert_eq!(parsed.words(), "open /a write,truncate");
         let words = ["/a", "write,truncate"].map(OsString::from);
         let asked = Asked::parse("2".as_ref(), "open".as_ref(), &words).unwrap();
-        let block = block(1, "0", "10", "/a", "");
-        assert_eq!(parse(block.as_bytes()), Ok((asked, block.len())));
-        let followed = block.clone() + "x";
-        assert_eq!(parse(followed.as_bytes()).unwrap().1, block.len());
+        assert_eq!(asked.words(), parsed.words());
+    }
+
+    #[test]
+    fn what_no_call_is_granted_is_not_copied() {
+        let long = block(12, "0", "0", "", &"ab".repeat(513));
+        assert_eq!(
+            parse(long.as_bytes()).unwrap().words(),
+            "write of 513 bytes"
+        );
+        let deep = block(1, "0", "1", &"/a".repeat(33), "");
+        assert_eq!(parse(deep.as_bytes()).unwrap().words(), "open of 66 bytes");
     }
 }

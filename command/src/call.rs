@@ -2,7 +2,7 @@
 
 use crate::answers::{self, Told};
 use crate::arguments::{Input, Store};
-use crate::calls::{Asked, Part};
+use crate::calls::Asked;
 use crate::check;
 use crate::failure::Failure;
 use crate::held::{Held, Warning};
@@ -34,10 +34,7 @@ pub fn call(store: &Store, asked: &Asked, is_hex: bool) -> Result<bool, Failure>
 
 /// What standard input gives, where a dash asks for it.
 fn read_data(asked: &Asked) -> Result<Option<Vec<u8>>, Failure> {
-    let takes_data = asked
-        .parts()
-        .is_some_and(|(_, parts)| parts.contains(&Part::Data));
-    match takes_data && asked.data == b"-" {
+    match asked.call == calls::WRITE.into() && asked.data == b"-" {
         true => input::read(&Input::Standard).map(Some),
         false => Ok(None),
     }

@@ -43,6 +43,14 @@ pub const CALLS: [(&str, u8, &[Part]); 17] = [
     ("execute", calls::EXECUTE, &[Path]),
 ];
 
+/// The name and the parts of a call; nothing if there is no such call.
+pub fn parts(call: u16) -> Option<(&'static str, &'static [Part])> {
+    let known = CALLS
+        .iter()
+        .find(|&&(_, number, _)| u16::from(number) == call);
+    known.map(|&(name, _, parts)| (name, parts))
+}
+
 /// A call as a script may have it: its numbers need not be of any process or call.
 #[derive(Clone, Debug, Default, PartialEq, Eq)]
 pub struct Asked {
@@ -104,17 +112,9 @@ impl Asked {
         Ok(())
     }
 
-    /// The parts of the call; nothing if there is no such call.
-    pub fn parts(&self) -> Option<(&'static str, &'static [Part])> {
-        let known = CALLS
-            .iter()
-            .find(|&&(_, number, _)| u16::from(number) == self.call);
-        known.map(|&(name, _, parts)| (name, parts))
-    }
-
     /// The call in the words that [`Asked::parse`] takes.
     pub fn words(&self) -> String {
-        let Some((name, parts)) = self.parts() else {
+        let Some((name, parts)) = parts(self.call) else {
             return format!("unknown call {}", self.call);
         };
         let parts = parts.iter().map(|&part| self.word(part));

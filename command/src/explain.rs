@@ -2,7 +2,6 @@
 
 use crate::answers::{self, Told};
 use crate::block;
-use crate::calls::Asked;
 use crate::pieces::Lost;
 use mritvelja::layout::*;
 use mritvelja::{calls, refusals};
@@ -19,24 +18,21 @@ pub fn explain(script: &[u8], answers: &[u8]) -> Result<Vec<u8>, Lost> {
             break;
         }
         let unexpected = || Lost::Unexpected(format!("answer {number} cannot be explained"));
-        let (asked, block) = block::parse(script).map_err(|_| unexpected())?;
-        let (words, size) = answer_words(&asked, answers).ok_or_else(unexpected)?;
-        let line = format!(
-            "# {number}: process {}, {}: {words}\n",
-            asked.process,
-            asked.words()
-        );
+        let block = block::parse(script).map_err(|_| unexpected())?;
+        let (words, size) = answer_words(block.call, answers).ok_or_else(unexpected)?;
+        let (process, asked) = (block.process, block.words());
+        let line = format!("# {number}: process {process}, {asked}: {words}\n");
         explained.try_reserve(line.len() + size)?;
         explained.extend(line.as_bytes());
         explained.extend(&answers[..size]);
-        script = &script[block..];
+        script = &script[block.size..];
         answers = &answers[size..];
     }
     Ok(explained)
 }
 
 /// The first answer in words, and how many bytes it has.
-fn answer_words(asked: &Asked, answers: &[u8]) -> Option<(String, usize)> {
+fn answer_words(call: u16, answers: &[u8]) -> Option<(String, usize)> {
     let mut values = [&b""[..]; 3];
     let mut rest = answers;
     for (value, key) in values.iter_mut().zip(LINES) {
@@ -50,16 +46,13 @@ fn answer_words(asked: &Asked, answers: &[u8]) -> Option<(String, usize)> {
         refusal: number(values[0])?,
         stop: 0,
         value: number(values[1])?,
-        record: match asked.call == calls::STAT.into() && !data.is_empty() {
+        record: match call == calls::STAT.into() && !data.is_empty() {
             true => stat_record(&data)?,
             false => [0; FILE_WIDTH],
         },
         bytes: Some(&data),
     };
-    Some((
-        answers::words(asked.call, &told),
-        answers.len() - rest.len(),
-    ))
+    Some((answers::words(call, &told), answers.len() - rest.len()))
 }
 
 /// Stat's fields, which are 1, 2, 1, 1, 2, 2 and 4 bytes, little end first.

@@ -36,13 +36,9 @@ pub fn replay(
         let why = broken::message(&bytes, run.next, run.calls + 1);
         return Err(input::refused(script, why));
     }
-    let explained = match is_explained {
-        true => Some(memory::grow(|| explain::explain(&bytes, &run.answers))),
-        false => None,
-    };
-    let explained = explained
-        .transpose()
-        .map_err(|lost| failure(script, lost))?;
+    let explained = is_explained.then(|| memory::grow(|| explain::explain(&bytes, &run.answers)));
+    let explained = explained.transpose();
+    let explained = explained.map_err(|lost| failure(script, lost))?;
     let is_changed = after != before;
     let warning = match is_changed {
         true => held.save(&after)?,

@@ -35,3 +35,21 @@ done
 holds "no limit of memory cuts a run off, as did these of kilobytes:$cut_off" test -z "$cut_off"
 holds "what does not fit changes nothing" cmp bus console
 rm -f many-answers
+
+# One block or line that alone takes half of the memory: what is wrong with it, or what it was answered, is said without a copy of it.
+{
+    printf 'proc=1\ncall=12\nfd=0\narg=0\npath=\ndata='
+    head -c 30000000 /dev/zero | tr '\0' a
+} >huge-block
+{
+    cat huge-block
+    printf '\n'
+} >huge-call
+{
+    printf 'mritvelja description 1\nfile /a data '
+    head -c 30000000 /dev/zero | tr '\0' a
+} >huge-line
+refuses "a huge block that is broken" 'huge-block: block 1 is broken' limited 50000 "$mritvelja" replay bus huge-block
+gives "a huge call" 0 '# 1: process 1, write of 15000000 bytes: refused: 4, descriptor not held' limited 50000 "$mritvelja" replay bus huge-call --explain
+refuses "a huge line of a description" 'huge-line: line 2: it has more than 65536 bytes' limited 50000 "$mritvelja" new unmade --from huge-line
+rm -f huge-*

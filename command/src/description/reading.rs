@@ -8,6 +8,9 @@ use mritvelja::Tables;
 
 type Add = fn(&mut Building, &mut Line) -> Result<(), String>;
 
+/// Many times what a line needs: one that is longer is not looked into.
+const LONGEST_LINE: usize = 65_536;
+
 /// What a line may begin with.
 const KINDS: [(&str, Add); 10] = [
     ("process", processes::process),
@@ -40,6 +43,9 @@ fn at(number: usize, why: &str) -> String {
 }
 
 fn add(building: &mut Building, number: usize, bytes: &[u8]) -> Result<(), String> {
+    if bytes.len() > LONGEST_LINE {
+        return Err(format!("it has more than {LONGEST_LINE} bytes"));
+    }
     let Some(mut line) = Line::parse(number, bytes)? else {
         return Ok(());
     };
