@@ -31,22 +31,35 @@ static inline void mritvelja_empty(mritvelja_store *store) {
   memset(store->policy + MRITVELJA_RIGHTS_SIZE, MRITVELJA_NO_TRANSITION, MRITVELJA_RIGHTS_SIZE);
 }
 
-/* Puts a process in use. The number must be one of a process. */
-static inline void mritvelja_set_process(mritvelja_store *store, uint8_t process, uint16_t user, uint8_t label) {
+/* Each is 1 if it is done; else 0, with a number out of range, and nothing is set. */
+
+/* Puts a process in use. */
+static inline int mritvelja_set_process(mritvelja_store *store, uint8_t process, uint16_t user, uint8_t label) {
+  if (process >= MRITVELJA_PROCESSES || label >= MRITVELJA_LABELS) return 0;
   uint32_t *record = store->processes + MRITVELJA_PROCESS_WIDTH * process;
   record[MRITVELJA_PROCESS_USED] = 1;
   record[MRITVELJA_PROCESS_USER] = user;
   record[MRITVELJA_PROCESS_LABEL] = label;
+  return 1;
 }
 
 /* Says what processes of a label may do with files of a label. */
-static inline void mritvelja_set_rights(mritvelja_store *store, uint8_t process_label, uint8_t file_label, uint8_t rights) {
+static inline int mritvelja_set_rights(mritvelja_store *store, uint8_t process_label, uint8_t file_label, uint8_t rights) {
+  if (process_label >= MRITVELJA_LABELS || file_label >= MRITVELJA_LABELS ||
+      rights > (MRITVELJA_READ | MRITVELJA_WRITE | MRITVELJA_EXECUTE))
+    return 0;
   store->policy[MRITVELJA_LABELS * process_label + file_label] = rights;
+  return 1;
 }
 
-/* Says what a process's label becomes by executing a file of a label. */
-static inline void mritvelja_set_transition(mritvelja_store *store, uint8_t process_label, uint8_t program_label, uint8_t label) {
+/* Says what a process's label becomes by executing a file of a label: a label, or
+ * MRITVELJA_NO_TRANSITION. */
+static inline int mritvelja_set_transition(mritvelja_store *store, uint8_t process_label, uint8_t program_label, uint8_t label) {
+  if (process_label >= MRITVELJA_LABELS || program_label >= MRITVELJA_LABELS ||
+      (label >= MRITVELJA_LABELS && label != MRITVELJA_NO_TRANSITION))
+    return 0;
   store->policy[MRITVELJA_RIGHTS_SIZE + MRITVELJA_LABELS * process_label + program_label] = label;
+  return 1;
 }
 
 /* 1 where the store is sound, else 0. */

@@ -47,7 +47,32 @@ int main(int count, char **words) {
 C
 flags=(-Wall -Wextra -Wpedantic -Werror -O2 -I"$root/include")
 holds "the headers are C" gcc -std=c99 "${flags[@]}" -o calls-c calls.c "$root/target/library/libmritvelja.a"
-holds "the headers are C++" g++ -x c++ -std=c++11 "${flags[@]}" -o calls-c++ calls.c -x none "$root/target/library/libmritvelja.a"
+programs=(calls-c)
+if command -v g++ >/dev/null; then
+    holds "the headers are C++" g++ -x c++ -std=c++11 "${flags[@]}" -o calls-c++ calls.c -x none "$root/target/library/libmritvelja.a"
+    programs+=(calls-c++)
+fi
+
+cat >numbers.c <<'C'
+#include <stdio.h>
+#include "mritvelja_store.h"
+
+int main(void) {
+  static mritvelja_store s, before;
+  mritvelja_empty(&s);
+  before = s;
+  int wrong = mritvelja_set_process(&s, 8, 0, 0) + mritvelja_set_process(&s, 0, 0, 16) + mritvelja_set_rights(&s, 16, 0, 0) +
+              mritvelja_set_rights(&s, 0, 16, 0) + mritvelja_set_rights(&s, 0, 0, 8) + mritvelja_set_transition(&s, 16, 0, 0) +
+              mritvelja_set_transition(&s, 0, 16, 0) + mritvelja_set_transition(&s, 0, 0, 16);
+  int is_same = memcmp(&s, &before, sizeof s) == 0;
+  int right = mritvelja_set_process(&s, 7, 65535, 15) + mritvelja_set_rights(&s, 15, 15, 7) + mritvelja_set_transition(&s, 15, 15, 15) +
+              mritvelja_set_transition(&s, 15, 14, MRITVELJA_NO_TRANSITION);
+  printf("%d %d %d %u %s\n", wrong, is_same, right, (unsigned)mritvelja_is_sound(&s), mritvelja_refusal_text(15));
+  return 0;
+}
+C
+holds "C: numbers out of range compile" gcc -std=c99 "${flags[@]}" -fsanitize=address,undefined -o numbers numbers.c "$root/target/library/libmritvelja.a"
+gives "C: numbers out of range set nothing" 0 '0 1 4 1 unknown refusal' ./numbers
 
 # The same calls by the command.
 fresh c-expected
@@ -74,7 +99,7 @@ CALLS
 "$mritvelja" describe c-expected | sed 's/12345/2.60\\x0a/' >c-expected.description
 printf '%s\n' '0 0 0' '0 0 5' 2.40 '0 0 2' '0 0 1' '0 0 3' '0 0 0' '0 0 0' '0 0 4' '0 0 0' '0 0 5' '0 0 0' '0 0 0' '0 0 5' '0 0 0' '0 0 1' '0 0 0' '0 0 0' \
     '0 0 0' '6 2 0' '4 0 0' >c-answers
-for program in calls-c calls-c++; do
+for program in "${programs[@]}"; do
     cp console c-store
     chmod 640 c-store
     gives "$program" 0 '' "./$program" c-store c-store

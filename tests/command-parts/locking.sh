@@ -34,9 +34,10 @@ for command in 'show bus' 'check bus' 'describe bus' 'cat bus /key'; do
     gives "$command beside another that reads" 0 '' while_locked -s 5 "$mritvelja" $command --wait 0
 done
 refuses "replay beside one that reads" 'bus: is still locked' while_locked -s 5 "$mritvelja" replay bus day --wait 0
-gives "a short wait" 0 'the store did not change' while_locked -x 0.3 "$mritvelja" replay bus /dev/null
+# By a clock that stands still no wait is long, and by one that hurries each is.
+gives "a short wait" 0 'the store did not change' while_locked -x 0.3 hurried 0 "$mritvelja" replay bus /dev/null
 holds "a short wait is not told" test "$(wc -l <err)" -eq 1
-gives "a long wait" 0 'mritvelja: bus: waits for its lock, which process ' while_locked -x 1.5 "$mritvelja" replay bus day
+gives "a long wait" 0 'mritvelja: bus: waits for its lock, which process ' while_locked -x 1 hurried 100 "$mritvelja" replay bus day
 holds "a long wait is told once" test "$(grep -c 'waits for its lock' err)" -eq 1
 holds "after a long wait the store is saved" cmp bus whole
 fresh bus

@@ -104,11 +104,11 @@ holds "200 reads of 512 bytes: every byte" test "$(grep -c '^data=\(ab\)\{512\}$
 
 # How far a long run is: told on a terminal, here one second each millisecond, and nowhere else.
 python3 -c 'print("proc=7\ncall=15\nfd=0\narg=0\npath=\ndata=\n" * 100000, end="")' >long-script
-hurried=(env LD_PRELOAD="$directory/failing.so" HURRY=1000 "$mritvelja" replay console long-script)
 python3 -c 'import os, pty, sys
-os._exit(os.waitstatus_to_exitcode(pty.spawn(sys.argv[1:])))' bash -c '"$@" >out' _ "${hurried[@]}" </dev/null >terminal
+os._exit(os.waitstatus_to_exitcode(pty.spawn(sys.argv[1:])))' bash -c 'LD_PRELOAD="$0" HURRY=1000 "$@" >out' \
+    "$directory/failing.so" "$mritvelja" replay console long-script </dev/null >terminal
 holds "progress on a terminal" grep -q '^mritvelja: [0-9]* calls made so far, [0-9]* percent of the script' terminal
 holds "progress on a terminal: the answers are as ever" test "$(grep -c '^answer=2$' out)" -eq 100000
-gives "no progress elsewhere" 0 '100000 calls answered' "${hurried[@]}"
+gives "no progress elsewhere" 0 '100000 calls answered' hurried 1000 "$mritvelja" replay console long-script
 holds "no progress elsewhere: two lines on standard error" test "$(wc -l <err)" -eq 2
 rm -f long-script terminal
