@@ -81,7 +81,12 @@ enum {
   MRITVELJA_PROCESS_DESCRIPTOR = 3
 };
 
-enum { MRITVELJA_EXECUTE = 1, MRITVELJA_SEARCH = 1, MRITVELJA_WRITE = 2, MRITVELJA_READ = 4 };
+/* Rights, which are added. */
+enum {
+  MRITVELJA_EXECUTE = 1,  /* of a directory: to search it */
+  MRITVELJA_WRITE = 2,
+  MRITVELJA_READ = 4
+};
 
 /* Modes of an open. Truncating is added to any mode but reading. */
 enum {
@@ -156,9 +161,11 @@ mritvelja_answer mritvelja_call(
     const uint8_t *data, size_t data_size,         /* a write's bytes, or link's new path */
     uint8_t *buffer, size_t buffer_size);          /* where a read puts its bytes */
 
-/* As mritvelja_call, without the test: for tables known to be sound, as those
- * are that were found sound and since then changed by these functions alone.
- * On other tables it is safe too, but what it answers is then of no use. */
+/* As mritvelja_call, without the test. On tables found sound and since then
+ * changed by these functions alone, mritvelja_act answers what mritvelja_call
+ * answers, for every list of calls (`tested-once`, docs/claims.md); on tables
+ * nobody tested it answers what the rules' `act` says (it is safe, and its
+ * contract holds), which the rules do not call an answer of the store. */
 mritvelja_answer mritvelja_act(
     uint32_t *files, size_t files_size,
     uint8_t *contents, size_t contents_size,

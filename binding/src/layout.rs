@@ -13,9 +13,9 @@ pub const DIRENT_WIDTH: usize = 16;
 /// Bytes of a name, padded with 0.
 pub const NAME: usize = 14;
 /// Bytes of a path, at most.
-pub const LONGEST_PATH: usize = 64;
+pub const PATH: usize = 64;
 /// Names in a path, at most.
-pub const DEEPEST: usize = 8;
+pub const NAMES: usize = 8;
 /// Open files.
 pub const OPEN_FILES: usize = 32;
 /// Words of an open file.
@@ -95,10 +95,8 @@ pub const PROCESS_DESCRIPTOR: usize = 3;
 
 // Rights, which are added.
 
-/// The right to execute a plain file.
+/// The right to execute a plain file; of a directory, to search it.
 pub const EXECUTE: u32 = 1;
-/// The right to look a name up in a directory.
-pub const SEARCH: u32 = 1;
 /// The right to write.
 pub const WRITE: u32 = 2;
 /// The right to read.

@@ -52,7 +52,7 @@ fn in_package() -> Values {
         "FILE_" layout: KIND OWNER BITS LABEL LENGTH LINKS VERSION;
         "OPEN_" layout: SLOT MODE OFFSET REFERENCES;
         "PROCESS_" layout: USED USER;
-        "" layout: FREE PLAIN DIRECTORY EXECUTE SEARCH WRITE READ;
+        "" layout: FREE PLAIN DIRECTORY EXECUTE WRITE READ;
         "MODE_" modes: READ WRITE BOTH APPEND TRUNCATE;
         "CALL_" calls: OPEN CREATE MAKE_DIRECTORY UNLINK REMOVE_DIRECTORY LINK LIST CHANGE_BITS
             STAT CLOSE READ WRITE SEEK DUPLICATE FORK EXIT EXECUTE;
@@ -61,8 +61,8 @@ fn in_package() -> Values {
             TOO_LONG;
         "REPLAY_" reasons: END ALLOWANCE BROKEN ROOM;
     };
-    values.insert("PATH".into(), layout::LONGEST_PATH);
-    values.insert("NAMES".into(), layout::DEEPEST);
+    values.insert("PATH".into(), layout::PATH);
+    values.insert("NAMES".into(), layout::NAMES);
     values
 }
 

@@ -1,7 +1,7 @@
 //! A block of a script (`docs/scripts.md`): the call that it asks for, or the line at which it breaks and how.
 
 use crate::calls::{self, Asked, Part};
-use mritvelja::layout::{BLOCK, LONGEST_PATH};
+use mritvelja::layout::{BLOCK, PATH};
 
 const KEYS: [&str; 6] = ["proc=", "call=", "fd=", "arg=", "path=", "data="];
 
@@ -25,7 +25,7 @@ impl Block<'_> {
     /// The call in words. Of a path or data that are longer than any that is granted, only how long they are.
     pub fn words(&self) -> String {
         let (path_size, data_size) = (self.path.len(), self.data.len() / 2);
-        if path_size > LONGEST_PATH || data_size > BLOCK {
+        if path_size > PATH || data_size > BLOCK {
             let name = calls::parts(self.call).map_or("call", |(name, _)| name);
             return format!("{name} of {} bytes", path_size + data_size);
         }

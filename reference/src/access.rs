@@ -1,6 +1,6 @@
 //! Who is calling, and what the caller may do with a file.
 
-use crate::numbers::{Descriptor, EntryNumber, ProcessNumber, Slot};
+use crate::numbers::{Descriptor, OpenFileNumber, ProcessNumber, Slot};
 use crate::records::File;
 use crate::refusal::Refusal;
 use crate::rights::Rights;
@@ -53,11 +53,16 @@ impl Store<'_> {
         }
     }
 
-    /// The descriptor of this number and the entry that it holds.
-    pub fn held(&self, caller: Caller, number: u8) -> Result<(Descriptor, EntryNumber), Refusal> {
+    /// The descriptor of this number and the open file that it holds.
+    pub fn held(
+        &self,
+        caller: Caller,
+        number: u8,
+    ) -> Result<(Descriptor, OpenFileNumber), Refusal> {
         let descriptor = Descriptor::new(number).ok_or(Refusal::NotHeld)?;
         let words = self.process(caller.process).descriptors;
-        let entry = EntryNumber::from_word(words[descriptor.index()]).ok_or(Refusal::NotHeld)?;
-        Ok((descriptor, entry))
+        let open_file =
+            OpenFileNumber::from_word(words[descriptor.index()]).ok_or(Refusal::NotHeld)?;
+        Ok((descriptor, open_file))
     }
 }

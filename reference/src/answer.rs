@@ -12,7 +12,7 @@ pub struct Answer {
     pub value: u32,
     /// The listed name, without padding.
     pub name: Vec<u8>,
-    /// Stat's kind, owner, bits, label, length, names and stamp.
+    /// Stat's kind, owner, bits, label, length, links and version.
     pub fields: Option<[u32; 7]>,
 }
 

@@ -4,9 +4,9 @@ use crate::path::{Path, Target};
 use crate::records::Kind;
 use crate::rights::{Opening, Rights};
 
-pub const LAST_POSITION: u32 = 512;
+pub const LAST_OFFSET: u32 = 512;
 
-/// The numbers of a call; its paths and bytes come beside it.
+/// The numbers of a call; its path and data come beside it.
 #[derive(Clone, Copy, Debug, PartialEq, Eq)]
 pub struct Request {
     pub process: u8,
@@ -57,7 +57,7 @@ pub enum Command<'a> {
     },
     Write {
         descriptor: u8,
-        bytes: &'a [u8],
+        data: &'a [u8],
     },
     Seek {
         descriptor: u8,
@@ -136,14 +136,11 @@ impl<'a> Command<'a> {
         Some(match request.call {
             10 => Command::Close { descriptor },
             11 => Command::Read { descriptor },
-            12 => Command::Write {
-                descriptor,
-                bytes: data,
-            },
+            12 => Command::Write { descriptor, data },
             13 => Command::Seek {
                 descriptor,
                 position: Some(u32::from(request.number))
-                    .filter(|&position| position <= LAST_POSITION)?,
+                    .filter(|&position| position <= LAST_OFFSET)?,
             },
             14 => Command::Duplicate { descriptor },
             _ => return None,

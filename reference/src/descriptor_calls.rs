@@ -24,51 +24,51 @@ impl Store<'_> {
         buffer: &mut [u8],
     ) -> Result<Answer, Refused> {
         let (_, number) = self.held(caller, descriptor)?;
-        let mut entry = self.entry(number);
-        if !entry.mode.reads() {
+        let mut open_file = self.open_file(number);
+        if !open_file.mode.reads() {
             return Err(Refusal::WrongDirection.into());
         }
-        let length = self.file(entry.slot).length as usize;
-        let bytes = &self.block(entry.slot)[..length];
-        let ahead = bytes.get(entry.position as usize..).unwrap_or(&[]);
+        let length = self.file(open_file.slot).length as usize;
+        let bytes = &self.block(open_file.slot)[..length];
+        let ahead = bytes.get(open_file.offset as usize..).unwrap_or(&[]);
         let count = ahead.len().min(buffer.len());
         buffer[..count].copy_from_slice(&ahead[..count]);
-        entry.position += count as u32;
-        self.set_entry(number, entry);
+        open_file.offset += count as u32;
+        self.set_open_file(number, open_file);
         Ok(Answer::value(count as u32))
     }
 
-    /// Call 12: all of the bytes or none.
+    /// Call 12: all of the data or none.
     pub fn write(
         &mut self,
         caller: Caller,
         descriptor: u8,
-        bytes: &[u8],
+        data: &[u8],
     ) -> Result<Answer, Refused> {
         let (_, number) = self.held(caller, descriptor)?;
-        let mut entry = self.entry(number);
-        if !entry.mode.writes() {
+        let mut open_file = self.open_file(number);
+        if !open_file.mode.writes() {
             return Err(Refusal::WrongDirection.into());
         }
-        if bytes.is_empty() {
+        if data.is_empty() {
             return Ok(Answer::done());
         }
-        let start = match entry.mode {
-            OpenMode::APPEND => self.file(entry.slot).length,
-            _ => entry.position,
+        let start = match open_file.mode {
+            OpenMode::APPEND => self.file(open_file.slot).length,
+            _ => open_file.offset,
         } as usize;
         // A gap before the start is 0 already: a file's bytes past its length are.
-        let end = Some(start + bytes.len())
+        let end = Some(start + data.len())
             .filter(|&end| end <= BLOCK)
             .ok_or(Refusal::TooLong)?;
-        self.block_mut(entry.slot)[start..end].copy_from_slice(bytes);
-        self.change_file(entry.slot, |file| {
+        self.block_mut(open_file.slot)[start..end].copy_from_slice(data);
+        self.change_file(open_file.slot, |file| {
             file.length = file.length.max(end as u32);
-            file.raise_stamp();
+            file.raise_version();
         });
-        entry.position = end as u32;
-        self.set_entry(number, entry);
-        Ok(Answer::value(bytes.len() as u32))
+        open_file.offset = end as u32;
+        self.set_open_file(number, open_file);
+        Ok(Answer::value(data.len() as u32))
     }
 
     /// Call 13.
@@ -79,9 +79,9 @@ impl Store<'_> {
         position: u32,
     ) -> Result<Answer, Refused> {
         let (_, number) = self.held(caller, descriptor)?;
-        let mut entry = self.entry(number);
-        entry.position = position;
-        self.set_entry(number, entry);
+        let mut open_file = self.open_file(number);
+        open_file.offset = position;
+        self.set_open_file(number, open_file);
         Ok(Answer::value(position))
     }
 

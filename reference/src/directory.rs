@@ -1,87 +1,87 @@
-//! The places of a directory, as they lie in its 512 bytes.
+//! The entries of a directory, as they lie in its 512 bytes.
 
 use crate::numbers::Slot;
 use crate::path::LONGEST_NAME;
 
 pub const BLOCK: usize = 512;
-const PLACES: usize = 16;
-const PLACE: usize = 16;
-const PLACES_END: usize = PLACES * PLACE;
+const DIRENTS: usize = 16;
+const DIRENT_WIDTH: usize = 16;
+const DIRENTS_END: usize = DIRENTS * DIRENT_WIDTH;
 const SLOT_AT: usize = LONGEST_NAME;
 
 /// The bytes of one slot.
 pub type Block = [u8; BLOCK];
 
 /// A name padded with 0 to 14 bytes, the slot, then 0; or all 0.
-pub type Place = [u8; PLACE];
+pub type Dirent = [u8; DIRENT_WIDTH];
 
-pub fn places(block: &Block) -> &[Place] {
-    block[..PLACES_END].as_chunks().0
+pub fn dirents(block: &Block) -> &[Dirent] {
+    block[..DIRENTS_END].as_chunks().0
 }
 
-fn places_mut(block: &mut Block) -> &mut [Place] {
-    block[..PLACES_END].as_chunks_mut().0
+fn dirents_mut(block: &mut Block) -> &mut [Dirent] {
+    block[..DIRENTS_END].as_chunks_mut().0
 }
 
-/// The bytes after the last place.
+/// The bytes after the last entry.
 pub fn rest(block: &Block) -> &[u8] {
-    &block[PLACES_END..]
+    &block[DIRENTS_END..]
 }
 
-pub fn is_empty(place: &Place) -> bool {
-    *place == [0; PLACE]
+pub fn is_empty(dirent: &Dirent) -> bool {
+    *dirent == [0; DIRENT_WIDTH]
 }
 
-/// The name in a place, without its padding.
-pub fn name(place: &Place) -> &[u8] {
-    let padded = &place[..LONGEST_NAME];
+/// The name in an entry, without its padding.
+pub fn name(dirent: &Dirent) -> &[u8] {
+    let padded = &dirent[..LONGEST_NAME];
     let length = padded.iter().position(|&byte| byte == 0);
     &padded[..length.unwrap_or(LONGEST_NAME)]
 }
 
-pub fn slot(place: &Place) -> Slot {
-    Slot(u32::from(place[SLOT_AT]))
+pub fn slot(dirent: &Dirent) -> Slot {
+    Slot(u32::from(dirent[SLOT_AT]))
 }
 
-/// The place that gives this name to this slot.
-pub fn place(name: &[u8], slot: Slot) -> Place {
-    let mut place = [0; PLACE];
-    place[..name.len()].copy_from_slice(name);
-    place[SLOT_AT] = slot.0 as u8;
-    place
+/// The entry that gives this name to this slot.
+pub fn dirent(name: &[u8], slot: Slot) -> Dirent {
+    let mut dirent = [0; DIRENT_WIDTH];
+    dirent[..name.len()].copy_from_slice(name);
+    dirent[SLOT_AT] = slot.0 as u8;
+    dirent
 }
 
-/// The number of the place that holds the name.
+/// The number of the entry that holds the name.
 pub fn find(block: &Block, name: &[u8]) -> Option<usize> {
-    let wanted = place(name, Slot::ROOT);
-    places(block)
+    let wanted = dirent(name, Slot::ROOT);
+    dirents(block)
         .iter()
-        .position(|place| place[..LONGEST_NAME] == wanted[..LONGEST_NAME])
+        .position(|dirent| dirent[..LONGEST_NAME] == wanted[..LONGEST_NAME])
 }
 
-/// The lowest empty place.
-pub fn free_place(block: &Block) -> Option<usize> {
-    places(block).iter().position(is_empty)
+/// The lowest empty entry.
+pub fn free_dirent(block: &Block) -> Option<usize> {
+    dirents(block).iter().position(is_empty)
 }
 
 pub fn slot_at(block: &Block, number: usize) -> Slot {
-    slot(&places(block)[number])
+    slot(&dirents(block)[number])
 }
 
-pub fn put(block: &mut Block, number: usize, place: Place) {
-    places_mut(block)[number] = place;
+pub fn put(block: &mut Block, number: usize, dirent: Dirent) {
+    dirents_mut(block)[number] = dirent;
 }
 
 pub fn clear(block: &mut Block, number: usize) {
-    places_mut(block)[number] = [0; PLACE];
+    dirents_mut(block)[number] = [0; DIRENT_WIDTH];
 }
 
 /// The `index`-th name in byte order, from 0.
 pub fn name_in_order(block: &Block, index: usize) -> Option<&[u8]> {
-    let mut names: [&[u8]; PLACES] = [&[]; PLACES];
+    let mut names: [&[u8]; DIRENTS] = [&[]; DIRENTS];
     let mut count = 0;
-    for place in places(block).iter().filter(|place| !is_empty(place)) {
-        names[count] = name(place);
+    for dirent in dirents(block).iter().filter(|dirent| !is_empty(dirent)) {
+        names[count] = name(dirent);
         count += 1;
     }
     let names = &mut names[..count];

@@ -22,16 +22,16 @@ impl Store<'_> {
     ) -> Result<Answer, Refused> {
         let parent = self.check_new_name(caller, target)?;
         let slot = self.lowest_free_slot().ok_or(Refusal::TableFull)?;
-        let place = self.check_place(parent)?;
+        let dirent = self.check_dirent(parent)?;
         let made = File {
             kind,
             owner: caller.user,
             bits,
             label: self.file(parent).label,
-            ..File::free(self.file(slot).stamp)
+            ..File::free(self.file(slot).version)
         };
         self.set_file(slot, made);
-        self.add_name(parent, place, target.name, slot);
+        self.add_name(parent, dirent, target.name, slot);
         Ok(Answer::value(slot.0))
     }
 
@@ -63,8 +63,8 @@ impl Store<'_> {
         let slot = self.walk(caller, old)?;
         self.check_kind(slot, Kind::PLAIN)?;
         let parent = self.check_new_name(caller, new)?;
-        let place = self.check_place(parent)?;
-        self.add_name(parent, place, new.name, slot);
+        let dirent = self.check_dirent(parent)?;
+        self.add_name(parent, dirent, new.name, slot);
         Ok(Answer::done())
     }
 
@@ -78,7 +78,7 @@ impl Store<'_> {
         Ok(parent)
     }
 
-    fn check_place(&self, parent: Slot) -> Result<usize, Refusal> {
-        directory::free_place(self.block(parent)).ok_or(Refusal::TableFull)
+    fn check_dirent(&self, parent: Slot) -> Result<usize, Refusal> {
+        directory::free_dirent(self.block(parent)).ok_or(Refusal::TableFull)
     }
 }

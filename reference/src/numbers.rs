@@ -4,7 +4,7 @@
 //! what makes sure that they are in range.
 
 pub const SLOTS: usize = 128;
-pub const ENTRIES: usize = 32;
+pub const OPEN_FILES: usize = 32;
 pub const PROCESSES: usize = 8;
 pub const DESCRIPTORS: usize = 8;
 
@@ -28,26 +28,26 @@ impl Slot {
     }
 }
 
-/// The number of an open entry.
+/// The number of an open file.
 #[derive(Clone, Copy, Debug, PartialEq, Eq)]
-pub struct EntryNumber(pub u32);
+pub struct OpenFileNumber(pub u32);
 
-impl EntryNumber {
+impl OpenFileNumber {
     pub fn index(self) -> usize {
         self.0 as usize
     }
 
-    pub fn all() -> impl Iterator<Item = EntryNumber> {
-        (0..ENTRIES as u32).map(EntryNumber)
+    pub fn all() -> impl Iterator<Item = OpenFileNumber> {
+        (0..OPEN_FILES as u32).map(OpenFileNumber)
     }
 
-    /// What a descriptor word names: 0 is nothing, `e + 1` is entry `e`.
-    pub fn from_word(word: u32) -> Option<EntryNumber> {
-        word.checked_sub(1).map(EntryNumber)
+    /// What a descriptor word names: 0 is nothing, `e + 1` is open file `e`.
+    pub fn from_word(word: u32) -> Option<OpenFileNumber> {
+        word.checked_sub(1).map(OpenFileNumber)
     }
 
-    pub fn to_word(held: Option<EntryNumber>) -> u32 {
-        held.map_or(0, |entry| entry.0 + 1)
+    pub fn to_word(held: Option<OpenFileNumber>) -> u32 {
+        held.map_or(0, |open_file| open_file.0 + 1)
     }
 }
 
@@ -69,7 +69,7 @@ impl ProcessNumber {
     }
 }
 
-/// The number by which a process holds an open entry.
+/// The number by which a process holds an open file.
 #[derive(Clone, Copy, Debug, PartialEq, Eq)]
 pub struct Descriptor(u8);
 

@@ -5,7 +5,7 @@ use crate::answer::Answer;
 use crate::directory::{self, BLOCK};
 use crate::numbers::Slot;
 use crate::path::Path;
-use crate::records::{Entry, Kind};
+use crate::records::{Kind, OpenFile};
 use crate::refusal::{Refusal, Refused};
 use crate::rights::{Opening, Rights};
 use crate::tables::Store;
@@ -24,28 +24,28 @@ impl Store<'_> {
         let descriptor = self
             .lowest_free_descriptor(caller.process)
             .ok_or(Refusal::TableFull)?;
-        let number = self.lowest_free_entry().ok_or(Refusal::TableFull)?;
-        let entry = Entry {
+        let number = self.lowest_free_open_file().ok_or(Refusal::TableFull)?;
+        let open_file = OpenFile {
             slot,
             mode: opening.mode,
-            position: 0,
+            offset: 0,
             references: 1,
         };
-        self.set_entry(number, entry);
+        self.set_open_file(number, open_file);
         self.set_descriptor(caller.process, descriptor, Some(number));
-        if opening.cut {
-            self.cut(slot);
+        if opening.truncate {
+            self.truncate(slot);
         }
         Ok(Answer::value(descriptor.index() as u32))
     }
 
     /// Empties a file. An empty one stays as it is.
-    fn cut(&mut self, slot: Slot) {
+    fn truncate(&mut self, slot: Slot) {
         if self.file(slot).length > 0 {
             *self.block_mut(slot) = [0; BLOCK];
             self.change_file(slot, |file| {
                 file.length = 0;
-                file.raise_stamp();
+                file.raise_version();
             });
         }
     }

@@ -6,12 +6,12 @@ use crate::refusal::{Refusal, Refused};
 use crate::tables::Store;
 
 impl Store<'_> {
-    /// Call 15: the child holds the same entries, and so shares positions.
+    /// Call 15: the child holds the same open files, and so shares offsets.
     pub fn fork(&mut self, caller: Caller) -> Result<Answer, Refused> {
         let child = self.lowest_free_process().ok_or(Refusal::TableFull)?;
         self.copy_process(caller.process, child);
-        for entry in self.process(child).entries() {
-            self.add_reference(entry);
+        for open_file in self.process(child).open_files() {
+            self.add_reference(open_file);
         }
         Ok(Answer::value(child.index() as u32))
     }
@@ -20,8 +20,8 @@ impl Store<'_> {
     pub fn exit(&mut self, caller: Caller) -> Result<Answer, Refused> {
         let leaving = self.process(caller.process);
         self.clear_process(caller.process);
-        for entry in leaving.entries() {
-            self.drop_reference(entry);
+        for open_file in leaving.open_files() {
+            self.drop_reference(open_file);
         }
         Ok(Answer::done())
     }

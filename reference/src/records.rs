@@ -2,12 +2,12 @@
 //!
 //! Every word is taken as it stands: the soundness test judges the ranges.
 
-use crate::numbers::{EntryNumber, Slot, DESCRIPTORS};
+use crate::numbers::{OpenFileNumber, Slot, DESCRIPTORS};
 use crate::rights::{OpenMode, Rights};
 
-pub const FILE_WORDS: usize = 7;
-pub const ENTRY_WORDS: usize = 4;
-pub const PROCESS_WORDS: usize = 3 + DESCRIPTORS;
+pub const FILE_WIDTH: usize = 7;
+pub const OPEN_FILE_WIDTH: usize = 4;
+pub const PROCESS_WIDTH: usize = 3 + DESCRIPTORS;
 
 #[derive(Clone, Copy, Debug, PartialEq, Eq)]
 pub struct Kind(u32);
@@ -25,77 +25,77 @@ pub struct File {
     pub bits: Rights,
     pub label: u32,
     pub length: u32,
-    pub names: u32,
-    pub stamp: u32,
+    pub links: u32,
+    pub version: u32,
 }
 
 impl File {
-    /// A free record: zero but for its stamp.
-    pub fn free(stamp: u32) -> File {
+    /// A free record: zero but for its version.
+    pub fn free(version: u32) -> File {
         File {
             kind: Kind::FREE,
             owner: 0,
             bits: Rights::NONE,
             label: 0,
             length: 0,
-            names: 0,
-            stamp,
+            links: 0,
+            version,
         }
     }
 
-    pub fn from_words(words: [u32; FILE_WORDS]) -> File {
-        let [kind, owner, bits, label, length, names, stamp] = words;
+    pub fn from_words(words: [u32; FILE_WIDTH]) -> File {
+        let [kind, owner, bits, label, length, links, version] = words;
         File {
             kind: Kind(kind),
             owner,
             bits: Rights(bits),
             label,
             length,
-            names,
-            stamp,
+            links,
+            version,
         }
     }
 
-    pub fn words(&self) -> [u32; FILE_WORDS] {
+    pub fn words(&self) -> [u32; FILE_WIDTH] {
         [
             self.kind.0,
             self.owner,
             self.bits.0,
             self.label,
             self.length,
-            self.names,
-            self.stamp,
+            self.links,
+            self.version,
         ]
     }
 
-    pub fn raise_stamp(&mut self) {
-        self.stamp = self.stamp.wrapping_add(1);
+    pub fn raise_version(&mut self) {
+        self.version = self.version.wrapping_add(1);
     }
 }
 
 #[derive(Clone, Copy, Debug, PartialEq, Eq)]
-pub struct Entry {
+pub struct OpenFile {
     pub slot: Slot,
     pub mode: OpenMode,
-    pub position: u32,
+    pub offset: u32,
     pub references: u32,
 }
 
-impl Entry {
-    pub const FREE_WORDS: [u32; ENTRY_WORDS] = [0; ENTRY_WORDS];
+impl OpenFile {
+    pub const FREE_WORDS: [u32; OPEN_FILE_WIDTH] = [0; OPEN_FILE_WIDTH];
 
-    pub fn from_words(words: [u32; ENTRY_WORDS]) -> Entry {
-        let [slot, mode, position, references] = words;
-        Entry {
+    pub fn from_words(words: [u32; OPEN_FILE_WIDTH]) -> OpenFile {
+        let [slot, mode, offset, references] = words;
+        OpenFile {
             slot: Slot(slot),
             mode: OpenMode(mode),
-            position,
+            offset,
             references,
         }
     }
 
-    pub fn words(&self) -> [u32; ENTRY_WORDS] {
-        [self.slot.0, self.mode.0, self.position, self.references]
+    pub fn words(&self) -> [u32; OPEN_FILE_WIDTH] {
+        [self.slot.0, self.mode.0, self.offset, self.references]
     }
 }
 
@@ -108,9 +108,9 @@ pub struct Process {
 }
 
 impl Process {
-    pub const FREE_WORDS: [u32; PROCESS_WORDS] = [0; PROCESS_WORDS];
+    pub const FREE_WORDS: [u32; PROCESS_WIDTH] = [0; PROCESS_WIDTH];
 
-    pub fn from_words(words: [u32; PROCESS_WORDS]) -> Process {
+    pub fn from_words(words: [u32; PROCESS_WIDTH]) -> Process {
         let [in_use, user, label, descriptors @ ..] = words;
         Process {
             in_use,
@@ -120,10 +120,10 @@ impl Process {
         }
     }
 
-    /// The entries that the descriptors hold, in the order of descriptors.
-    pub fn entries(&self) -> impl Iterator<Item = EntryNumber> + '_ {
+    /// The open files that the descriptors hold, in the order of descriptors.
+    pub fn open_files(&self) -> impl Iterator<Item = OpenFileNumber> + '_ {
         self.descriptors
             .iter()
-            .filter_map(|&word| EntryNumber::from_word(word))
+            .filter_map(|&word| OpenFileNumber::from_word(word))
     }
 }

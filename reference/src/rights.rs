@@ -1,12 +1,12 @@
 //! Rights, and the modes in which a file can be open.
 
-/// A set of rights: read 4, write 2, search or execute 1.
+/// A set of rights: read 4, write 2, execute 1.
 #[derive(Clone, Copy, Debug, PartialEq, Eq)]
 pub struct Rights(pub u32);
 
 impl Rights {
     pub const NONE: Rights = Rights(0);
-    pub const SEARCH: Rights = Rights(1);
+    /// Of a directory: to search it.
     pub const EXECUTE: Rights = Rights(1);
     pub const WRITE: Rights = Rights(2);
     pub const READ: Rights = Rights(4);
@@ -28,7 +28,7 @@ impl Rights {
     }
 }
 
-/// The mode of an open entry.
+/// The mode of an open file.
 #[derive(Clone, Copy, Debug, PartialEq, Eq)]
 pub struct OpenMode(pub u32);
 
@@ -64,19 +64,19 @@ impl OpenMode {
     }
 }
 
-/// An open call's number: a mode, and whether the file is to be cut.
+/// An open call's number: a mode, and whether the file is to be truncated.
 #[derive(Clone, Copy, Debug, PartialEq, Eq)]
 pub struct Opening {
     pub mode: OpenMode,
-    pub cut: bool,
+    pub truncate: bool,
 }
 
 impl Opening {
-    const CUT: u32 = 8;
+    const TRUNCATE: u32 = 8;
 
     pub fn new(number: u32) -> Option<Opening> {
-        let cut = number & Opening::CUT != 0;
-        let mode = OpenMode::new(number & !Opening::CUT)?;
-        (mode.writes() || !cut).then_some(Opening { mode, cut })
+        let truncate = number & Opening::TRUNCATE != 0;
+        let mode = OpenMode::new(number & !Opening::TRUNCATE)?;
+        (mode.writes() || !truncate).then_some(Opening { mode, truncate })
     }
 }

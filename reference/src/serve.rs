@@ -49,7 +49,7 @@ impl Store<'_> {
             Stat { path } => self.stat(caller, &path),
             Close { descriptor } => self.close(caller, descriptor),
             Read { descriptor } => self.read(caller, descriptor, buffer),
-            Write { descriptor, bytes } => self.write(caller, descriptor, bytes),
+            Write { descriptor, data } => self.write(caller, descriptor, data),
             Seek {
                 descriptor,
                 position,

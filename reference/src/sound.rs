@@ -2,11 +2,11 @@
 //!
 //! Nothing here trusts a number before it is known to be in range.
 
-use crate::command::LAST_POSITION;
-use crate::directory::{self, Block, Place, BLOCK};
-use crate::numbers::{EntryNumber, Slot, ENTRIES, SLOTS};
+use crate::command::LAST_OFFSET;
+use crate::directory::{self, Block, Dirent, BLOCK};
+use crate::numbers::{OpenFileNumber, Slot, OPEN_FILES, SLOTS};
 use crate::path::{is_name, MOST_NAMES};
-use crate::records::{Entry, File, Kind, Process};
+use crate::records::{File, Kind, OpenFile, Process};
 use crate::tables::{Policy, Tables, LABELS, NO_TRANSITION, RIGHTS};
 
 const LAST_USER: u32 = 65_535;
@@ -14,7 +14,7 @@ const LAST_USER: u32 = 65_535;
 pub fn is_sound(tables: &Tables) -> bool {
     policy_is_sound(tables.policy)
         && processes_are_sound(tables)
-        && entries_are_sound(tables)
+        && open_files_are_sound(tables)
         && files_are_sound(tables)
         && Naming::count(tables).is_some_and(|naming| naming.is_sound(tables))
 }
@@ -37,51 +37,53 @@ fn process_is_in_range(process: &Process) -> bool {
     process.in_use == 1
         && process.user <= LAST_USER
         && process.label < LABELS as u32
-        && process.entries().all(|entry| entry.index() < ENTRIES)
+        && process
+            .open_files()
+            .all(|open_file| open_file.index() < OPEN_FILES)
 }
 
-/// Every entry is free and not held, or open on a plain file and held.
+/// Every open file is free and not held, or of a plain file and held.
 /// The processes must be sound.
-fn entries_are_sound(tables: &Tables) -> bool {
+fn open_files_are_sound(tables: &Tables) -> bool {
     let held = count_references(tables);
-    EntryNumber::all().all(|number| {
+    OpenFileNumber::all().all(|number| {
         let words = tables.open_files[number.index()];
         let references = held[number.index()];
         if references == 0 {
-            words == Entry::FREE_WORDS
+            words == OpenFile::FREE_WORDS
         } else {
-            let entry = Entry::from_words(words);
-            entry.references == references && entry_is_in_range(tables, &entry)
+            let open_file = OpenFile::from_words(words);
+            open_file.references == references && open_file_is_in_range(tables, &open_file)
         }
     })
 }
 
-fn count_references(tables: &Tables) -> [u32; ENTRIES] {
-    let mut held = [0; ENTRIES];
+fn count_references(tables: &Tables) -> [u32; OPEN_FILES] {
+    let mut held = [0; OPEN_FILES];
     for &words in tables.processes {
-        for entry in Process::from_words(words).entries() {
-            held[entry.index()] += 1;
+        for open_file in Process::from_words(words).open_files() {
+            held[open_file.index()] += 1;
         }
     }
     held
 }
 
-fn entry_is_in_range(tables: &Tables, entry: &Entry) -> bool {
-    Slot::new(entry.slot.0).is_some_and(|slot| file(tables, slot).kind == Kind::PLAIN)
-        && entry.mode.in_range()
-        && entry.position <= LAST_POSITION
+fn open_file_is_in_range(tables: &Tables, open_file: &OpenFile) -> bool {
+    Slot::new(open_file.slot.0).is_some_and(|slot| file(tables, slot).kind == Kind::PLAIN)
+        && open_file.mode.in_range()
+        && open_file.offset <= LAST_OFFSET
 }
 
 fn files_are_sound(tables: &Tables) -> bool {
     Slot::all().all(|slot| file_is_sound(&file(tables, slot), &tables.contents[slot.index()]))
 }
 
-/// What a record and its bytes must be, names and place in the tree aside.
+/// What a record and its bytes must be, links and place in the tree aside.
 fn file_is_sound(file: &File, block: &Block) -> bool {
     match file.kind {
-        Kind::FREE => *file == File::free(file.stamp) && is_zero(block),
+        Kind::FREE => *file == File::free(file.version) && is_zero(block),
         Kind::PLAIN => fields_are_in_range(file) && bytes_fit(file, block),
-        Kind::DIRECTORY => fields_are_in_range(file) && places_are_sound(file, block),
+        Kind::DIRECTORY => fields_are_in_range(file) && dirents_are_sound(file, block),
         _ => false,
     }
 }
@@ -95,61 +97,61 @@ fn bytes_fit(file: &File, block: &Block) -> bool {
     length <= BLOCK && is_zero(&block[length..])
 }
 
-fn places_are_sound(file: &File, block: &Block) -> bool {
-    let places = directory::places(block);
-    let named = places.iter().filter(|place| !directory::is_empty(place));
+fn dirents_are_sound(file: &File, block: &Block) -> bool {
+    let dirents = directory::dirents(block);
+    let named = dirents.iter().filter(|dirent| !directory::is_empty(dirent));
     named.clone().count() == file.length as usize
-        && named.clone().all(place_is_well_formed)
-        && names_differ(places)
+        && named.clone().all(dirent_is_well_formed)
+        && names_differ(dirents)
         && is_zero(directory::rest(block))
 }
 
-/// Whether the place is just what giving its name to its slot writes.
-fn place_is_well_formed(place: &Place) -> bool {
-    let name = directory::name(place);
-    is_name(name) && *place == directory::place(name, directory::slot(place))
+/// Whether the directory entry is just what giving its name to its slot writes.
+fn dirent_is_well_formed(dirent: &Dirent) -> bool {
+    let name = directory::name(dirent);
+    is_name(name) && *dirent == directory::dirent(name, directory::slot(dirent))
 }
 
-fn names_differ(places: &[Place]) -> bool {
-    places.iter().enumerate().all(|(index, place)| {
-        let name = directory::name(place);
+fn names_differ(dirents: &[Dirent]) -> bool {
+    dirents.iter().enumerate().all(|(index, dirent)| {
+        let name = directory::name(dirent);
         name.is_empty()
-            || places[..index]
+            || dirents[..index]
                 .iter()
                 .all(|earlier| directory::name(earlier) != name)
     })
 }
 
-/// Which directory places name which slots.
+/// Which directory entries name which slots.
 struct Naming {
-    names: [u32; SLOTS],
+    links: [u32; SLOTS],
     /// The last directory found to name a slot.
     parent: [Option<Slot>; SLOTS],
 }
 
 impl Naming {
-    /// Counts all places, each of which must name a slot in use other than 0.
+    /// Counts all directory entries; each must name a slot in use other than 0.
     fn count(tables: &Tables) -> Option<Naming> {
         let mut naming = Naming {
-            names: [0; SLOTS],
+            links: [0; SLOTS],
             parent: [None; SLOTS],
         };
         for parent in Slot::all() {
             if file(tables, parent).kind == Kind::DIRECTORY {
-                naming.count_places(tables, parent)?;
+                naming.count_dirents(tables, parent)?;
             }
         }
         Some(naming)
     }
 
-    fn count_places(&mut self, tables: &Tables, parent: Slot) -> Option<()> {
-        for place in directory::places(&tables.contents[parent.index()]) {
-            if !directory::is_empty(place) {
-                let slot = Slot::new(directory::slot(place).0)?;
+    fn count_dirents(&mut self, tables: &Tables, parent: Slot) -> Option<()> {
+        for dirent in directory::dirents(&tables.contents[parent.index()]) {
+            if !directory::is_empty(dirent) {
+                let slot = Slot::new(directory::slot(dirent).0)?;
                 if slot == Slot::ROOT || file(tables, slot).kind == Kind::FREE {
                     return None;
                 }
-                self.names[slot.index()] += 1;
+                self.links[slot.index()] += 1;
                 self.parent[slot.index()] = Some(parent);
             }
         }
@@ -160,11 +162,11 @@ impl Naming {
         file(tables, Slot::ROOT).kind == Kind::DIRECTORY
             && Slot::all().all(|slot| {
                 let file = file(tables, slot);
-                file.names == self.names[slot.index()]
+                file.links == self.links[slot.index()]
                     && match file.kind {
-                        Kind::PLAIN => file.names > 0 || is_open(tables, slot),
+                        Kind::PLAIN => file.links > 0 || is_open(tables, slot),
                         Kind::DIRECTORY => {
-                            slot == Slot::ROOT || file.names == 1 && self.is_reached(slot)
+                            slot == Slot::ROOT || file.links == 1 && self.is_reached(slot)
                         }
                         _ => true,
                     }
@@ -189,7 +191,7 @@ fn is_open(tables: &Tables, slot: Slot) -> bool {
     tables
         .open_files
         .iter()
-        .any(|&words| words != Entry::FREE_WORDS && Entry::from_words(words).slot == slot)
+        .any(|&words| words != OpenFile::FREE_WORDS && OpenFile::from_words(words).slot == slot)
 }
 
 fn file(tables: &Tables, slot: Slot) -> File {

@@ -2,18 +2,20 @@
 //! them.
 
 use crate::directory::Block;
-use crate::numbers::{Descriptor, EntryNumber, ProcessNumber, Slot, ENTRIES, PROCESSES, SLOTS};
-use crate::records::{Entry, File, Process, ENTRY_WORDS, FILE_WORDS, PROCESS_WORDS};
+use crate::numbers::{
+    Descriptor, OpenFileNumber, ProcessNumber, Slot, OPEN_FILES, PROCESSES, SLOTS,
+};
+use crate::records::{File, OpenFile, Process, FILE_WIDTH, OPEN_FILE_WIDTH, PROCESS_WIDTH};
 use crate::rights::Rights;
 
 pub const LABELS: usize = 16;
 pub const RIGHTS: usize = LABELS * LABELS;
 pub const NO_TRANSITION: u8 = 255;
 
-pub type FileTable = [[u32; FILE_WORDS]; SLOTS];
+pub type FileTable = [[u32; FILE_WIDTH]; SLOTS];
 pub type ContentsTable = [Block; SLOTS];
-pub type EntryTable = [[u32; ENTRY_WORDS]; ENTRIES];
-pub type ProcessTable = [[u32; PROCESS_WORDS]; PROCESSES];
+pub type OpenFileTable = [[u32; OPEN_FILE_WIDTH]; OPEN_FILES];
+pub type ProcessTable = [[u32; PROCESS_WIDTH]; PROCESSES];
 pub type Policy = [u8; 2 * RIGHTS];
 
 /// The tables, lent for reading.
@@ -21,7 +23,7 @@ pub type Policy = [u8; 2 * RIGHTS];
 pub struct Tables<'a> {
     pub files: &'a FileTable,
     pub contents: &'a ContentsTable,
-    pub open_files: &'a EntryTable,
+    pub open_files: &'a OpenFileTable,
     pub processes: &'a ProcessTable,
     pub policy: &'a Policy,
 }
@@ -49,7 +51,7 @@ impl<'a> Tables<'a> {
 pub struct Store<'a> {
     files: &'a mut FileTable,
     contents: &'a mut ContentsTable,
-    open_files: &'a mut EntryTable,
+    open_files: &'a mut OpenFileTable,
     processes: &'a mut ProcessTable,
     policy: &'a Policy,
 }
@@ -98,16 +100,16 @@ impl<'a> Store<'a> {
         &mut self.contents[slot.index()]
     }
 
-    pub fn entry(&self, number: EntryNumber) -> Entry {
-        Entry::from_words(self.open_files[number.index()])
+    pub fn open_file(&self, number: OpenFileNumber) -> OpenFile {
+        OpenFile::from_words(self.open_files[number.index()])
     }
 
-    pub fn set_entry(&mut self, number: EntryNumber, entry: Entry) {
-        self.open_files[number.index()] = entry.words();
+    pub fn set_open_file(&mut self, number: OpenFileNumber, open_file: OpenFile) {
+        self.open_files[number.index()] = open_file.words();
     }
 
-    pub fn clear_entry(&mut self, number: EntryNumber) {
-        self.open_files[number.index()] = Entry::FREE_WORDS;
+    pub fn clear_open_file(&mut self, number: OpenFileNumber) {
+        self.open_files[number.index()] = OpenFile::FREE_WORDS;
     }
 
     pub fn process(&self, number: ProcessNumber) -> Process {
@@ -130,9 +132,9 @@ impl<'a> Store<'a> {
         &mut self,
         process: ProcessNumber,
         descriptor: Descriptor,
-        held: Option<EntryNumber>,
+        held: Option<OpenFileNumber>,
     ) {
-        self.processes[process.index()][3 + descriptor.index()] = EntryNumber::to_word(held);
+        self.processes[process.index()][3 + descriptor.index()] = OpenFileNumber::to_word(held);
     }
 
     /// The rights of a process label over a file label.

@@ -1,7 +1,7 @@
-//! Free places, and what keeps a file alive: its names and open entries.
+//! What is free, and what keeps a file alive: its links and open files.
 
 use crate::directory::{self, BLOCK};
-use crate::numbers::{Descriptor, EntryNumber, ProcessNumber, Slot};
+use crate::numbers::{Descriptor, OpenFileNumber, ProcessNumber, Slot};
 use crate::records::{File, Kind};
 use crate::tables::Store;
 use crate::walk::Found;
@@ -11,8 +11,8 @@ impl Store<'_> {
         Slot::all().find(|&slot| self.file(slot).kind == Kind::FREE)
     }
 
-    pub fn lowest_free_entry(&self) -> Option<EntryNumber> {
-        EntryNumber::all().find(|&number| self.entry(number).references == 0)
+    pub fn lowest_free_open_file(&self) -> Option<OpenFileNumber> {
+        OpenFileNumber::all().find(|&number| self.open_file(number).references == 0)
     }
 
     pub fn lowest_free_process(&self) -> Option<ProcessNumber> {
@@ -24,63 +24,63 @@ impl Store<'_> {
         Descriptor::all().find(|descriptor| words[descriptor.index()] == 0)
     }
 
-    /// Gives the slot a name in an empty place of a directory.
-    pub fn add_name(&mut self, parent: Slot, place: usize, name: &[u8], slot: Slot) {
-        let named = directory::place(name, slot);
-        directory::put(self.block_mut(parent), place, named);
+    /// Gives the slot a name in an empty entry of a directory.
+    pub fn add_name(&mut self, parent: Slot, dirent: usize, name: &[u8], slot: Slot) {
+        let named = directory::dirent(name, slot);
+        directory::put(self.block_mut(parent), dirent, named);
         self.change_file(parent, |directory| {
             directory.length += 1;
-            directory.raise_stamp();
+            directory.raise_version();
         });
-        self.change_file(slot, |file| file.names += 1);
+        self.change_file(slot, |file| file.links += 1);
     }
 
     /// Takes a name out of its directory.
     pub fn remove_name(&mut self, found: &Found) {
-        directory::clear(self.block_mut(found.parent), found.place);
+        directory::clear(self.block_mut(found.parent), found.dirent);
         self.change_file(found.parent, |directory| {
             directory.length -= 1;
-            directory.raise_stamp();
+            directory.raise_version();
         });
-        self.change_file(found.slot, |file| file.names -= 1);
+        self.change_file(found.slot, |file| file.links -= 1);
     }
 
-    pub fn add_reference(&mut self, number: EntryNumber) {
-        let mut entry = self.entry(number);
-        entry.references += 1;
-        self.set_entry(number, entry);
+    pub fn add_reference(&mut self, number: OpenFileNumber) {
+        let mut open_file = self.open_file(number);
+        open_file.references += 1;
+        self.set_open_file(number, open_file);
     }
 
-    /// Drops one reference to an entry; the last one takes the entry along.
-    pub fn drop_reference(&mut self, number: EntryNumber) {
-        let mut entry = self.entry(number);
-        entry.references -= 1;
-        if entry.references > 0 {
-            self.set_entry(number, entry);
+    /// Drops one reference to an open file, which goes with the last one.
+    pub fn drop_reference(&mut self, number: OpenFileNumber) {
+        let mut open_file = self.open_file(number);
+        open_file.references -= 1;
+        if open_file.references > 0 {
+            self.set_open_file(number, open_file);
         } else {
-            self.clear_entry(number);
-            self.free_if_unreachable(entry.slot);
+            self.clear_open_file(number);
+            self.free_if_unreachable(open_file.slot);
         }
     }
 
-    /// Frees a plain file that has neither a name nor an open entry.
+    /// Frees a plain file that has neither links nor open files.
     pub fn free_if_unreachable(&mut self, slot: Slot) {
-        if self.file(slot).names == 0 && !self.is_open(slot) {
+        if self.file(slot).links == 0 && !self.is_open(slot) {
             self.free(slot);
         }
     }
 
     fn is_open(&self, slot: Slot) -> bool {
-        EntryNumber::all()
-            .map(|number| self.entry(number))
-            .any(|entry| entry.references > 0 && entry.slot == slot)
+        OpenFileNumber::all()
+            .map(|number| self.open_file(number))
+            .any(|open_file| open_file.references > 0 && open_file.slot == slot)
     }
 
     /// Frees a slot.
     pub fn free(&mut self, slot: Slot) {
         *self.block_mut(slot) = [0; BLOCK];
-        let mut file = File::free(self.file(slot).stamp);
-        file.raise_stamp();
+        let mut file = File::free(self.file(slot).version);
+        file.raise_version();
         self.set_file(slot, file);
     }
 

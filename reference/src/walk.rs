@@ -9,10 +9,10 @@ use crate::refusal::{Refusal, Refused};
 use crate::rights::Rights;
 use crate::tables::Store;
 
-/// A name found in a directory: the directory, the place and what it names.
+/// A name found in a directory: the directory, its entry and what that names.
 pub struct Found {
     pub parent: Slot,
-    pub place: usize,
+    pub dirent: usize,
     pub slot: Slot,
 }
 
@@ -47,11 +47,11 @@ impl Store<'_> {
     fn look_up(&self, caller: Caller, parent: Slot, name: &[u8]) -> Result<Found, Refusal> {
         self.check_directory(caller, parent)?;
         let block = self.block(parent);
-        let place = directory::find(block, name).ok_or(Refusal::NameMissing)?;
+        let dirent = directory::find(block, name).ok_or(Refusal::NameMissing)?;
         Ok(Found {
             parent,
-            place,
-            slot: directory::slot_at(block, place),
+            dirent,
+            slot: directory::slot_at(block, dirent),
         })
     }
 
@@ -60,7 +60,7 @@ impl Store<'_> {
         if self.file(slot).kind != Kind::DIRECTORY {
             return Err(Refusal::NotADirectory);
         }
-        self.check_rights(caller, slot, Rights::SEARCH)
+        self.check_rights(caller, slot, Rights::EXECUTE)
     }
 
     /// Refuses a file of another kind than the call needs.

@@ -20,8 +20,8 @@ pub fn directory(building: &mut Building, line: &mut Line) -> Result<(), String>
         building.tables.file_mut(ROOT)[LENGTH] = length;
         return Ok(());
     }
-    if line.operand.iter().filter(|&&byte| byte == b'/').count() > DEEPEST {
-        return Err(format!("a directory is at most {DEEPEST} names deep"));
+    if line.operand.iter().filter(|&&byte| byte == b'/').count() > NAMES {
+        return Err(format!("a directory is at most {NAMES} names deep"));
     }
     add_named(building, line, record).map(|_| ())
 }

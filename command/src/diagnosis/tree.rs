@@ -30,7 +30,7 @@ fn not_named_once(tables: &Tables) -> Option<String> {
 
 fn too_deep(tables: &Tables) -> Option<String> {
     below_root(tables).find_map(|slot| {
-        let depth = depth(tables, slot).filter(|&depth| depth > DEEPEST)?;
+        let depth = depth(tables, slot).filter(|&depth| depth > NAMES)?;
         Some(format!("slot {slot}: a directory {depth} names deep"))
     })
 }

@@ -12,9 +12,8 @@ use lib.Seq.{getD-take, getD-drop}
 use lib.Pow.{shl-exact}
 use lib.Count.{trailingZeros, trailing-le}
 use Rattle.rules.specs.Layout.{DESCRIPTORS, PROCESS}
-use Rattle.rules.specs.Store.{Table, descOf}
+use Rattle.rules.specs.Store.{Table, descOf, fdOf}
 use Rattle.rules.specs.Checks.{held, fdFree, freeFd}
-use Rattle.rules.specs.Effects.{fdOf}
 use Rattle.rules.specs.declared.ids.Pid.{Pid}
 use Rattle.allocation.specs.Word.{bits, usedWord, BitsHeld}
 use Rattle.allocation.proofs.Bits.{set-at, none-past, all-ones, covered, taken, all-taken, first-zeros}
@@ -48,7 +47,7 @@ module _ (desc : Table) (p : Pid) where
   pub bits-held : (w : ℕ) → w ≡ usedWord desc p → BitsHeld desc p w
   bits-held w e = rw e (set-at (λ n. held desc p (fdOf n)) 8, none-past (λ n. held desc p (fdOf n)) 8)
 
-  pub lowest-free : (w r : ℕ) → w ≡ usedWord desc p → r ≡ trailingZeros 8 (255 - w) → r ≡ freeFd desc p
+  pub lowest-free : (w r : ℕ) → w ≡ usedWord desc p → r ≡ trailingZeros 8 (255 - w) → r ≡ freeFd desc p .0
   unfolding held fdFree
   lowest-free w r e q = q ∙ rw e (sym (first-zeros (fdFree desc p) 8))
 

@@ -5,9 +5,8 @@ use mathlib.Core.Bool.{Bool, false, cond}
 use lib.Dec.{eqb}
 use Rattle.rules.specs.Layout.{DESCRIPTORS}
 use Rattle.rules.specs.Scan.{fold}
-use Rattle.rules.specs.Store.{Table}
+use Rattle.rules.specs.Store.{Table, fdOf}
 use Rattle.rules.specs.Checks.{held}
-use Rattle.rules.specs.Effects.{fdOf}
 use Rattle.rules.specs.declared.ids.Pid.{Pid}
 
 -- the number whose binary digits, lowest first, are 1 where t holds of i, i + 1, .. up to and without n, and 0 where it does not

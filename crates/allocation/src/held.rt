@@ -5,8 +5,9 @@ ghost use Rattle.rules.specs.Layout.{USED};
 ghost use Rattle.rules.specs.Store.{procOf, descOf};
 ghost use Rattle.rules.specs.Checks.{inUse, held, ofdHeld};
 use rules::ids::Fd;
+use rules::ids::Ofd;
 use rules::ids::Pid;
-use tables::layout::PROCESSES;
+use tables::ids::is_pid;
 use tables::numbers::down_one;
 
 fn marked_used(processes: &[u32], p: Pid) -> bool
@@ -18,8 +19,7 @@ fn marked_used(processes: &[u32], p: Pid) -> bool
 pub fn in_use(processes: &[u32], p: Pid) -> bool
     ensures { λ r. ⌜ r ≡ inUse (procOf (now (processes .entry))) p ⌝ }
 {
-    let known = p.0 < PROCESSES;
-    if !known {
+    if !is_pid(p) {
         return false;
     }
     marked_used(processes, p)
@@ -32,8 +32,8 @@ pub fn is_held(processes: &[u32], p: Pid, i: Fd) -> bool
 }
 
 // The open file that a descriptor holds.
-pub fn ofd_held(processes: &[u32], p: Pid, i: Fd) -> u32
+pub fn ofd_held(processes: &[u32], p: Pid, i: Fd) -> Ofd
     ensures { λ r. ⌜ r ≡ ofdHeld (descOf (now (processes .entry))) p i ⌝ }
 {
-    down_one(tables::processes::descriptor(processes, p, i))
+    Ofd(down_one(tables::processes::descriptor(processes, p, i)))
 }

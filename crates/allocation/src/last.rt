@@ -6,16 +6,18 @@ ghost use Rattle.rules.specs.Store.{tab};
 ghost use Rattle.rules.specs.Sound.{openBut};
 ghost use Rattle.rules.specs.Checks.{freed};
 use rules::decision::Record;
+use rules::ids::Ofd;
 use rules::ids::Slot;
+use rules::rights::Bits;
 use tables::layout::FREE;
 use tables::numbers::up_one;
-use tables::opens::open_but;
+use tables::open_files::open_but;
 
 // No open file but x is on slot s.
-pub fn none_but(opens: &[u32], x: u32, s: u32) -> bool
-    ensures { λ r. ⌜ r ≡ not (openBut (tab OPEN (now (opens .entry))) x s) ⌝ }
+pub fn none_but(open_files: &[u32], x: Ofd, s: Slot) -> bool
+    ensures { λ r. ⌜ r ≡ not (openBut (tab OPEN (now («open_files» .entry))) x s) ⌝ }
 {
-    !open_but(opens, x, s)
+    !open_but(open_files, x, s)
 }
 
 // The record of slot s once it is freed.
@@ -25,7 +27,7 @@ pub fn freed_record(files: &[u32], s: Slot) -> Record
     Record {
         kind: FREE,
         owner: 0,
-        bits: 0,
+        bits: Bits(0),
         label: 0,
         length: 0,
         links: 0,

@@ -9,14 +9,14 @@ use rules::ids::Pid;
 use tables::layout::DESCRIPTORS;
 use tables::layout::PROCESS;
 
-fn fd_free(processes: &[u32], p: Pid, i: u8) -> bool
-    ensures { λ r. ⌜ r ≡ fdFree (descOf (now (processes .entry))) p i ⌝ }
+fn fd_free(processes: &[u32], p: Pid, i: Fd) -> bool
+    ensures { λ r. ⌜ r ≡ fdFree (descOf (now (processes .entry))) p (i .0) ⌝ }
 {
-    tables::processes::descriptor(processes, p, Fd(i)) == 0
+    tables::processes::descriptor(processes, p, i) == 0
 }
 
-fn bit_if_free(processes: &[u32], p: Pid, i: u8, bit: u8) -> u8
-    ensures { λ r. ⌜ r ≡ cond (fdFree (descOf (now (processes .entry))) p i) bit 0 ⌝ }
+fn bit_if_free(processes: &[u32], p: Pid, i: Fd, bit: u8) -> u8
+    ensures { λ r. ⌜ r ≡ cond (fdFree (descOf (now (processes .entry))) p (i .0)) bit 0 ⌝ }
 {
     if fd_free(processes, p, i) {
         return bit;
@@ -32,7 +32,7 @@ fn word_of(processes: &[u32], p: Pid) -> u8
     let mut w: u8 = 255;
     let mut i: u8 = 0;
     while i < DESCRIPTORS {
-        w -= bit_if_free(processes, p, i, 1 << i);
+        w -= bit_if_free(processes, p, Fd(i), 1 << i);
         i += 1;
     }
     w

@@ -7,9 +7,9 @@ use borrow.Author.Tests.{eqb-true}
 use lib.Dec.{eqb, ltb}
 use lib.ListN.{getD, set}
 use Rattle.rules.specs.Layout.{PROCESS, OWN, DESCRIPTORS}
-use Rattle.rules.specs.Store.{Store, store, view, descOf, applyAll}
+use Rattle.rules.specs.Store.{Store, store, view, descOf, applyAll, fdOf}
 use Rattle.rules.specs.Checks.{held, releasing}
-use Rattle.rules.specs.Effects.{fdOf, releaseChanges, closeChanges, released}
+use Rattle.rules.specs.Effects.{releaseChanges, closeChanges, released}
 use Rattle.rules.specs.declared.decision.Release.the-variants as release
 use Rattle.rules.specs.declared.ids.Pid.{Pid}
 

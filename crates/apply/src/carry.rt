@@ -11,12 +11,12 @@ ghost use Rattle.rules.specs.Effects.{shared, sharedAll, released, releasedAll,
 ghost use Rattle.rules.specs.Calls.{callOf};
 use descriptor_calls::fork::share;
 use descriptor_calls::release::release;
-use descriptor_effects::opens::close_descriptor;
-use descriptor_effects::opens::duplicate_descriptor as duplicate;
-use descriptor_effects::opens::move_offset;
-use descriptor_effects::opens::open_file;
-use descriptor_effects::opens::open_truncated;
-use descriptor_effects::opens::share_descriptor;
+use descriptor_effects::open_files::close_descriptor;
+use descriptor_effects::open_files::duplicate_descriptor as duplicate;
+use descriptor_effects::open_files::move_offset;
+use descriptor_effects::open_files::open_file;
+use descriptor_effects::open_files::open_truncated;
+use descriptor_effects::open_files::share_descriptor;
 use descriptor_effects::processes::free_process;
 use descriptor_effects::processes::make_process;
 use descriptor_effects::processes::relabel_process;
@@ -36,91 +36,97 @@ use tables::layout::PROCESS;
 use tables::words::get;
 
 // The word of a descriptor is 0: it holds nothing.
-fn holds_nothing(processes: &[u32], p: Pid, i: u8) -> bool
-    ensures { λ r. ⌜ r ≡ eqb (getD (now (processes .entry)) (PROCESS * (p .0) + (OWN + i)) 0) 0 ⌝ }
+fn holds_nothing(processes: &[u32], p: Pid, i: Fd) -> bool
+    ensures { λ r. ⌜ r ≡ eqb (getD (now (processes .entry)) (PROCESS * (p .0) + (OWN + i .0)) 0) 0 ⌝ }
 {
-    get(processes, PROCESS * (p.0 as usize) + (OWN + (i as usize))) == 0
+    get(processes, PROCESS * (p.0 as usize) + (OWN + (i.0 as usize))) == 0
 }
 
 // One descriptor of a process that ends.
 fn release_held(
     files: &mut [u32],
     contents: &mut [u8],
-    opens: &mut [u32],
+    open_files: &mut [u32],
     processes: &mut [u32],
     p: Pid,
-    i: u8,
+    i: Fd,
 )
-    ensures { λ _. ⌜ store (now (files .exit)) (now (contents .exit)) (now (opens .exit)) (now (processes .exit)) ≡ released p i (store (now (files .entry)) (now (contents .entry)) (now (opens .entry)) (now (processes .entry))) ⌝ }
+    ensures { λ _. ⌜ store (now (files .exit)) (now (contents .exit)) (now («open_files» .exit)) (now (processes .exit)) ≡ released p (i .0) (store (now (files .entry)) (now (contents .entry)) (now («open_files» .entry)) (now (processes .entry))) ⌝ }
 {
-    let r = release(files, opens, processes, p, Fd(i));
-    close_descriptor(files, contents, opens, processes, p, Fd(i), r);
+    let r = release(files, open_files, processes, p, i);
+    close_descriptor(files, contents, open_files, processes, p, i, r);
 }
 
 // The same, and quicker where nothing is held: there nothing changes.
 fn release_one(
     files: &mut [u32],
     contents: &mut [u8],
-    opens: &mut [u32],
+    open_files: &mut [u32],
     processes: &mut [u32],
     p: Pid,
-    i: u8,
+    i: Fd,
 )
-    ensures { λ _. ⌜ store (now (files .exit)) (now (contents .exit)) (now (opens .exit)) (now (processes .exit)) ≡ released p i (store (now (files .entry)) (now (contents .entry)) (now (opens .entry)) (now (processes .entry))) ⌝ }
+    ensures { λ _. ⌜ store (now (files .exit)) (now (contents .exit)) (now («open_files» .exit)) (now (processes .exit)) ≡ released p (i .0) (store (now (files .entry)) (now (contents .entry)) (now («open_files» .entry)) (now (processes .entry))) ⌝ }
 {
     if holds_nothing(processes, p, i) {
         return;
     }
-    release_held(files, contents, opens, processes, p, i);
+    release_held(files, contents, open_files, processes, p, i);
 }
 
 fn release_all(
     files: &mut [u32],
     contents: &mut [u8],
-    opens: &mut [u32],
+    open_files: &mut [u32],
     processes: &mut [u32],
     p: Pid,
 )
-    ensures { λ _. ⌜ store (now (files .exit)) (now (contents .exit)) (now (opens .exit)) (now (processes .exit)) ≡ releasedAll p (store (now (files .entry)) (now (contents .entry)) (now (opens .entry)) (now (processes .entry))) ⌝ }
+    ensures { λ _. ⌜ store (now (files .exit)) (now (contents .exit)) (now («open_files» .exit)) (now (processes .exit)) ≡ releasedAll p (store (now (files .entry)) (now (contents .entry)) (now («open_files» .entry)) (now (processes .entry))) ⌝ }
 {
     let mut i: u8 = 0;
     while i < DESCRIPTORS {
-        release_one(files, contents, opens, processes, p, i);
+        release_one(files, contents, open_files, processes, p, Fd(i));
         i += 1;
     }
 }
 
 // One descriptor of a child.
-fn share_one(opens: &mut [u32], processes: &mut [u32], p: Pid, q: Pid, i: u8)
-    ensures { λ _. ⌜ ((F C : List ℕ) → store F C (now (opens .exit)) (now (processes .exit)) ≡ shared p q i (store F C (now (opens .entry)) (now (processes .entry)))) ⌝ }
+fn share_one(open_files: &mut [u32], processes: &mut [u32], p: Pid, q: Pid, i: Fd)
+    ensures { λ _. ⌜ ((F C : List ℕ) → store F C (now («open_files» .exit)) (now (processes .exit)) ≡ shared p q (i .0) (store F C (now («open_files» .entry)) (now (processes .entry)))) ⌝ }
 {
-    let s = share(opens, processes, p, Fd(i));
-    share_descriptor(opens, processes, q, Fd(i), s);
+    let s = share(open_files, processes, p, i);
+    share_descriptor(open_files, processes, q, i, s);
 }
 
-fn share_all(opens: &mut [u32], processes: &mut [u32], p: Pid, q: Pid)
-    ensures { λ _. ⌜ ((F C : List ℕ) → store F C (now (opens .exit)) (now (processes .exit)) ≡ sharedAll p q (store F C (now (opens .entry)) (now (processes .entry)))) ⌝ }
+fn share_all(open_files: &mut [u32], processes: &mut [u32], p: Pid, q: Pid)
+    ensures { λ _. ⌜ ((F C : List ℕ) → store F C (now («open_files» .exit)) (now (processes .exit)) ≡ sharedAll p q (store F C (now («open_files» .entry)) (now (processes .entry)))) ⌝ }
 {
     let mut i: u8 = 0;
     while i < DESCRIPTORS {
-        share_one(opens, processes, p, q, i);
+        share_one(open_files, processes, p, q, Fd(i));
         i += 1;
     }
 }
 
 // A child, with its parent's descriptors.
-fn fork(opens: &mut [u32], processes: &mut [u32], p: Pid, q: Pid, user: u32, label: u32)
-    ensures { λ _. ⌜ ((F C : List ℕ) → store F C (now (opens .exit)) (now (processes .exit)) ≡ applyAll (forkChanges q user label) (sharedAll p q (store F C (now (opens .entry)) (now (processes .entry))))) ⌝ }
+fn fork(open_files: &mut [u32], processes: &mut [u32], p: Pid, q: Pid, user: u32, label: u32)
+    ensures { λ _. ⌜ ((F C : List ℕ) → store F C (now («open_files» .exit)) (now (processes .exit)) ≡ applyAll (forkChanges q user label) (sharedAll p q (store F C (now («open_files» .entry)) (now (processes .entry))))) ⌝ }
 {
-    share_all(opens, processes, p, q);
+    share_all(open_files, processes, p, q);
     make_process(processes, q, user, label);
 }
 
 // A process ends.
-fn exit(files: &mut [u32], contents: &mut [u8], opens: &mut [u32], processes: &mut [u32], p: Pid)
-    ensures { λ _. ⌜ store (now (files .exit)) (now (contents .exit)) (now (opens .exit)) (now (processes .exit)) ≡ applyAll (change.procZero (p .0) ∷ []) (releasedAll p (store (now (files .entry)) (now (contents .entry)) (now (opens .entry)) (now (processes .entry)))) ⌝ }
+fn exit(
+    files: &mut [u32],
+    contents: &mut [u8],
+    open_files: &mut [u32],
+    processes: &mut [u32],
+    p: Pid,
+)
+    ensures { λ _. ⌜ store (now (files .exit)) (now (contents .exit)) (now («open_files» .exit)) (now (processes .exit)) ≡ applyAll (change.procZero (p .0) ∷ []) (releasedAll p (store (now (files .entry)) (now (contents .entry)) (now («open_files» .entry)) (now (processes .entry)))) ⌝ }
 {
-    release_all(files, contents, opens, processes, p);
+    release_all(files, contents, open_files, processes, p);
     free_process(processes, p);
 }
 
@@ -128,31 +134,31 @@ fn exit(files: &mut [u32], contents: &mut [u8], opens: &mut [u32], processes: &m
 pub fn carry_out(
     files: &mut [u32],
     contents: &mut [u8],
-    opens: &mut [u32],
+    open_files: &mut [u32],
     processes: &mut [u32],
     c: Request,
     path: &[u8],
-    bytes: &[u8],
+    data: &[u8],
     e: Effect,
 )
-    ensures { λ _. ⌜ ((buffer : List ℕ) → store (now (files .exit)) (now (contents .exit)) (now (opens .exit)) (now (processes .exit)) ≡ carryOut (callOf c (now (path .entry)) (now (bytes .entry)) buffer) e (store (now (files .entry)) (now (contents .entry)) (now (opens .entry)) (now (processes .entry)))) ⌝ }
+    ensures { λ _. ⌜ ((buffer : List ℕ) → store (now (files .exit)) (now (contents .exit)) (now («open_files» .exit)) (now (processes .exit)) ≡ carryOut (callOf c (now (path .entry)) (now («data» .entry)) buffer) e (store (now (files .entry)) (now (contents .entry)) (now («open_files» .entry)) (now (processes .entry)))) ⌝ }
 {
     let p = c.process;
     match e {
         Effect::Nothing => {}
-        Effect::Opened(n) => open_file(opens, processes, p, n),
-        Effect::Truncated(n, r) => open_truncated(files, contents, opens, processes, p, n, r),
+        Effect::Opened(n) => open_file(open_files, processes, p, n),
+        Effect::Truncated(n, r) => open_truncated(files, contents, open_files, processes, p, n, r),
         Effect::Created(d, s, r) => create_file(files, contents, path, d, s, r),
         Effect::Unlinked(d, u) => unlink_file(files, contents, d, u),
         Effect::Removed(d, s, r) => remove_directory(files, contents, d, s, r),
-        Effect::Linked(d, s, n) => link_file(files, contents, bytes, d, s, n),
+        Effect::Linked(d, s, n) => link_file(files, contents, data, d, s, n),
         Effect::BitsChanged(s, b) => change_bits(files, s, b),
-        Effect::Closed(i, r) => close_descriptor(files, contents, opens, processes, p, i, r),
-        Effect::Stored(w) => write_bytes(files, contents, opens, bytes, w),
-        Effect::Moved(o, at) => move_offset(opens, o, at),
-        Effect::Duplicated(i, o, n) => duplicate(opens, processes, p, i, o, n),
-        Effect::Forked(q, u, l) => fork(opens, processes, p, q, u, l),
-        Effect::Exited => exit(files, contents, opens, processes, p),
+        Effect::Closed(i, r) => close_descriptor(files, contents, open_files, processes, p, i, r),
+        Effect::Stored(w) => write_bytes(files, contents, open_files, data, w),
+        Effect::Moved(o, at) => move_offset(open_files, o, at),
+        Effect::Duplicated(i, o, n) => duplicate(open_files, processes, p, i, o, n),
+        Effect::Forked(q, u, l) => fork(open_files, processes, p, q, u, l),
+        Effect::Exited => exit(files, contents, open_files, processes, p),
         Effect::Relabelled(l) => relabel_process(processes, p, l),
     }
 }

@@ -12,7 +12,7 @@ use lib.ListN.{length, getD, take, drop, List·getD-eq-default, drop-of-length-l
 use lib.Seq.{drop-drop, take-nil}
 use Rattle.rules.specs.Choice.{every}
 use Rattle.rules.specs.Scan.{turns, fold, all, count, total}
-use Rattle.rules.specs.Layout.{SLOTS, BLOCK, DIRENTS, OPENS, PROCESSES, FILE, LINKS, OPEN}
+use Rattle.rules.specs.Layout.{SLOTS, BLOCK, DIRENTS, OPEN-FILES, PROCESSES, FILE, LINKS, OPEN}
 use Rattle.rules.specs.Directories.{direntSlot}
 use Rattle.rules.specs.Walk.{isDirectory}
 use Rattle.rules.specs.Store.{Store, Tree, View, view, slot, block, tab, procOf, descOf, hidden, shownOf}
@@ -29,7 +29,7 @@ quickShown F C = let bs = cut SLOTS C in λ s. drop (hidden F s) (getD bs s [])
 
 -- the view of a store, but for what it shows
 abbrev pub showing : Store → (ℕ → List ℕ) → View
-showing s shown = record { tree = record { file = tab FILE (s .files); shown = shown }; opened = tab OPEN (s .opens); proc = procOf (s .processes); desc = descOf (s .processes) }
+showing s shown = record { tree = record { file = tab FILE (s .files); shown = shown }; openFiles = tab OPEN (s .openFiles); proc = procOf (s .processes); desc = descOf (s .processes) }
 
 abbrev pub quickView : Store → View
 quickView s = showing s (quickShown (s .files) (s .contents))
@@ -58,7 +58,7 @@ quickSlot v ns s = every (recordSound (v .tree) s ∷ quickLinks (v .tree) ns s 
 unfoldable pub quickTables : View → Bool
 quickTables v =
     let ns = named (v .tree) 0 SLOTS in
-    every (isDirectory (v .tree .file) (slot 0) ∷ all (quickSlot v ns) 0 SLOTS ∷ all (openSound v) 0 OPENS ∷ all (procSound v) 0 PROCESSES ∷ [])
+    every (isDirectory (v .tree .file) (slot 0) ∷ all (quickSlot v ns) 0 SLOTS ∷ all (openSound v) 0 OPEN-FILES ∷ all (procSound v) 0 PROCESSES ∷ [])
 
 unfoldable pub quickSound : Store → Bool
 quickSound s = cond (sizesSound s) (quickTables (quickView s)) false

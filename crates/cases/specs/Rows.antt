@@ -6,7 +6,7 @@ use lib.Dec.{eqb}
 use lib.ListN.{length, take, drop, replicate}
 use Rattle.rules.specs.Choice.{every}
 use Rattle.rules.specs.Layout.{BLOCK, FILE, OPEN, PROCESS, OWN}
-use Rattle.rules.specs.Store.{Store, store}
+use Rattle.rules.specs.Store.{Store, store, pidOf, fdOf}
 use Rattle.rules.specs.Refusals.{GRANTED}
 use Rattle.rules.specs.Calls.{Call}
 use Rattle.rules.specs.Step.{Reply, Outcome, step}
@@ -15,10 +15,10 @@ use Rattle.rules.specs.Console.{console, consolePolicy}
 -- ---- a row: a call, the answer that it must be given, and all that the store after it has other than the store before it
 
 pub data Now : Type 0 where
-  file : (slot kind owner bits label length names stamp : ℕ) → Now
+  file : (slot kind owner bits label length links version : ℕ) → Now
   bytes : (slot from : ℕ) → List ℕ → Now
-  entry : (entry slot mode position references : ℕ) → Now
-  descriptor : (process fd word : ℕ) → Now  -- 0 for nothing, e + 1 for open entry e
+  openFile : (ofd slot mode offset references : ℕ) → Now
+  descriptor : (process fd word : ℕ) → Now  -- 0 for nothing, e + 1 for open file e
 
 pub record Row : Type 0 where
   pub call : Call
@@ -31,10 +31,10 @@ abbrev pub over : List ℕ → ℕ → List ℕ → List ℕ
 over xs at new = take at xs ++ new ++ drop (at + length new) xs
 
 abbrev pub with : Now → Store → Store
-with (file s k o b l n m v) t = store (over (t .files) (FILE * s) (k ∷ o ∷ b ∷ l ∷ n ∷ m ∷ v ∷ [])) (t .contents) (t .opens) (t .processes)
-with (bytes s at new) t = store (t .files) (over (t .contents) (BLOCK * s + at) new) (t .opens) (t .processes)
-with (entry e s m n r) t = store (t .files) (t .contents) (over (t .opens) (OPEN * e) (s ∷ m ∷ n ∷ r ∷ [])) (t .processes)
-with (descriptor p i w) t = store (t .files) (t .contents) (t .opens) (over (t .processes) (PROCESS * p + OWN + i) (w ∷ []))
+with (file s k o b l n m v) t = store (over (t .files) (FILE * s) (k ∷ o ∷ b ∷ l ∷ n ∷ m ∷ v ∷ [])) (t .contents) (t .openFiles) (t .processes)
+with (bytes s at new) t = store (t .files) (over (t .contents) (BLOCK * s + at) new) (t .openFiles) (t .processes)
+with (openFile e s m n r) t = store (t .files) (t .contents) (over (t .openFiles) (OPEN * e) (s ∷ m ∷ n ∷ r ∷ [])) (t .processes)
+with (descriptor p i w) t = store (t .files) (t .contents) (t .openFiles) (over (t .processes) (PROCESS * p + OWN + i) (w ∷ []))
 
 unfoldable pub withAll : List Now → Store → Store
 withAll [] t = t
@@ -54,7 +54,7 @@ sameReply a b =
     ∷ same (a .fields) (b .fields) ∷ same (a .buffer) (b .buffer) ∷ [])
 
 unfoldable pub sameStore : Store → Store → Bool
-sameStore s t = every (same (s .files) (t .files) ∷ same (s .contents) (t .contents) ∷ same (s .opens) (t .opens) ∷ same (s .processes) (t .processes) ∷ [])
+sameStore s t = every (same (s .files) (t .files) ∷ same (s .contents) (t .contents) ∷ same (s .openFiles) (t .openFiles) ∷ same (s .processes) (t .processes) ∷ [])
 
 unfoldable pub rowHolds : Store → Outcome → Row → Bool
 rowHolds before x r = every (sameReply (x .reply) (r .reply) ∷ sameStore (x .store) (withAll (r .leaves) before) ∷ [])
@@ -74,8 +74,8 @@ holds (l ∷ ls) = every (lineHolds console l ∷ holds ls ∷ [])
 abbrev pub BUFFER : List ℕ
 BUFFER = replicate 16 255
 
-abbrev pub calls : (process call fd number : ℕ) (path bytes : List ℕ) → Call
-calls p n i number path bs = record { process = record { 0 = p }; call = n; fd = record { 0 = i }; number = number; path = path; bytes = bs; buffer = BUFFER }
+abbrev pub calls : (process call fd number : ℕ) (path «data» : List ℕ) → Call
+calls p n i number path bs = record { process = pidOf p; call = n; fd = fdOf i; number = number; path = path; «data» = bs; buffer = BUFFER }
 
 abbrev pub opens : (process : ℕ) (path : List ℕ) (mode : ℕ) → Call
 opens p path mode = calls p 1 0 mode path []
@@ -98,10 +98,10 @@ closes p i = calls p 10 i 0 [] []
 abbrev pub reads : (process fd : ℕ) → Call
 reads p i = calls p 11 i 0 [] []
 
-abbrev pub writes : (process fd : ℕ) (bytes : List ℕ) → Call
+abbrev pub writes : (process fd : ℕ) («data» : List ℕ) → Call
 writes p i bs = calls p 12 i 0 [] bs
 
-abbrev pub seeks : (process fd position : ℕ) → Call
+abbrev pub seeks : (process fd offset : ℕ) → Call
 seeks p i n = calls p 13 i n [] []
 
 -- ---- the answers: granted with a value, with a value and bytes read, refused at a name of the path

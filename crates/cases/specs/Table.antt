@@ -1,9 +1,9 @@
 -- "The test console": the cases marked P, line by line; and the one theorem about them. A line that names no caller is process 0's, and bits given
 -- at creation are 7. What a row says is in Rows.antt:
---     file slot kind owner bits label length names stamp
+--     file slot kind owner bits label length links version
 --     bytes slot from ..
---     entry number slot mode position references
---     descriptor process number (open entry + 1, or 0)
+--     openFile number slot mode offset references
+--     descriptor process number (open file + 1, or 0)
 use mathlib.Core.Path.{_≡_}
 use mathlib.Core.Bool.{true}
 use Prim.Native.Nat.{ℕ}
@@ -12,7 +12,7 @@ use Rattle.rules.specs.Layout.{SLASH, FREE, PLAIN, DIRECTORY}
 use Rattle.rules.specs.Store.{slot, zeros}
 use Rattle.rules.specs.Directories.{dirent}
 use Rattle.rules.specs.Console.{FARES, NOW, KEY}
-use Rattle.cases.specs.Rows.{Row, file, bytes, entry, descriptor, grants, grantsBytes, refuses, opens, creates, unlinks, changes-bits, stats, closes, reads, writes, seeks, holds}
+use Rattle.cases.specs.Rows.{Row, file, bytes, openFile, descriptor, grants, grantsBytes, refuses, opens, creates, unlinks, changes-bits, stats, closes, reads, writes, seeks, holds}
 
 -- ---- paths
 
@@ -59,15 +59,15 @@ A = 65 ∷ []
 -- P: 2 opens /fares/now, mode 1: value 0; read into 16 bytes: value 5.
 unfoldable pub line-1 : List Row
 line-1 =
-    grants (opens 2 FARES-NOW 1) 0 (entry 0 2 1 0 1 ∷ descriptor 2 0 1 ∷ [])
-    ∷ grantsBytes (reads 2 0) 5 FARE (entry 0 2 1 5 1 ∷ [])
+    grants (opens 2 FARES-NOW 1) 0 (openFile 0 2 1 0 1 ∷ descriptor 2 0 1 ∷ [])
+    ∷ grantsBytes (reads 2 0) 5 FARE (openFile 0 2 1 5 1 ∷ [])
     ∷ []
 
 -- //fares///now is the same.
 unfoldable pub line-1-slashes : List Row
 line-1-slashes =
-    grants (opens 2 SLASHES 1) 0 (entry 0 2 1 0 1 ∷ descriptor 2 0 1 ∷ [])
-    ∷ grantsBytes (reads 2 0) 5 FARE (entry 0 2 1 5 1 ∷ [])
+    grants (opens 2 SLASHES 1) 0 (openFile 0 2 1 0 1 ∷ descriptor 2 0 1 ∷ [])
+    ∷ grantsBytes (reads 2 0) 5 FARE (openFile 0 2 1 5 1 ∷ [])
     ∷ []
 
 -- P: 2 opens it, mode 2: 9. 2 opens /key, mode 2: 9, not 10.
@@ -81,7 +81,7 @@ line-2 =
 unfoldable pub line-3 : List Row
 line-3 =
     refuses (opens 0 KEY-PATH 1) 10 0
-    ∷ grants (opens 1 KEY-PATH 2) 0 (entry 0 3 2 0 1 ∷ descriptor 1 0 1 ∷ [])
+    ∷ grants (opens 1 KEY-PATH 2) 0 (openFile 0 3 2 0 1 ∷ descriptor 1 0 1 ∷ [])
     ∷ refuses (opens 1 KEY-PATH 1) 10 0
     ∷ []
 
@@ -96,14 +96,14 @@ line-4 =
 -- P: 2 opens /fares/now to read, 1 unlinks it: still 5 bytes. 1 creates /fares/now: slot 4. 2 closes: slot 2 free, stamp 1. 1 creates /fares/y: slot 2.
 unfoldable pub line-5 : List Row
 line-5 =
-    grants (opens 2 FARES-NOW 1) 0 (entry 0 2 1 0 1 ∷ descriptor 2 0 1 ∷ [])
+    grants (opens 2 FARES-NOW 1) 0 (openFile 0 2 1 0 1 ∷ descriptor 2 0 1 ∷ [])
     ∷ grants (unlinks 1 FARES-NOW) 0
     (file 1 DIRECTORY 10 5 0 0 1 1 ∷ bytes 1 0 (zeros 16) ∷ file 2 PLAIN 10 4 0 5 0 0 ∷ [])
-    ∷ grantsBytes (reads 2 0) 5 FARE (entry 0 2 1 5 1 ∷ [])
+    ∷ grantsBytes (reads 2 0) 5 FARE (openFile 0 2 1 5 1 ∷ [])
     ∷ grants (creates 1 FARES-NOW 7) 4
     (file 4 PLAIN 10 7 0 0 1 0 ∷ file 1 DIRECTORY 10 5 0 1 1 2 ∷ bytes 1 0 (dirent NOW (slot 4)) ∷ [])
     ∷ grants (closes 2 0) 0
-    (descriptor 2 0 0 ∷ entry 0 0 0 0 0 ∷ file 2 FREE 0 0 0 0 0 1 ∷ bytes 2 0 (zeros 5) ∷ [])
+    (descriptor 2 0 0 ∷ openFile 0 0 0 0 0 ∷ file 2 FREE 0 0 0 0 0 1 ∷ bytes 2 0 (zeros 5) ∷ [])
     ∷ grants (creates 1 FARES-Y 7) 2
     (file 2 PLAIN 10 7 0 0 1 1 ∷ file 1 DIRECTORY 10 5 0 2 1 3 ∷ bytes 1 16 (dirent Y (slot 2)) ∷ [])
     ∷ []
@@ -129,18 +129,18 @@ unfoldable pub line-8 : List Row
 line-8 =
     grants (creates 0 FARES-X 7) 4
     (file 4 PLAIN 0 7 0 0 1 0 ∷ file 1 DIRECTORY 10 5 0 2 1 1 ∷ bytes 1 16 (dirent X (slot 4)) ∷ [])
-    ∷ grants (opens 0 FARES-X 2) 0 (entry 0 4 2 0 1 ∷ descriptor 0 0 1 ∷ [])
-    ∷ grants (seeks 0 0 3) 3 (entry 0 4 2 3 1 ∷ [])
+    ∷ grants (opens 0 FARES-X 2) 0 (openFile 0 4 2 0 1 ∷ descriptor 0 0 1 ∷ [])
+    ∷ grants (seeks 0 0 3) 3 (openFile 0 4 2 3 1 ∷ [])
     ∷ grants (writes 0 0 A) 1
-    (file 4 PLAIN 0 7 0 4 1 1 ∷ bytes 4 0 (0 ∷ 0 ∷ 0 ∷ 65 ∷ []) ∷ entry 0 4 2 4 1 ∷ [])
+    (file 4 PLAIN 0 7 0 4 1 1 ∷ bytes 4 0 (0 ∷ 0 ∷ 0 ∷ 65 ∷ []) ∷ openFile 0 4 2 4 1 ∷ [])
     ∷ []
 
 -- P: at 511 write 1: granted. At 512 write 1: 14; write none: granted.
 unfoldable pub line-9 : List Row
 line-9 =
-    grants (opens 0 FARES-NOW 2) 0 (entry 0 2 2 0 1 ∷ descriptor 0 0 1 ∷ [])
-    ∷ grants (seeks 0 0 511) 511 (entry 0 2 2 511 1 ∷ [])
-    ∷ grants (writes 0 0 A) 1 (file 2 PLAIN 10 4 0 512 1 1 ∷ bytes 2 511 A ∷ entry 0 2 2 512 1 ∷ [])
+    grants (opens 0 FARES-NOW 2) 0 (openFile 0 2 2 0 1 ∷ descriptor 0 0 1 ∷ [])
+    ∷ grants (seeks 0 0 511) 511 (openFile 0 2 2 511 1 ∷ [])
+    ∷ grants (writes 0 0 A) 1 (file 2 PLAIN 10 4 0 512 1 1 ∷ bytes 2 511 A ∷ openFile 0 2 2 512 1 ∷ [])
     ∷ refuses (writes 0 0 A) 14 0
     ∷ grants (writes 0 0 []) 0 []
     ∷ []

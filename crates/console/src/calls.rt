@@ -1,12 +1,12 @@
 // A line that makes a call: the process, the call, and its parts.
+use crate::numbers::number;
+use crate::printing::print_text;
 use crate::settings::Console;
 use crate::settings::with_known;
+use crate::texts::head;
+use crate::texts::unescape;
 use crate::words::find;
-use crate::words::head;
 use crate::words::index_of;
-use crate::words::number;
-use crate::words::print_text;
-use crate::words::unescape;
 use crate::words::word;
 use rules::answer::Answer;
 use rules::ids::Fd;
@@ -14,12 +14,12 @@ use rules::ids::Pid;
 use rules::request::Request;
 use tables::parts::upto;
 
-// A call as the line has it: its numbers, and how many bytes its path, its bytes and its buffer have.
+// A call as the line has it: its numbers, and how many bytes its path, its data and its buffer have.
 struct Parsed {
     known: bool,
     request: Request,
     path: usize,
-    bytes: usize,
+    data: usize,
     buffer: usize,
 }
 
@@ -51,14 +51,14 @@ fn place(call: u64, part: u8) -> usize {
     0
 }
 
-fn number_at(line: &[u8], k: usize) -> u64 {
+fn part_number(line: &[u8], k: usize) -> u64 {
     if k == 0 {
         return 0;
     }
     number(word(line, k))
 }
 
-fn text_at(line: &[u8], k: usize, out: &mut [u8]) -> usize {
+fn part_text(line: &[u8], k: usize, out: &mut [u8]) -> usize {
     if k == 0 {
         return 0;
     }
@@ -85,26 +85,26 @@ fn buffer_size(c: Request) -> usize {
     0
 }
 
-fn fits(path: usize, bytes: usize, buffer: usize) -> bool {
-    path <= 512 && bytes <= 512 && buffer <= 512
+fn fits(path: usize, data: usize, buffer: usize) -> bool {
+    path <= 512 && data <= 512 && buffer <= 512
 }
 
-// The line's call, with its path and bytes.
-fn parse(line: &[u8], path: &mut [u8], bytes: &mut [u8]) -> Parsed {
+// The line's call, with its path and data.
+fn parse(line: &[u8], path: &mut [u8], data: &mut [u8]) -> Parsed {
     let call = call_number(word(line, 1));
     let process = number(word(line, 0));
-    let fd = number_at(line, place(call, b'f'));
-    let n = number_at(line, place(call, b'n'));
+    let fd = part_number(line, place(call, b'f'));
+    let n = part_number(line, place(call, b'n'));
     let ended = word(line, place(call, b'.')).len() == 0;
-    let p = text_at(line, place(call, b'p'), path);
-    let b = text_at(line, place(call, b'd'), bytes);
+    let p = part_text(line, place(call, b'p'), path);
+    let b = part_text(line, place(call, b'd'), data);
     let c = request(process, call, fd, n);
     let size = buffer_size(c);
     Parsed {
         known: in_range(process, call, fd, n) & fits(p, b, size) & ended,
         request: c,
         path: p,
-        bytes: b,
+        data: b,
         buffer: size,
     }
 }
@@ -152,21 +152,21 @@ fn print_answer(a: Answer, buffer: &[u8]) {
     }
 }
 
-fn serve(s: Console, c: Request, path: &[u8], bytes: &[u8], buffer: &mut [u8]) -> Console {
+fn serve(s: Console, c: Request, path: &[u8], data: &[u8], buffer: &mut [u8]) -> Console {
     let mut files = s.files;
     let mut contents = s.contents;
-    let mut opens = s.opens;
+    let mut open_files = s.open_files;
     let mut processes = s.processes;
     let policy = s.policy;
     let a = store::call::call(
         &mut files,
         &mut contents,
-        &mut opens,
+        &mut open_files,
         &mut processes,
         &policy,
         c,
         path,
-        bytes,
+        data,
         buffer,
     );
     print_answer(a, buffer);
@@ -174,18 +174,18 @@ fn serve(s: Console, c: Request, path: &[u8], bytes: &[u8], buffer: &mut [u8]) -
         known: true,
         files: files,
         contents: contents,
-        opens: opens,
+        open_files: open_files,
         processes: processes,
         policy: policy,
     }
 }
 
 // A line that makes a call: its answer is written.
-pub fn call_line(s: Console, line: &[u8]) -> Console {
+pub(crate) fn call_line(s: Console, line: &[u8]) -> Console {
     let mut path = [0u8; 512];
-    let mut bytes = [0u8; 512];
+    let mut data = [0u8; 512];
     let mut buffer = [0u8; 512];
-    let c = parse(line, &mut path, &mut bytes);
+    let c = parse(line, &mut path, &mut data);
     if !c.known {
         return with_known(s, false);
     }
@@ -193,7 +193,7 @@ pub fn call_line(s: Console, line: &[u8]) -> Console {
         s,
         c.request,
         head(&path, c.path),
-        head(&bytes, c.bytes),
+        head(&data, c.data),
         first(&mut buffer, c.buffer),
     )
 }

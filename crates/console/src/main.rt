@@ -1,19 +1,22 @@
 // Runs a script of calls on the test console, and writes each line with its answer. docs/console.md has the lines.
 mod calls;
+mod numbers;
+mod printing;
 mod settings;
+mod texts;
 mod words;
 
 use calls::call_line;
 use settings::Console;
 use settings::empty;
 use settings::fresh;
-use settings::line_at;
-use settings::next_line;
 use settings::set_line;
 use settings::show_line;
 use settings::with_known;
 use tables::words::byte;
 use words::index_of;
+use words::line_at;
+use words::next_line;
 use words::word;
 
 // Empty lines and comments.

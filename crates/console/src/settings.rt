@@ -1,11 +1,17 @@
 // The console's tables, and the lines that set or show them.
-use crate::words::NO_NUMBER;
-use crate::words::find;
-use crate::words::head;
+ghost use mathlib.Core.Path.{_≡_};
+ghost use Prim.Native.Nat.{_≤_};
+ghost use lib.Dec.{ltb};
+ghost use lib.Seq.{sets};
+ghost use Rattle.console.specs.Settings.{emptyTables, withKnown, numberAt, isNumberAt, numbersOf, noNumberAt, numbersEnd, endsWell, textFits, wordsSet, bytesSet, filesSet, openFilesSet, processesSet, contentsSet, policySet, tableOf, tableSet, lineSet, freshTables};
+use crate::numbers::NO_NUMBER;
+use crate::numbers::number;
+use crate::printing::print_record;
+use crate::texts::head;
+use crate::texts::unescape;
 use crate::words::index_of;
-use crate::words::number;
-use crate::words::print_record;
-use crate::words::unescape;
+use crate::words::line_at;
+use crate::words::next_line;
 use crate::words::word;
 use tables::layout::BLOCK;
 use tables::layout::CONTENTS_SIZE;
@@ -13,108 +19,114 @@ use tables::layout::FILE;
 use tables::layout::FILES_SIZE;
 use tables::layout::LABELS;
 use tables::layout::OPEN;
-use tables::layout::OPENS_SIZE;
+use tables::layout::OPEN_FILES_SIZE;
 use tables::layout::POLICY_SIZE;
 use tables::layout::PROCESS;
 use tables::layout::PROCESSES_SIZE;
 use tables::layout::RIGHTS;
-use tables::parts::after;
-use tables::parts::upto;
 use tables::words::copy_bytes;
-use tables::words::put;
 use tables::words::zero_bytes;
-ghost use Prim.Native.Nat.{_<_};
 
 // The tables, and whether the last line was understood.
-pub struct Console {
-    pub known: bool,
-    pub files: [u32; FILES_SIZE],
-    pub contents: [u8; CONTENTS_SIZE],
-    pub opens: [u32; OPENS_SIZE],
-    pub processes: [u32; PROCESSES_SIZE],
-    pub policy: [u8; POLICY_SIZE],
+pub(crate) struct Console {
+    pub(crate) known: bool,
+    pub(crate) files: [u32; FILES_SIZE],
+    pub(crate) contents: [u8; CONTENTS_SIZE],
+    pub(crate) open_files: [u32; OPEN_FILES_SIZE],
+    pub(crate) processes: [u32; PROCESSES_SIZE],
+    pub(crate) policy: [u8; POLICY_SIZE],
 }
 
 // No files, no processes, no rights and no transitions.
-pub fn empty() -> Console {
+pub(crate) fn empty() -> Console
+    ensures { λ r. ⌜ r ≡ emptyTables ⌝ }
+{
     let mut policy = [255u8; POLICY_SIZE];
     zero_bytes(&mut policy, 0, RIGHTS);
     Console {
         known: true,
         files: [0u32; FILES_SIZE],
         contents: [0u8; CONTENTS_SIZE],
-        opens: [0u32; OPENS_SIZE],
+        open_files: [0u32; OPEN_FILES_SIZE],
         processes: [0u32; PROCESSES_SIZE],
         policy: policy,
     }
 }
 
-pub fn with_known(s: Console, known: bool) -> Console {
+pub(crate) fn with_known(s: Console, known: bool) -> Console
+    ensures { λ r. ⌜ r ≡ withKnown known s ⌝ }
+{
     let mut t = s;
     t.known = known;
     t
 }
 
-// The line that starts at a place of the script.
-pub fn line_at(script: &[u8], at: usize) -> &[u8] {
-    let rest = after(script, at);
-    upto(rest, find(rest, 0, b'\n'))
-}
-
-pub fn next_line(script: &[u8], at: usize) -> usize {
-    std::num::wrapping_add_usize(find(script, at, b'\n'), 1)
-}
-
-// Word k as an index, 0 where it is no number.
-fn index(line: &[u8], k: usize) -> usize
-    ensures { λ r. ⌜ r < 4294967296 ⌝ }
+// Word k as a number.
+fn number_at(line: &[u8], k: usize) -> usize
+    ensures is { λ r. ⌜ r ≡ numberAt (now (line .entry)) k ⌝ }
+    ensures small { λ r. ⌜ r ≤ 4294967296 ⌝ }
 {
-    let n = number(word(line, k));
-    if n < NO_NUMBER {
-        return n as usize;
-    }
-    0
+    number(word(line, k)) as usize
 }
 
-fn is_number(line: &[u8], k: usize) -> bool {
+fn is_number_at(line: &[u8], k: usize) -> bool
+    ensures { λ r. ⌜ r ≡ isNumberAt (now (line .entry)) k ⌝ }
+{
     number(word(line, k)) < NO_NUMBER
 }
 
-// The values of a line, from word 4 on, are numbers.
-fn has_numbers(line: &[u8]) -> bool {
-    let mut i = 4;
-    let mut left = line.len();
-    while 0 < left {
-        let text = word(line, i);
-        if text.len() == 0 {
-            return true;
-        }
-        if NO_NUMBER <= number(text) {
-            return false;
-        }
-        i = std::num::wrapping_add_usize(i, 1);
-        left -= 1;
-    }
-    true
+fn no_number_at(line: &[u8], k: usize) -> bool
+    ensures { λ r. ⌜ r ≡ noNumberAt (now (line .entry)) k ⌝ }
+{
+    !is_number_at(line, k)
 }
 
-fn put_numbers(words: &mut [u32], at: usize, line: &[u8]) {
+// The first word from word 4 on that is no number.
+fn numbers_end(line: &[u8]) -> usize
+    ensures { λ r. ⌜ r ≡ numbersEnd (now (line .entry)) ⌝ }
+{
+    let mut k = 4;
+    while k < line.len() {
+        if no_number_at(line, k) {
+            return k;
+        }
+        k += 1;
+    }
+    line.len()
+}
+
+// The values of a line, from word 4 on, are numbers.
+fn ends_well(line: &[u8]) -> bool
+    ensures { λ r. ⌜ r ≡ endsWell (now (line .entry)) ⌝ }
+{
+    word(line, numbers_end(line)).len() == 0
+}
+
+// The words of a table from `at` on become the line's numbers.
+fn put_numbers(words: &mut [u32], at: usize, line: &[u8])
+    ensures { λ _. ⌜ now (words .exit) ≡ sets (now (words .entry)) at (numbersOf (now (line .entry))) ⌝ }
+{
     let mut a = at;
     let mut k = 4;
-    while a < words.len() {
+    while k < line.len() {
+        if words.len() <= a {
+            return;
+        }
         let n = number(word(line, k));
         if NO_NUMBER <= n {
             return;
         }
-        put(words, a, n as u32);
-        k = std::num::wrapping_add_usize(k, 1);
+        words[a] = n as u32;
         a += 1;
+        k += 1;
     }
 }
 
-// The words of a table from `at` on become the line's numbers.
-fn set_words(words: &mut [u32], at: usize, line: &[u8]) -> bool {
-    let known = has_numbers(line);
+fn set_words(words: &mut [u32], at: usize, line: &[u8]) -> bool
+    ensures known { λ r. ⌜ r ≡ endsWell (now (line .entry)) ⌝ }
+    ensures words { λ _. ⌜ now (words .exit) ≡ wordsSet (now (line .entry)) at (now (words .entry)) ⌝ }
+{
+    let known = ends_well(line);
     if known {
         put_numbers(words, at, line);
     }
@@ -122,7 +134,10 @@ fn set_words(words: &mut [u32], at: usize, line: &[u8]) -> bool {
 }
 
 // The bytes of a table from `at` on become the line's text.
-fn set_bytes(bytes: &mut [u8], at: usize, line: &[u8]) -> bool {
+fn set_bytes(bytes: &mut [u8], at: usize, line: &[u8]) -> bool
+    ensures known { λ r. ⌜ r ≡ textFits (now (line .entry)) ⌝ }
+    ensures bytes { λ _. ⌜ now (bytes .exit) ≡ bytesSet (now (line .entry)) at (now (bytes .entry)) ⌝ }
+{
     let mut text = [0u8; 512];
     let n = unescape(word(line, 4), &mut text);
     let known = n <= 512;
@@ -132,62 +147,92 @@ fn set_bytes(bytes: &mut [u8], at: usize, line: &[u8]) -> bool {
     known
 }
 
-fn set_files(s: Console, line: &[u8]) -> Console {
+fn set_files(s: Console, line: &[u8]) -> Console
+    ensures { λ r. ⌜ r ≡ filesSet (now (line .entry)) s ⌝ }
+{
     let mut words = s.files;
-    let known = set_words(&mut words, FILE * index(line, 2) + index(line, 3), line);
+    let known = set_words(
+        &mut words,
+        FILE * number_at(line, 2) + number_at(line, 3),
+        line,
+    );
     let mut t = with_known(s, known);
     t.files = words;
     t
 }
 
-fn set_opens(s: Console, line: &[u8]) -> Console {
-    let mut words = s.opens;
-    let known = set_words(&mut words, OPEN * index(line, 2) + index(line, 3), line);
+fn set_open_files(s: Console, line: &[u8]) -> Console
+    ensures { λ r. ⌜ r ≡ openFilesSet (now (line .entry)) s ⌝ }
+{
+    let mut words = s.open_files;
+    let known = set_words(
+        &mut words,
+        OPEN * number_at(line, 2) + number_at(line, 3),
+        line,
+    );
     let mut t = with_known(s, known);
-    t.opens = words;
+    t.open_files = words;
     t
 }
 
-fn set_processes(s: Console, line: &[u8]) -> Console {
+fn set_processes(s: Console, line: &[u8]) -> Console
+    ensures { λ r. ⌜ r ≡ processesSet (now (line .entry)) s ⌝ }
+{
     let mut words = s.processes;
-    let known = set_words(&mut words, PROCESS * index(line, 2) + index(line, 3), line);
+    let known = set_words(
+        &mut words,
+        PROCESS * number_at(line, 2) + number_at(line, 3),
+        line,
+    );
     let mut t = with_known(s, known);
     t.processes = words;
     t
 }
 
-fn set_contents(s: Console, line: &[u8]) -> Console {
+fn set_contents(s: Console, line: &[u8]) -> Console
+    ensures { λ r. ⌜ r ≡ contentsSet (now (line .entry)) s ⌝ }
+{
     let mut bytes = s.contents;
-    let known = set_bytes(&mut bytes, BLOCK * index(line, 2) + index(line, 3), line);
+    let known = set_bytes(
+        &mut bytes,
+        BLOCK * number_at(line, 2) + number_at(line, 3),
+        line,
+    );
     let mut t = with_known(s, known);
     t.contents = bytes;
     t
 }
 
-fn set_policy(s: Console, line: &[u8]) -> Console {
+fn set_policy(s: Console, line: &[u8]) -> Console
+    ensures { λ r. ⌜ r ≡ policySet (now (line .entry)) s ⌝ }
+{
     let mut bytes = s.policy;
-    let known = set_bytes(&mut bytes, LABELS * index(line, 2) + index(line, 3), line);
+    let known = set_bytes(
+        &mut bytes,
+        LABELS * number_at(line, 2) + number_at(line, 3),
+        line,
+    );
     let mut t = with_known(s, known);
     t.policy = bytes;
     t
 }
 
-// The table that the line names, if it names a record too.
-fn table_of(line: &[u8]) -> usize {
-    if !is_number(line, 2) {
-        return 5;
+// The table that the line names, if it names a record too; 5 for none.
+fn table_of(line: &[u8]) -> usize
+    ensures { λ r. ⌜ r ≡ tableOf (now (line .entry)) ⌝ }
+{
+    if is_number_at(line, 2) {
+        return index_of(b"files opens processes contents policy", 5, word(line, 1));
     }
-    index_of(b"files opens processes contents policy", 5, word(line, 1))
+    5
 }
 
-// set TABLE RECORD FIELD, then numbers or a text.
-pub fn set_line(s: Console, line: &[u8]) -> Console {
-    if !is_number(line, 3) {
-        return with_known(s, false);
-    }
-    match table_of(line) {
+fn set_table(s: Console, table: usize, line: &[u8]) -> Console
+    ensures { λ r. ⌜ r ≡ tableSet table (now (line .entry)) s ⌝ }
+{
+    match table {
         0 => set_files(s, line),
-        1 => set_opens(s, line),
+        1 => set_open_files(s, line),
         2 => set_processes(s, line),
         3 => set_contents(s, line),
         4 => set_policy(s, line),
@@ -195,16 +240,28 @@ pub fn set_line(s: Console, line: &[u8]) -> Console {
     }
 }
 
+// set TABLE RECORD FIELD, then numbers or a text.
+pub(crate) fn set_line(s: Console, line: &[u8]) -> Console
+    ensures { λ r. ⌜ r ≡ lineSet (now (line .entry)) s ⌝ }
+{
+    if is_number_at(line, 3) {
+        return set_table(s, table_of(line), line);
+    }
+    with_known(s, false)
+}
+
 // show TABLE RECORD, of a table of words.
-pub fn show_line(s: Console, line: &[u8]) -> Console {
+pub(crate) fn show_line(s: Console, line: &[u8]) -> Console
+    ensures { λ r. ⌜ r ≡ withKnown (ltb (tableOf (now (line .entry))) 3) s ⌝ }
+{
     let files = s.files;
-    let opens = s.opens;
+    let open_files = s.open_files;
     let processes = s.processes;
-    let i = index(line, 2);
+    let i = number_at(line, 2);
     let table = table_of(line);
     match table {
         0 => print_record(&files, FILE * i, FILE),
-        1 => print_record(&opens, OPEN * i, OPEN),
+        1 => print_record(&open_files, OPEN * i, OPEN),
         2 => print_record(&processes, PROCESS * i, PROCESS),
         _ => {}
     }
@@ -212,7 +269,9 @@ pub fn show_line(s: Console, line: &[u8]) -> Console {
 }
 
 // The tables that the set lines of the script's head give. An empty line ends the head.
-pub fn fresh(script: &[u8]) -> Console {
+pub(crate) fn fresh(script: &[u8]) -> Console
+    ensures { λ r. ⌜ r ≡ freshTables (now (script .entry)) ⌝ }
+{
     let mut s = empty();
     let mut at = 0;
     let mut n = 0;

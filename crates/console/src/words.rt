@@ -1,199 +1,138 @@
-// The words of a line, and what is written of numbers and bytes.
+// Lines of a script and the words of a line.
+ghost use mathlib.Core.Path.{_≡_};
+ghost use lib.ListN.{length};
+ghost use Rattle.rules.specs.Scan.{all};
+ghost use Rattle.rules.specs.Paths.{sameAt};
+ghost use Rattle.console.specs.Words.{SPACE, is, isNot, past, before, lineAt, nextLine, wordStart, wordOf, same, isWord, indexOf};
+use tables::names::same_at;
 use tables::parts::after;
 use tables::parts::upto;
 use tables::words::byte;
-use tables::words::put_byte;
 
-// What is no number: all numbers of a script are below it.
-pub const NO_NUMBER: u64 = 4294967296;
+fn is_byte(x: u8, b: u8) -> bool
+    ensures { λ r. ⌜ r ≡ is b x ⌝ }
+{
+    x == b
+}
 
-// What is no text: all texts of a script are shorter.
-pub const NO_TEXT: usize = 65536;
+fn is_not(x: u8, b: u8) -> bool
+    ensures { λ r. ⌜ r ≡ isNot b x ⌝ }
+{
+    x != b
+}
 
 // The first place from `at` on where byte b stands.
-pub fn find(text: &[u8], at: usize, b: u8) -> usize {
+pub(crate) fn find(text: &[u8], at: usize, b: u8) -> usize
+    ensures { λ r. ⌜ r ≡ past (isNot b) (now (text .entry)) at ⌝ }
+{
     let mut i = at;
     while i < text.len() {
-        if text[i] == b {
+        if is_not(byte(text, i), b) {
+            i += 1;
+        } else {
             return i;
         }
-        i += 1;
     }
     i
 }
 
-fn past_spaces(text: &[u8], at: usize) -> usize {
+fn past_spaces(text: &[u8], at: usize) -> usize
+    ensures { λ r. ⌜ r ≡ past (is SPACE) (now (text .entry)) at ⌝ }
+{
     let mut i = at;
     while i < text.len() {
-        if text[i] != b' ' {
+        if is_byte(byte(text, i), b' ') {
+            i += 1;
+        } else {
             return i;
         }
-        i += 1;
     }
     i
 }
 
-fn word_start(line: &[u8], k: usize) -> usize {
+// What stands before the first byte b.
+fn before(text: &[u8], b: u8) -> &[u8]
+    ensures { λ r. ⌜ now r ≡ before b (now (text .entry)) ⌝ }
+{
+    upto(text, find(text, 0, b))
+}
+
+// The line that has the place `at` of the script, from there on.
+pub(crate) fn line_at(script: &[u8], at: usize) -> &[u8]
+    ensures { λ r. ⌜ now r ≡ lineAt (now (script .entry)) at ⌝ }
+{
+    before(after(script, at), b'\n')
+}
+
+pub(crate) fn next_line(script: &[u8], at: usize) -> usize
+    ensures { λ r. ⌜ r ≡ nextLine (now (script .entry)) at ⌝ }
+{
+    let end = find(script, at, b'\n');
+    if end < script.len() {
+        return end + 1;
+    }
+    end
+}
+
+fn word_start(line: &[u8], k: usize) -> usize
+    ensures { λ r. ⌜ r ≡ wordStart (now (line .entry)) k ⌝ }
+{
     let mut at = past_spaces(line, 0);
-    let mut left = k;
-    while 0 < left {
+    let mut i = 0;
+    while i < k {
         at = past_spaces(line, find(line, at, b' '));
-        left -= 1;
+        i += 1;
     }
     at
 }
 
 // Word k of a line, counted from 0; empty past the last.
-pub fn word(line: &[u8], k: usize) -> &[u8] {
-    let rest = after(line, word_start(line, k));
-    upto(rest, find(rest, 0, b' '))
+pub(crate) fn word(line: &[u8], k: usize) -> &[u8]
+    ensures { λ r. ⌜ now r ≡ wordOf (now (line .entry)) k ⌝ }
+{
+    before(after(line, word_start(line, k)), b' ')
+}
+
+fn begins_with(a: &[u8], b: &[u8]) -> bool
+    ensures { λ r. ⌜ r ≡ all (sameAt (now (a .entry)) (now (b .entry))) 0 (length (now (b .entry))) ⌝ }
+{
+    let mut k = 0;
+    while k < b.len() {
+        if same_at(a, b, k) {
+            k += 1;
+        } else {
+            return false;
+        }
+    }
+    true
+}
+
+fn same(a: &[u8], b: &[u8]) -> bool
+    ensures { λ r. ⌜ r ≡ same (now (a .entry)) (now (b .entry)) ⌝ }
+{
+    let long = a.len() == b.len();
+    if !long {
+        return false;
+    }
+    begins_with(a, b)
+}
+
+fn is_word(list: &[u8], name: &[u8], k: usize) -> bool
+    ensures { λ r. ⌜ r ≡ isWord (now (list .entry)) (now (name .entry)) k ⌝ }
+{
+    same(word(list, k), name)
 }
 
 // Which of the first n words of a list is this one; n where none is.
-pub fn index_of(list: &[u8], n: usize, name: &[u8]) -> usize {
+pub(crate) fn index_of(list: &[u8], n: usize, name: &[u8]) -> usize
+    ensures { λ r. ⌜ r ≡ indexOf (now (list .entry)) n (now (name .entry)) ⌝ }
+{
     let mut k = 0;
     while k < n {
-        if check::same(word(list, k), name) {
+        if is_word(list, name, k) {
             return k;
         }
         k += 1;
     }
-    k
-}
-
-fn with_digit(n: u64, digit: u8) -> u64 {
-    if NO_NUMBER <= n {
-        return NO_NUMBER;
-    }
-    if digit < b'0' {
-        return NO_NUMBER;
-    }
-    if b'9' < digit {
-        return NO_NUMBER;
-    }
-    n * 10 + (digit - b'0') as u64
-}
-
-// The number that a word writes in decimal, below 4,294,967,296.
-pub fn number(text: &[u8]) -> u64 {
-    if text.len() == 0 {
-        return NO_NUMBER;
-    }
-    let mut n: u64 = 0;
-    let mut i = 0;
-    while i < text.len() {
-        n = with_digit(n, text[i]);
-        i += 1;
-    }
     n
-}
-
-// 16 for a byte that is no digit.
-fn hex_digit(b: u8) -> u8 {
-    match b {
-        b'0'..=b'9' => b - b'0',
-        b'a'..=b'f' => b - b'a' + 10,
-        _ => 16,
-    }
-}
-
-// The first byte that a text writes, \xNN being byte NN; 256 where it writes none.
-fn first_byte(text: &[u8]) -> u32 {
-    if byte(text, 0) != b'\\' {
-        return byte(text, 0) as u32;
-    }
-    let high = hex_digit(byte(text, 2));
-    let low = hex_digit(byte(text, 3));
-    if byte(text, 1) != b'x' {
-        return 256;
-    }
-    if 15 < high {
-        return 256;
-    }
-    if 15 < low {
-        return 256;
-    }
-    16 * (high as u32) + (low as u32)
-}
-
-fn first_width(text: &[u8]) -> usize {
-    if byte(text, 0) == b'\\' {
-        return 4;
-    }
-    1
-}
-
-// The bytes that a text writes, and how many they are; NO_TEXT where it is broken.
-pub fn unescape(text: &[u8], out: &mut [u8]) -> usize {
-    let mut i = 0;
-    let mut n = 0;
-    while n < text.len() {
-        if text.len() <= i {
-            return n;
-        }
-        let b = first_byte(after(text, i));
-        if 255 < b {
-            return NO_TEXT;
-        }
-        put_byte(out, n, b as u8);
-        i = std::num::wrapping_add_usize(i, first_width(after(text, i)));
-        n += 1;
-    }
-    n
-}
-
-// The first n bytes of a text that was unescaped.
-pub fn head(text: &[u8; 512], n: usize) -> &[u8] {
-    upto(text, n)
-}
-
-// Bytes that stand for themselves in a text.
-fn is_plain(b: u8) -> bool {
-    match b {
-        b'\\' => false,
-        b'!'..=b'~' => true,
-        _ => false,
-    }
-}
-
-fn print_byte(b: u8) {
-    if is_plain(b) {
-        io::write_all(1, &[b]);
-    } else {
-        io::write_all(1, b"\\x");
-        io::print_hex(1, b as u64, 2);
-    }
-}
-
-// Bytes, as a script writes them.
-pub fn print_text(text: &[u8]) {
-    let mut i = 0;
-    while i < text.len() {
-        print_byte(text[i]);
-        i += 1;
-    }
-}
-
-fn print_word(n: u32) {
-    io::write_all(1, b" ");
-    io::print_decimal(1, n as u64);
-}
-
-// n words of a table, from `at` on.
-fn print_words(table: &[u32], at: usize, n: usize) {
-    let mut a = at;
-    let mut left = n;
-    while 0 < left {
-        if table.len() <= a {
-            return;
-        }
-        print_word(table[a]);
-        a += 1;
-        left -= 1;
-    }
-}
-
-pub fn print_record(table: &[u32], at: usize, width: usize) {
-    io::write_all(1, b":");
-    print_words(table, at, width);
 }

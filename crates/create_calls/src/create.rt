@@ -5,7 +5,8 @@ ghost use Rattle.rules.specs.Store.{tab, tree, shownOf};
 ghost use Rattle.rules.specs.Directories.{freeDirent};
 ghost use Rattle.rules.specs.Checks.{freeSlot};
 ghost use Rattle.rules.specs.DecidePaths.{newRecord, created, createRoom, decideCreate};
-ghost use Rattle.create_calls.specs.Placed.{createAt};
+ghost use Rattle.rules.specs.declared.rights.BitsNumber.the-variants.{Valid};
+ghost use Rattle.create_calls.specs.NewName.{createAt};
 use crate::dirs::free_in;
 use crate::dirs::gaining;
 use crate::dirs::is_absent;
@@ -19,15 +20,18 @@ use rules::decision::Location;
 use rules::decision::Output;
 use rules::decision::Record;
 use rules::decision::Walk;
+use rules::ids::Dirent;
 use rules::ids::Slot;
 use rules::refusal::Refusal;
 use rules::request::Subject;
+use rules::rights::Bits;
+use rules::rights::BitsNumber;
 use rules::rights::Rights;
-use tables::layout::DIRENTS;
-use tables::layout::SLOTS;
+use tables::ids::is_dirent;
+use tables::ids::is_slot;
 
 // A new file in slot s, named in directory d.
-fn new_record(files: &[u32], who: Subject, kind: u32, bits: u32, d: Slot, s: Slot) -> Record
+fn new_record(files: &[u32], who: Subject, kind: u32, bits: Bits, d: Slot, s: Slot) -> Record
     ensures { λ r. ⌜ r ≡ newRecord (tab FILE (now (files .entry))) who kind bits d s ⌝ }
 {
     Record {
@@ -45,20 +49,20 @@ fn created_at(
     files: &[u32],
     who: Subject,
     kind: u32,
-    bits: u32,
+    bits: Bits,
     d: Slot,
-    s: u32,
-    i: u32,
+    s: Slot,
+    i: Dirent,
 ) -> Decision
     ensures { λ r. ⌜ r ≡ created (tab FILE (now (files .entry))) who kind bits d s i ⌝ }
 {
     Decision::Granted(
-        s,
+        s.0,
         Output::Nothing,
         Effect::Created(
             gaining(files, d, i),
-            Slot(s),
-            new_record(files, who, kind, bits, d, Slot(s)),
+            s,
+            new_record(files, who, kind, bits, d, s),
         ),
     )
 }
@@ -67,20 +71,18 @@ fn create_room(
     files: &[u32],
     who: Subject,
     kind: u32,
-    bits: u32,
+    bits: Bits,
     d: Slot,
-    s: u32,
-    i: u32,
+    s: Slot,
+    i: Dirent,
 ) -> Decision
     ensures { λ r. ⌜ r ≡ createRoom (tab FILE (now (files .entry))) who kind bits d s i ⌝ }
 {
-    let free = s < SLOTS;
-    if !free {
-        return Decision::Refused(Refusal::NoRoom, 0);
+    if !is_slot(s) {
+        return Decision::Refused(Refusal::TableFull, 0);
     }
-    let place = i < DIRENTS;
-    if !place {
-        return Decision::Refused(Refusal::NoRoom, 0);
+    if !is_dirent(i) {
+        return Decision::Refused(Refusal::TableFull, 0);
     }
     created_at(files, who, kind, bits, d, s, i)
 }
@@ -90,7 +92,7 @@ fn create_free(
     contents: &[u8],
     who: Subject,
     kind: u32,
-    bits: u32,
+    bits: Bits,
     d: Slot,
 ) -> Decision
     ensures { λ r. ⌜ r ≡ createRoom (tab FILE (now (files .entry))) who kind bits d (freeSlot (tab FILE (now (files .entry)))) (freeDirent (shownOf (now (files .entry)) (now (contents .entry)) (d .0))) ⌝ }
@@ -106,14 +108,14 @@ fn create_free(
     )
 }
 
-// The name's place in its parent is found.
+// The name's entry in its parent is looked up.
 fn create_at(
     files: &[u32],
     contents: &[u8],
     policy: &[u8],
     who: Subject,
     kind: u32,
-    bits: u32,
+    bits: Bits,
     at: Location,
 ) -> Decision
     ensures { λ r. ⌜ r ≡ createAt (now (policy .entry)) (tree (now (files .entry)) (now (contents .entry))) who kind bits at ⌝ }
@@ -131,19 +133,36 @@ fn create_at(
     create_free(files, contents, who, kind, bits, d)
 }
 
+fn create_with(
+    files: &[u32],
+    contents: &[u8],
+    policy: &[u8],
+    who: Subject,
+    kind: u32,
+    bits: Bits,
+    path: &[u8],
+) -> Decision
+    ensures { λ r. ⌜ r ≡ decideCreate (now (policy .entry)) (tree (now (files .entry)) (now (contents .entry))) who kind (Valid bits) (now (path .entry)) ⌝ }
+{
+    match walk_new(files, contents, policy, who, path) {
+        Walk::Reached(at) => create_at(files, contents, policy, who, kind, bits, at),
+        Walk::Stopped(r, k) => Decision::Refused(r, k),
+    }
+}
+
 pub fn decide_create(
     files: &[u32],
     contents: &[u8],
     policy: &[u8],
     who: Subject,
     kind: u32,
-    bits: u32,
+    bits: BitsNumber,
     path: &[u8],
 ) -> Decision
     ensures { λ r. ⌜ r ≡ decideCreate (now (policy .entry)) (tree (now (files .entry)) (now (contents .entry))) who kind bits (now (path .entry)) ⌝ }
 {
-    match walk_new(files, contents, policy, who, path) {
-        Walk::Reached(at) => create_at(files, contents, policy, who, kind, bits, at),
-        Walk::Stopped(r, k) => Decision::Refused(r, k),
+    match bits {
+        BitsNumber::Valid(b) => create_with(files, contents, policy, who, kind, b, path),
+        BitsNumber::OutOfRange => Decision::Refused(Refusal::Malformed, 0),
     }
 }

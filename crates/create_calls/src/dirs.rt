@@ -1,34 +1,34 @@
 // What a directory becomes that gains a name, whether it has the name, and its free entries.
 ghost use mathlib.Core.Path.{_≡_};
 ghost use mathlib.Core.Bool.{not};
-ghost use lib.Dec.{ltb};
-ghost use Rattle.rules.specs.Layout.{FILE, DIRENTS};
-ghost use Rattle.rules.specs.Store.{tab, shownOf};
+ghost use Rattle.rules.specs.Layout.{FILE};
+ghost use Rattle.rules.specs.Store.{tab, isDirent, shownOf};
 ghost use Rattle.rules.specs.Directories.{freeDirent};
 ghost use Rattle.rules.specs.Checks.{gains};
 use rules::decision::DirChange;
 use rules::decision::Location;
+use rules::ids::Dirent;
 use rules::ids::Slot;
 use tables::files::shown;
-use tables::layout::DIRENTS;
+use tables::ids::is_dirent;
 use tables::numbers::up_one;
 
-// The place of a name in its parent is past the entries: the name is missing.
+// The entry of a name in its parent is past the entries: the name is missing.
 pub fn is_absent(at: Location) -> bool
-    ensures { λ r. ⌜ r ≡ not (ltb (at .dirent) DIRENTS) ⌝ }
+    ensures { λ r. ⌜ r ≡ not (isDirent (at .dirent)) ⌝ }
 {
-    !(at.dirent < DIRENTS)
+    !is_dirent(at.dirent)
 }
 
 // The lowest free entry of the directory in slot d.
-pub fn free_in(files: &[u32], contents: &[u8], d: Slot) -> u32
+pub fn free_in(files: &[u32], contents: &[u8], d: Slot) -> Dirent
     ensures { λ r. ⌜ r ≡ freeDirent (shownOf (now (files .entry)) (now (contents .entry)) (d .0)) ⌝ }
 {
     resolution::directories::free_dirent(shown(files, contents, d))
 }
 
 // A directory that gains a name in entry i.
-pub fn gaining(files: &[u32], d: Slot, i: u32) -> DirChange
+pub fn gaining(files: &[u32], d: Slot, i: Dirent) -> DirChange
     ensures { λ r. ⌜ r ≡ gains (tab FILE (now (files .entry))) d i ⌝ }
 {
     DirChange {

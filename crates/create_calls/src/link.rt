@@ -4,7 +4,7 @@ ghost use Rattle.rules.specs.Layout.{FILE};
 ghost use Rattle.rules.specs.Store.{tab, tree, shownOf};
 ghost use Rattle.rules.specs.Directories.{freeDirent};
 ghost use Rattle.rules.specs.DecidePaths.{linked, linkRoom, linkTo, linkNew, decideLink};
-ghost use Rattle.create_calls.specs.Placed.{linkAt};
+ghost use Rattle.create_calls.specs.NewName.{linkAt};
 use crate::dirs::free_in;
 use crate::dirs::gaining;
 use crate::dirs::is_absent;
@@ -17,15 +17,16 @@ use rules::decision::Effect;
 use rules::decision::Location;
 use rules::decision::Output;
 use rules::decision::Walk;
+use rules::ids::Dirent;
 use rules::ids::Slot;
 use rules::refusal::Refusal;
 use rules::request::Subject;
 use rules::rights::Rights;
 use tables::files::is_plain;
-use tables::layout::DIRENTS;
+use tables::ids::is_dirent;
 use tables::numbers::up_one;
 
-fn linked_at(files: &[u32], old: Slot, d: Slot, i: u32) -> Decision
+fn linked_at(files: &[u32], old: Slot, d: Slot, i: Dirent) -> Decision
     ensures { λ r. ⌜ r ≡ linked (tab FILE (now (files .entry))) old d i ⌝ }
 {
     Decision::Granted(
@@ -39,12 +40,11 @@ fn linked_at(files: &[u32], old: Slot, d: Slot, i: u32) -> Decision
     )
 }
 
-fn link_room(files: &[u32], old: Slot, d: Slot, i: u32) -> Decision
+fn link_room(files: &[u32], old: Slot, d: Slot, i: Dirent) -> Decision
     ensures { λ r. ⌜ r ≡ linkRoom (tab FILE (now (files .entry))) old d i ⌝ }
 {
-    let place = i < DIRENTS;
-    if !place {
-        return Decision::Refused(Refusal::NoRoom, 0);
+    if !is_dirent(i) {
+        return Decision::Refused(Refusal::TableFull, 0);
     }
     linked_at(files, old, d, i)
 }
@@ -55,7 +55,7 @@ fn link_free(files: &[u32], contents: &[u8], old: Slot, d: Slot) -> Decision
     link_room(files, old, d, free_in(files, contents, d))
 }
 
-// The new name's place in its parent is found.
+// The new name's entry in its parent is looked up.
 fn link_at(
     files: &[u32],
     contents: &[u8],

@@ -1,20 +1,36 @@
 // Runs a script on the test console, and writes its answers and how far the run came. docs/scripts.md has the lines.
 mod test_console;
 
+ghost use mathlib.Core.Path.{_≡_};
+ghost use Rattle.day.specs.Day.{day};
 use script_rules::replayed::Replayed;
-use tables::layout::CONTENTS_SIZE;
-use tables::layout::FILES_SIZE;
-use tables::layout::OPENS_SIZE;
-use tables::layout::POLICY_SIZE;
-use tables::layout::PROCESSES_SIZE;
+use tables::layout::OPEN_FILES_SIZE;
 use tables::parts::upto;
-use test_console::set_contents;
-use test_console::set_files;
-use test_console::set_policy;
-use test_console::set_processes;
 
 // As many calls as can be allowed.
 const ALLOWANCE: u32 = 4294967295;
+
+// The script on the test console, of which nothing is open; the answers go to the output.
+fn replayed(script: &[u8], output: &mut [u8]) -> Replayed
+    ensures result { λ r. ⌜ r ≡ day (now (script .entry)) (now (output .entry)) .replayed ⌝ }
+    ensures output { λ _. ⌜ now (output .exit) ≡ day (now (script .entry)) (now (output .entry)) .output ⌝ }
+{
+    let mut files = test_console::files();
+    let mut contents = test_console::contents();
+    let mut open_files = [0u32; OPEN_FILES_SIZE];
+    let mut processes = test_console::processes();
+    let policy = test_console::policy();
+    replay::run::replay(
+        &mut files,
+        &mut contents,
+        &mut open_files,
+        &mut processes,
+        &policy,
+        script,
+        ALLOWANCE,
+        output,
+    )
+}
 
 fn head(bytes: &[u8; 65536], n: usize) -> &[u8] {
     upto(bytes, n)
@@ -34,26 +50,8 @@ fn print_end(r: Replayed) {
 }
 
 fn run(script: &[u8]) {
-    let mut files = [0u32; FILES_SIZE];
-    let mut contents = [0u8; CONTENTS_SIZE];
-    let mut opens = [0u32; OPENS_SIZE];
-    let mut processes = [0u32; PROCESSES_SIZE];
-    let mut policy = [255u8; POLICY_SIZE];
     let mut output = io::large_buffer();
-    set_files(&mut files);
-    set_contents(&mut contents);
-    set_processes(&mut processes);
-    set_policy(&mut policy);
-    let r = replay::run::replay(
-        &mut files,
-        &mut contents,
-        &mut opens,
-        &mut processes,
-        &policy,
-        script,
-        ALLOWANCE,
-        &mut output,
-    );
+    let r = replayed(script, &mut output);
     io::write_all(1, head(&output, r.written));
     print_end(r);
 }

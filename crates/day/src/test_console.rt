@@ -1,24 +1,26 @@
-// The test console: what is set in tables of 0 alone, and in a policy of 255 alone. specs/Console.antt of the rules has
-// the same store.
+// The test console's tables. crates/rules/specs/Console.antt has the store.
+ghost use mathlib.Core.Path.{_≡_};
+ghost use mathlib.Core.List.{[], _∷_};
+ghost use Rattle.rules.specs.Layout.{PROCESS};
+ghost use Rattle.rules.specs.Store.{puts};
+ghost use Rattle.rules.specs.Console.{consoleFiles, consoleContents, consoleProcesses, consolePolicy};
+use rows::rows::put_dirent;
+use rows::rows::put_record;
 use rules::decision::Record;
+use rules::ids::Dirent;
 use rules::ids::Pid;
 use rules::ids::Slot;
-use rules::request::Subject;
-use tables::layout::BITS;
+use rules::rights::Bits;
 use tables::layout::BLOCK;
+use tables::layout::CONTENTS_SIZE;
 use tables::layout::DIRECTORY;
-use tables::layout::DIRENT;
-use tables::layout::DOMAIN;
-use tables::layout::FILE;
-use tables::layout::KIND;
-use tables::layout::LABEL;
+use tables::layout::FILES_SIZE;
 use tables::layout::LABELS;
-use tables::layout::LENGTH;
-use tables::layout::LINKS;
-use tables::layout::NAME;
-use tables::layout::OWNER;
 use tables::layout::PLAIN;
+use tables::layout::POLICY_SIZE;
 use tables::layout::PROCESS;
+use tables::layout::PROCESS_LABEL;
+use tables::layout::PROCESSES_SIZE;
 use tables::layout::RIGHTS;
 use tables::layout::USED;
 use tables::layout::USER;
@@ -27,118 +29,90 @@ use tables::words::put;
 use tables::words::put_byte;
 use tables::words::zero_bytes;
 
-fn root() -> Record {
+// A record with version 0.
+fn file_record(kind: u32, owner: u32, bits: Bits, label: u32, length: u32, links: u32) -> Record
+    ensures { λ r. ⌜ r ≡ record { kind = kind; owner = owner; bits = bits; label = label; length = length; links = links; version = 0 } ⌝ }
+{
     Record {
-        kind: DIRECTORY,
-        owner: 0,
-        bits: 5,
-        label: 0,
-        length: 2,
-        links: 0,
+        kind: kind,
+        owner: owner,
+        bits: bits,
+        label: label,
+        length: length,
+        links: links,
         version: 0,
     }
 }
 
-// /fares
-fn fares() -> Record {
-    Record {
-        kind: DIRECTORY,
-        owner: 10,
-        bits: 5,
-        label: 0,
-        length: 1,
-        links: 1,
-        version: 0,
-    }
+// The root, /fares, /fares/now and /key.
+pub(crate) fn files() -> [u32; FILES_SIZE]
+    ensures { λ r. ⌜ r ≡ consoleFiles ⌝ }
+{
+    let mut files = [0u32; FILES_SIZE];
+    put_record(
+        &mut files,
+        Slot(0),
+        file_record(DIRECTORY, 0, Bits(5), 0, 2, 0),
+    );
+    put_record(
+        &mut files,
+        Slot(1),
+        file_record(DIRECTORY, 10, Bits(5), 0, 1, 1),
+    );
+    put_record(
+        &mut files,
+        Slot(2),
+        file_record(PLAIN, 10, Bits(4), 0, 5, 1),
+    );
+    put_record(
+        &mut files,
+        Slot(3),
+        file_record(PLAIN, 10, Bits(0), 3, 4, 1),
+    );
+    files
 }
 
-// /fares/now
-fn fare() -> Record {
-    Record {
-        kind: PLAIN,
-        owner: 10,
-        bits: 4,
-        label: 0,
-        length: 5,
-        links: 1,
-        version: 0,
-    }
+pub(crate) fn contents() -> [u8; CONTENTS_SIZE]
+    ensures { λ r. ⌜ r ≡ consoleContents (1 ∷ 2 ∷ 3 ∷ 4 ∷ []) ⌝ }
+{
+    let mut contents = [0u8; CONTENTS_SIZE];
+    put_dirent(&mut contents, Slot(0), Dirent(0), b"fares", Slot(1));
+    put_dirent(&mut contents, Slot(0), Dirent(1), b"key", Slot(3));
+    put_dirent(&mut contents, Slot(1), Dirent(0), b"now", Slot(2));
+    copy_bytes(&mut contents, BLOCK * 2, b"2.40\n");
+    copy_bytes(&mut contents, BLOCK * 3, b"\x01\x02\x03\x04");
+    contents
 }
 
-// /key
-fn key() -> Record {
-    Record {
-        kind: PLAIN,
-        owner: 10,
-        bits: 0,
-        label: 3,
-        length: 4,
-        links: 1,
-        version: 0,
-    }
-}
-
-// The stamp is 0 as it stands.
-fn set_record(files: &mut [u32], s: Slot, r: Record) {
-    let at = FILE * (s.0 as usize);
-    put(files, at + KIND, r.kind);
-    put(files, at + OWNER, r.owner);
-    put(files, at + BITS, r.bits);
-    put(files, at + LABEL, r.label);
-    put(files, at + LENGTH, r.length);
-    put(files, at + LINKS, r.links);
-}
-
-pub fn set_files(files: &mut [u32]) {
-    set_record(files, Slot(0), root());
-    set_record(files, Slot(1), fares());
-    set_record(files, Slot(2), fare());
-    set_record(files, Slot(3), key());
-}
-
-// A place of a directory names a slot.
-fn set_name(contents: &mut [u8], directory: Slot, place: u8, name: &[u8], slot: u8) {
-    let at = BLOCK * (directory.0 as usize) + DIRENT * (place as usize);
-    copy_bytes(contents, at, name);
-    put_byte(contents, at + NAME, slot);
-}
-
-fn set_bytes(contents: &mut [u8], s: Slot, bytes: &[u8]) {
-    copy_bytes(contents, BLOCK * (s.0 as usize), bytes);
-}
-
-pub fn set_contents(contents: &mut [u8]) {
-    set_name(contents, Slot(0), 0, b"fares", 1);
-    set_name(contents, Slot(0), 1, b"key", 3);
-    set_name(contents, Slot(1), 0, b"now", 2);
-    set_bytes(contents, Slot(2), b"2.40\n");
-    set_bytes(contents, Slot(3), b"\x01\x02\x03\x04");
-}
-
-// A process in use that holds nothing.
-fn set_process(processes: &mut [u32], p: Pid, who: Subject) {
+// A process in use; it holds nothing where the table is 0.
+fn put_process(processes: &mut [u32], p: Pid, user: u32, label: u32)
+    ensures { λ _. ⌜ now (processes .exit) ≡ puts PROCESS (now (processes .entry)) (p .0) 0 (1 ∷ user ∷ label ∷ []) ⌝ }
+{
     let at = PROCESS * (p.0 as usize);
     put(processes, at + USED, 1);
-    put(processes, at + USER, who.user);
-    put(processes, at + DOMAIN, who.label);
+    put(processes, at + USER, user);
+    put(processes, at + PROCESS_LABEL, label);
 }
 
-pub fn set_processes(processes: &mut [u32]) {
-    set_process(processes, Pid(0), Subject { user: 0, label: 0 });
-    set_process(processes, Pid(1), Subject { user: 10, label: 1 });
-    set_process(processes, Pid(2), Subject { user: 20, label: 2 });
+pub(crate) fn processes() -> [u32; PROCESSES_SIZE]
+    ensures { λ r. ⌜ r ≡ consoleProcesses ⌝ }
+{
+    let mut processes = [0u32; PROCESSES_SIZE];
+    put_process(&mut processes, Pid(0), 0, 0);
+    put_process(&mut processes, Pid(1), 10, 1);
+    put_process(&mut processes, Pid(2), 20, 2);
+    processes
 }
 
-// The rights of a process label over a file label.
-fn set_rights(policy: &mut [u8], label: u8, over: u8, rights: u8) {
-    put_byte(policy, LABELS * (label as usize) + (over as usize), rights);
-}
-
-// No transitions: 255 stays there.
-pub fn set_policy(policy: &mut [u8]) {
-    zero_bytes(policy, 0, RIGHTS);
-    set_rights(policy, 0, 0, 7);
-    set_rights(policy, 1, 0, 7);
-    set_rights(policy, 2, 0, 5);
-    set_rights(policy, 1, 3, 2);
+// Rights of process labels 0, 1 and 2 over file labels 0 and 3. No transitions: 255 stays there.
+pub(crate) fn policy() -> [u8; POLICY_SIZE]
+    ensures { λ r. ⌜ r ≡ consolePolicy ⌝ }
+{
+    let mut policy = [255u8; POLICY_SIZE];
+    zero_bytes(&mut policy, 0, RIGHTS);
+    put_byte(&mut policy, 0, 7);
+    put_byte(&mut policy, LABELS, 7);
+    put_byte(&mut policy, LABELS + 3, 2);
+    put_byte(&mut policy, LABELS * 2, 5);
+    policy
 }

@@ -35,36 +35,46 @@ use transfer_calls::write::decide_write;
 fn decide_own(
     files: &[u32],
     contents: &[u8],
-    opens: &[u32],
+    open_files: &[u32],
     processes: &[u32],
     policy: &[u8],
     c: Request,
     path: &[u8],
-    bytes: &[u8],
+    data: &[u8],
     buffer: &[u8],
     op: Operation,
 ) -> Decision
-    ensures { λ r. ⌜ r ≡ need (formOk op (c .number) (now (path .entry)) (now (bytes .entry))) Malformed (decideOwn (now (policy .entry)) (view (store (now (files .entry)) (now (contents .entry)) (now (opens .entry)) (now (processes .entry)))) (callOf c (now (path .entry)) (now (bytes .entry)) (now (buffer .entry))) op) ⌝ }
+    ensures { λ r. ⌜ r ≡ need (formOk op (c .number) (now (path .entry)) (now («data» .entry))) Malformed (decideOwn (now (policy .entry)) (view (store (now (files .entry)) (now (contents .entry)) (now («open_files» .entry)) (now (processes .entry)))) (callOf c (now (path .entry)) (now («data» .entry)) (now (buffer .entry))) op) ⌝ }
 {
     let p = c.process;
     let i = c.fd;
     let n = c.number as u32;
     let who = subject(processes, p);
     match op {
-        Operation::Open => formed_open(files, contents, opens, processes, policy, p, who, n, path),
+        Operation::Open => formed_open(
+            files,
+            contents,
+            open_files,
+            processes,
+            policy,
+            p,
+            who,
+            n,
+            path,
+        ),
         Operation::Create => formed_create(files, contents, policy, who, n, path),
         Operation::MakeDirectory => formed_make_directory(files, contents, policy, who, n, path),
-        Operation::Unlink => formed_unlink(files, contents, opens, policy, who, path),
+        Operation::Unlink => formed_unlink(files, contents, open_files, policy, who, path),
         Operation::RemoveDirectory => formed_remove(files, contents, policy, who, path),
-        Operation::Link => formed_link(files, contents, policy, who, path, bytes),
+        Operation::Link => formed_link(files, contents, policy, who, path, data),
         Operation::List => formed_list(files, contents, policy, who, n, path),
         Operation::ChangeBits => formed_change_bits(files, contents, policy, who, n, path),
         Operation::Stat => formed_stat(files, contents, policy, who, path),
-        Operation::Close => decide_close(files, opens, processes, p, i),
-        Operation::Read => decide_read(files, opens, processes, p, i, buffer.len()),
-        Operation::Write => decide_write(files, opens, processes, p, i, bytes.len()),
+        Operation::Close => decide_close(files, open_files, processes, p, i),
+        Operation::Read => decide_read(files, open_files, processes, p, i, buffer.len()),
+        Operation::Write => decide_write(files, open_files, processes, p, i, data.len()),
         Operation::Seek => formed_seek(processes, p, i, n),
-        Operation::Duplicate => decide_duplicate(opens, processes, p, i),
+        Operation::Duplicate => decide_duplicate(open_files, processes, p, i),
         Operation::Fork => decide_fork(processes, p),
         Operation::Exit => Decision::Granted(0, Output::Nothing, Effect::Exited),
         Operation::Execute => formed_execute(files, contents, policy, who, path),
@@ -76,15 +86,15 @@ fn decide_own(
 pub fn decide_call(
     files: &[u32],
     contents: &[u8],
-    opens: &[u32],
+    open_files: &[u32],
     processes: &[u32],
     policy: &[u8],
     c: Request,
     path: &[u8],
-    bytes: &[u8],
+    data: &[u8],
     buffer: &[u8],
 ) -> Decision
-    ensures { λ r. ⌜ r ≡ decide (now (policy .entry)) (view (store (now (files .entry)) (now (contents .entry)) (now (opens .entry)) (now (processes .entry)))) (callOf c (now (path .entry)) (now (bytes .entry)) (now (buffer .entry))) ⌝ }
+    ensures { λ r. ⌜ r ≡ decide (now (policy .entry)) (view (store (now (files .entry)) (now (contents .entry)) (now («open_files» .entry)) (now (processes .entry)))) (callOf c (now (path .entry)) (now («data» .entry)) (now (buffer .entry))) ⌝ }
 {
     if !in_use(processes, c.process) {
         return Decision::Refused(Refusal::NoProcess, 0);
@@ -93,12 +103,12 @@ pub fn decide_call(
     decide_own(
         files,
         contents,
-        opens,
+        open_files,
         processes,
         policy,
         c,
         path,
-        bytes,
+        data,
         buffer,
         op,
     )

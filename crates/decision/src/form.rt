@@ -8,50 +8,16 @@ ghost use Rattle.rules.specs.Layout.{BLOCK};
 ghost use Rattle.rules.specs.Rights.{bitsKnown, modeOf, modeKnown};
 ghost use Rattle.rules.specs.Paths.{pathOk};
 ghost use Rattle.rules.specs.Calls.{pathBelowRoot, newFileOk};
-ghost use Rattle.decision.specs.Form.{areBits};
 use resolution::paths::path_below_root;
 use resolution::paths::path_ok;
 use rules::rights::Bits;
-use rules::rights::BitsNumber;
-use rules::rights::ModeNumber;
 use rules::rights::OpenMode;
 use tables::layout::BLOCK;
-
-fn is_mode(m: ModeNumber) -> bool
-    ensures { λ r. ⌜ r ≡ modeKnown m ⌝ }
-{
-    match m {
-        ModeNumber::Keep(_) => true,
-        ModeNumber::Truncate(_) => true,
-        ModeNumber::OutOfRange => false,
-    }
-}
-
-fn mode_known(n: u32) -> bool
-    ensures { λ r. ⌜ r ≡ modeKnown (modeOf n) ⌝ }
-{
-    is_mode(OpenMode::new(n))
-}
-
-fn are_bits(b: BitsNumber) -> bool
-    ensures { λ r. ⌜ r ≡ areBits b ⌝ }
-{
-    match b {
-        BitsNumber::Valid(_) => true,
-        BitsNumber::OutOfRange => false,
-    }
-}
-
-fn bits_known(n: u32) -> bool
-    ensures { λ r. ⌜ r ≡ bitsKnown n ⌝ }
-{
-    are_bits(Bits::new(n))
-}
 
 pub fn open_ok(n: u32, path: &[u8]) -> bool
     ensures { λ r. ⌜ r ≡ every (modeKnown (modeOf n) ∷ pathOk (now (path .entry)) ∷ []) ⌝ }
 {
-    if !mode_known(n) {
+    if !OpenMode::known(n) {
         return false;
     }
     path_ok(path)
@@ -60,7 +26,7 @@ pub fn open_ok(n: u32, path: &[u8]) -> bool
 pub fn new_file_ok(n: u32, path: &[u8]) -> bool
     ensures { λ r. ⌜ r ≡ newFileOk n (now (path .entry)) ⌝ }
 {
-    if !bits_known(n) {
+    if !Bits::known(n) {
         return false;
     }
     path_below_root(path)
@@ -69,19 +35,19 @@ pub fn new_file_ok(n: u32, path: &[u8]) -> bool
 pub fn bits_and_path_ok(n: u32, path: &[u8]) -> bool
     ensures { λ r. ⌜ r ≡ every (bitsKnown n ∷ pathOk (now (path .entry)) ∷ []) ⌝ }
 {
-    if !bits_known(n) {
+    if !Bits::known(n) {
         return false;
     }
     path_ok(path)
 }
 
-pub fn both_paths_ok(path: &[u8], bytes: &[u8]) -> bool
-    ensures { λ r. ⌜ r ≡ every (pathOk (now (path .entry)) ∷ pathBelowRoot (now (bytes .entry)) ∷ []) ⌝ }
+pub fn both_paths_ok(path: &[u8], data: &[u8]) -> bool
+    ensures { λ r. ⌜ r ≡ every (pathOk (now (path .entry)) ∷ pathBelowRoot (now («data» .entry)) ∷ []) ⌝ }
 {
     if !path_ok(path) {
         return false;
     }
-    path_below_root(bytes)
+    path_below_root(data)
 }
 
 pub fn offset_ok(n: u32) -> bool

@@ -6,7 +6,7 @@ ghost use lib.Dec.{leb};
 ghost use Rattle.rules.specs.Choice.{every};
 ghost use Rattle.rules.specs.Layout.{BLOCK, OPEN, PLAIN, DIRECTORY};
 ghost use Rattle.rules.specs.Store.{tab, tree, descOf};
-ghost use Rattle.rules.specs.Rights.{bitsKnown, modeOf, modeKnown};
+ghost use Rattle.rules.specs.Rights.{bitsKnown, bitsOf, modeOf, modeKnown};
 ghost use Rattle.rules.specs.Paths.{pathOk};
 ghost use Rattle.rules.specs.Calls.{pathBelowRoot, newFileOk};
 ghost use Rattle.rules.specs.Checks.{need};
@@ -34,6 +34,7 @@ use rules::ids::Fd;
 use rules::ids::Pid;
 use rules::refusal::Refusal;
 use rules::request::Subject;
+use rules::rights::Bits;
 use tables::layout::DIRECTORY;
 use tables::layout::PLAIN;
 use transfer_calls::seek::decide_seek;
@@ -41,7 +42,7 @@ use transfer_calls::seek::decide_seek;
 pub fn formed_open(
     files: &[u32],
     contents: &[u8],
-    opens: &[u32],
+    open_files: &[u32],
     processes: &[u32],
     policy: &[u8],
     p: Pid,
@@ -49,12 +50,22 @@ pub fn formed_open(
     n: u32,
     path: &[u8],
 ) -> Decision
-    ensures { λ r. ⌜ r ≡ need (every (modeKnown (modeOf n) ∷ pathOk (now (path .entry)) ∷ [])) Malformed (decideOpen (now (policy .entry)) (tree (now (files .entry)) (now (contents .entry))) (tab OPEN (now (opens .entry))) (descOf (now (processes .entry))) p who n (now (path .entry))) ⌝ }
+    ensures { λ r. ⌜ r ≡ need (every (modeKnown (modeOf n) ∷ pathOk (now (path .entry)) ∷ [])) Malformed (decideOpen (now (policy .entry)) (tree (now (files .entry)) (now (contents .entry))) (tab OPEN (now («open_files» .entry))) (descOf (now (processes .entry))) p who n (now (path .entry))) ⌝ }
 {
     if !open_ok(n, path) {
         return Decision::Refused(Refusal::Malformed, 0);
     }
-    decide_open(files, contents, opens, processes, policy, p, who, n, path)
+    decide_open(
+        files,
+        contents,
+        open_files,
+        processes,
+        policy,
+        p,
+        who,
+        n,
+        path,
+    )
 }
 
 // Create and make directory are two, for `decide_create` then has two callers and stays one function; as one with it this one would be called twice and be handed
@@ -67,12 +78,12 @@ pub fn formed_create(
     n: u32,
     path: &[u8],
 ) -> Decision
-    ensures { λ r. ⌜ r ≡ need (newFileOk n (now (path .entry))) Malformed (decideCreate (now (policy .entry)) (tree (now (files .entry)) (now (contents .entry))) who PLAIN n (now (path .entry))) ⌝ }
+    ensures { λ r. ⌜ r ≡ need (newFileOk n (now (path .entry))) Malformed (decideCreate (now (policy .entry)) (tree (now (files .entry)) (now (contents .entry))) who PLAIN (bitsOf n) (now (path .entry))) ⌝ }
 {
     if !new_file_ok(n, path) {
         return Decision::Refused(Refusal::Malformed, 0);
     }
-    decide_create(files, contents, policy, who, PLAIN, n, path)
+    decide_create(files, contents, policy, who, PLAIN, Bits::new(n), path)
 }
 
 pub fn formed_make_directory(
@@ -83,28 +94,28 @@ pub fn formed_make_directory(
     n: u32,
     path: &[u8],
 ) -> Decision
-    ensures { λ r. ⌜ r ≡ need (newFileOk n (now (path .entry))) Malformed (decideCreate (now (policy .entry)) (tree (now (files .entry)) (now (contents .entry))) who DIRECTORY n (now (path .entry))) ⌝ }
+    ensures { λ r. ⌜ r ≡ need (newFileOk n (now (path .entry))) Malformed (decideCreate (now (policy .entry)) (tree (now (files .entry)) (now (contents .entry))) who DIRECTORY (bitsOf n) (now (path .entry))) ⌝ }
 {
     if !new_file_ok(n, path) {
         return Decision::Refused(Refusal::Malformed, 0);
     }
-    decide_create(files, contents, policy, who, DIRECTORY, n, path)
+    decide_create(files, contents, policy, who, DIRECTORY, Bits::new(n), path)
 }
 
 pub fn formed_unlink(
     files: &[u32],
     contents: &[u8],
-    opens: &[u32],
+    open_files: &[u32],
     policy: &[u8],
     who: Subject,
     path: &[u8],
 ) -> Decision
-    ensures { λ r. ⌜ r ≡ need (pathBelowRoot (now (path .entry))) Malformed (decideUnlink (now (policy .entry)) (tree (now (files .entry)) (now (contents .entry))) (tab OPEN (now (opens .entry))) who (now (path .entry))) ⌝ }
+    ensures { λ r. ⌜ r ≡ need (pathBelowRoot (now (path .entry))) Malformed (decideUnlink (now (policy .entry)) (tree (now (files .entry)) (now (contents .entry))) (tab OPEN (now («open_files» .entry))) who (now (path .entry))) ⌝ }
 {
     if !path_below_root(path) {
         return Decision::Refused(Refusal::Malformed, 0);
     }
-    decide_unlink(files, contents, opens, policy, who, path)
+    decide_unlink(files, contents, open_files, policy, who, path)
 }
 
 pub fn formed_remove(
@@ -128,14 +139,14 @@ pub fn formed_link(
     policy: &[u8],
     who: Subject,
     path: &[u8],
-    bytes: &[u8],
+    data: &[u8],
 ) -> Decision
-    ensures { λ r. ⌜ r ≡ need (every (pathOk (now (path .entry)) ∷ pathBelowRoot (now (bytes .entry)) ∷ [])) Malformed (decideLink (now (policy .entry)) (tree (now (files .entry)) (now (contents .entry))) who (now (path .entry)) (now (bytes .entry))) ⌝ }
+    ensures { λ r. ⌜ r ≡ need (every (pathOk (now (path .entry)) ∷ pathBelowRoot (now («data» .entry)) ∷ [])) Malformed (decideLink (now (policy .entry)) (tree (now (files .entry)) (now (contents .entry))) who (now (path .entry)) (now («data» .entry))) ⌝ }
 {
-    if !both_paths_ok(path, bytes) {
+    if !both_paths_ok(path, data) {
         return Decision::Refused(Refusal::Malformed, 0);
     }
-    decide_link(files, contents, policy, who, path, bytes)
+    decide_link(files, contents, policy, who, path, data)
 }
 
 pub fn formed_list(
@@ -162,12 +173,12 @@ pub fn formed_change_bits(
     n: u32,
     path: &[u8],
 ) -> Decision
-    ensures { λ r. ⌜ r ≡ need (every (bitsKnown n ∷ pathOk (now (path .entry)) ∷ [])) Malformed (decideChangeBits (now (policy .entry)) (tree (now (files .entry)) (now (contents .entry))) who n (now (path .entry))) ⌝ }
+    ensures { λ r. ⌜ r ≡ need (every (bitsKnown n ∷ pathOk (now (path .entry)) ∷ [])) Malformed (decideChangeBits (now (policy .entry)) (tree (now (files .entry)) (now (contents .entry))) who (bitsOf n) (now (path .entry))) ⌝ }
 {
     if !bits_and_path_ok(n, path) {
         return Decision::Refused(Refusal::Malformed, 0);
     }
-    decide_change_bits(files, contents, policy, who, n, path)
+    decide_change_bits(files, contents, policy, who, Bits::new(n), path)
 }
 
 pub fn formed_stat(

@@ -11,43 +11,43 @@ use rules::decision::Decision;
 use rules::decision::Effect;
 use rules::decision::Output;
 use rules::ids::Fd;
+use rules::ids::Ofd;
 use rules::ids::Pid;
 use rules::refusal::Refusal;
-use tables::layout::DESCRIPTORS;
+use tables::ids::is_fd;
 use tables::numbers::up_one;
-use tables::opens::references;
+use tables::open_files::references;
 
-fn duplicated_to(opens: &[u32], e: u32, i: u8) -> Decision
-    ensures { λ r. ⌜ r ≡ duplicated (tab OPEN (now (opens .entry))) e i ⌝ }
+fn duplicated_to(open_files: &[u32], e: Ofd, i: Fd) -> Decision
+    ensures { λ r. ⌜ r ≡ duplicated (tab OPEN (now («open_files» .entry))) e i ⌝ }
 {
     Decision::Granted(
-        i as u32,
+        i.0 as u32,
         Output::Nothing,
-        Effect::Duplicated(Fd(i), e, up_one(references(opens, e))),
+        Effect::Duplicated(i, e, up_one(references(open_files, e))),
     )
 }
 
-fn duplicate_to(opens: &[u32], e: u32, i: u8) -> Decision
-    ensures { λ r. ⌜ r ≡ duplicateTo (tab OPEN (now (opens .entry))) e i ⌝ }
+fn duplicate_to(open_files: &[u32], e: Ofd, i: Fd) -> Decision
+    ensures { λ r. ⌜ r ≡ duplicateTo (tab OPEN (now («open_files» .entry))) e i ⌝ }
 {
-    let free = i < DESCRIPTORS;
-    if !free {
-        return Decision::Refused(Refusal::NoRoom, 0);
+    if !is_fd(i) {
+        return Decision::Refused(Refusal::TableFull, 0);
     }
-    duplicated_to(opens, e, i)
+    duplicated_to(open_files, e, i)
 }
 
-fn duplicate_held(opens: &[u32], processes: &[u32], p: Pid, i: Fd) -> Decision
-    ensures { λ r. ⌜ r ≡ duplicateTo (tab OPEN (now (opens .entry))) (ofdHeld (descOf (now (processes .entry))) p i) (freeFd (descOf (now (processes .entry))) p) ⌝ }
+fn duplicate_held(open_files: &[u32], processes: &[u32], p: Pid, i: Fd) -> Decision
+    ensures { λ r. ⌜ r ≡ duplicateTo (tab OPEN (now («open_files» .entry))) (ofdHeld (descOf (now (processes .entry))) p i) (freeFd (descOf (now (processes .entry))) p) ⌝ }
 {
-    duplicate_to(opens, ofd_held(processes, p, i), free_fd(processes, p))
+    duplicate_to(open_files, ofd_held(processes, p, i), free_fd(processes, p))
 }
 
-pub fn decide_duplicate(opens: &[u32], processes: &[u32], p: Pid, i: Fd) -> Decision
-    ensures { λ r. ⌜ r ≡ decideDuplicate (tab OPEN (now (opens .entry))) (descOf (now (processes .entry))) p i ⌝ }
+pub fn decide_duplicate(open_files: &[u32], processes: &[u32], p: Pid, i: Fd) -> Decision
+    ensures { λ r. ⌜ r ≡ decideDuplicate (tab OPEN (now («open_files» .entry))) (descOf (now (processes .entry))) p i ⌝ }
 {
     if !is_held(processes, p, i) {
         return Decision::Refused(Refusal::NotHeld, 0);
     }
-    duplicate_held(opens, processes, p, i)
+    duplicate_held(open_files, processes, p, i)
 }

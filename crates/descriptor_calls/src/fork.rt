@@ -12,30 +12,30 @@ use rules::decision::Effect;
 use rules::decision::Output;
 use rules::decision::Share;
 use rules::ids::Fd;
+use rules::ids::Ofd;
 use rules::ids::Pid;
 use rules::refusal::Refusal;
 use rules::request::Subject;
-use tables::layout::PROCESSES;
+use tables::ids::is_pid;
 use tables::numbers::up_one;
-use tables::opens::references;
+use tables::open_files::references;
 use tables::processes::subject;
 
-fn forked_to(who: Subject, q: u8) -> Decision
+fn forked_to(who: Subject, q: Pid) -> Decision
     ensures { λ r. ⌜ r ≡ forked who q ⌝ }
 {
     Decision::Granted(
-        q as u32,
+        q.0 as u32,
         Output::Nothing,
-        Effect::Forked(Pid(q), who.user, who.label),
+        Effect::Forked(q, who.user, who.label),
     )
 }
 
-fn fork_to(who: Subject, q: u8) -> Decision
+fn fork_to(who: Subject, q: Pid) -> Decision
     ensures { λ r. ⌜ r ≡ forkTo who q ⌝ }
 {
-    let free = q < PROCESSES;
-    if !free {
-        return Decision::Refused(Refusal::NoRoom, 0);
+    if !is_pid(q) {
+        return Decision::Refused(Refusal::TableFull, 0);
     }
     forked_to(who, q)
 }
@@ -46,24 +46,24 @@ pub fn decide_fork(processes: &[u32], p: Pid) -> Decision
     fork_to(subject(processes, p), free_pid(processes))
 }
 
-fn share_one(opens: &[u32], e: u32) -> Share
-    ensures { λ r. ⌜ r ≡ sharing (tab OPEN (now (opens .entry))) e ⌝ }
+fn share_one(open_files: &[u32], e: Ofd) -> Share
+    ensures { λ r. ⌜ r ≡ sharing (tab OPEN (now («open_files» .entry))) e ⌝ }
 {
-    Share::Held(e, up_one(references(opens, e)))
+    Share::Held(e, up_one(references(open_files, e)))
 }
 
-fn share_held(opens: &[u32], processes: &[u32], p: Pid, i: Fd) -> Share
-    ensures { λ r. ⌜ r ≡ sharing (tab OPEN (now (opens .entry))) (ofdHeld (descOf (now (processes .entry))) p i) ⌝ }
+fn share_held(open_files: &[u32], processes: &[u32], p: Pid, i: Fd) -> Share
+    ensures { λ r. ⌜ r ≡ sharing (tab OPEN (now («open_files» .entry))) (ofdHeld (descOf (now (processes .entry))) p i) ⌝ }
 {
-    share_one(opens, ofd_held(processes, p, i))
+    share_one(open_files, ofd_held(processes, p, i))
 }
 
 // What a child gets of descriptor i.
-pub fn share(opens: &[u32], processes: &[u32], p: Pid, i: Fd) -> Share
-    ensures { λ r. ⌜ r ≡ shareOf (tab OPEN (now (opens .entry))) (descOf (now (processes .entry))) p i ⌝ }
+pub fn share(open_files: &[u32], processes: &[u32], p: Pid, i: Fd) -> Share
+    ensures { λ r. ⌜ r ≡ shareOf (tab OPEN (now («open_files» .entry))) (descOf (now (processes .entry))) p i ⌝ }
 {
     if is_held(processes, p, i) {
-        return share_held(opens, processes, p, i);
+        return share_held(open_files, processes, p, i);
     }
     Share::Nothing
 }

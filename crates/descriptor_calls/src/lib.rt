@@ -1,4 +1,4 @@
-// The calls that let go of descriptors, double them and hand them on: what they are answered, on the tables as they are. Nothing is written here.
+// Close, duplicate and fork, and what becomes of a descriptor that is emptied or shared: what they are answered, on the tables as they are. Nothing is written here.
 pub mod duplicate;
 pub mod fork;
 pub mod release;

@@ -20,12 +20,13 @@ use rules::decision::Effect;
 use rules::decision::Output;
 use rules::decision::Release;
 use rules::ids::Fd;
+use rules::ids::Ofd;
 use rules::ids::Pid;
 use rules::ids::Slot;
 use rules::refusal::Refusal;
 use tables::numbers::down_one;
-use tables::opens::references;
-use tables::opens::slot_of;
+use tables::open_files::references;
+use tables::open_files::slot_of;
 
 fn has_no_links(files: &[u32], s: Slot) -> bool
     ensures { λ r. ⌜ r ≡ eqb (tab FILE (now (files .entry)) (s .0) LINKS) 0 ⌝ }
@@ -34,90 +35,90 @@ fn has_no_links(files: &[u32], s: Slot) -> bool
 }
 
 // The file goes with open file e: no name, and no other open file.
-fn file_goes(files: &[u32], opens: &[u32], e: u32, s: Slot) -> bool
-    ensures { λ r. ⌜ r ≡ every (eqb (tab FILE (now (files .entry)) (s .0) LINKS) 0 ∷ not (openBut (tab OPEN (now (opens .entry))) e (s .0)) ∷ []) ⌝ }
+fn file_goes(files: &[u32], open_files: &[u32], e: Ofd, s: Slot) -> bool
+    ensures { λ r. ⌜ r ≡ every (eqb (tab FILE (now (files .entry)) (s .0) LINKS) 0 ∷ not (openBut (tab OPEN (now («open_files» .entry))) e s) ∷ []) ⌝ }
 {
     if !has_no_links(files, s) {
         return false;
     }
-    none_but(opens, e, s.0)
+    none_but(open_files, e, s)
 }
 
-fn freed_with(files: &[u32], e: u32, s: Slot) -> Release
+fn freed_with(files: &[u32], e: Ofd, s: Slot) -> Release
     ensures { λ r. ⌜ r ≡ release.Freed e s (freed (tab FILE (now (files .entry))) s) ⌝ }
 {
     Release::Freed(e, s, freed_record(files, s))
 }
 
 // Open file e on slot s goes.
-fn close_last(files: &[u32], opens: &[u32], e: u32, s: Slot) -> Release
-    ensures { λ r. ⌜ r ≡ closing (tab FILE (now (files .entry))) (tab OPEN (now (opens .entry))) e s ⌝ }
+fn close_last(files: &[u32], open_files: &[u32], e: Ofd, s: Slot) -> Release
+    ensures { λ r. ⌜ r ≡ closing (tab FILE (now (files .entry))) (tab OPEN (now («open_files» .entry))) e s ⌝ }
 {
-    if file_goes(files, opens, e, s) {
+    if file_goes(files, open_files, e, s) {
         return freed_with(files, e, s);
     }
     Release::Gone(e)
 }
 
-fn close_last_of(files: &[u32], opens: &[u32], e: u32) -> Release
-    ensures { λ r. ⌜ r ≡ closing (tab FILE (now (files .entry))) (tab OPEN (now (opens .entry))) e (slot (tab OPEN (now (opens .entry)) e SLOT)) ⌝ }
+fn close_last_of(files: &[u32], open_files: &[u32], e: Ofd) -> Release
+    ensures { λ r. ⌜ r ≡ closing (tab FILE (now (files .entry))) (tab OPEN (now («open_files» .entry))) e (slot (tab OPEN (now («open_files» .entry)) (e .0) SLOT)) ⌝ }
 {
-    close_last(files, opens, e, slot_of(opens, e))
+    close_last(files, open_files, e, slot_of(open_files, e))
 }
 
-fn has_more(opens: &[u32], e: u32) -> bool
-    ensures { λ r. ⌜ r ≡ ltb 1 (tab OPEN (now (opens .entry)) e REFERENCES) ⌝ }
+fn has_more(open_files: &[u32], e: Ofd) -> bool
+    ensures { λ r. ⌜ r ≡ ltb 1 (tab OPEN (now («open_files» .entry)) (e .0) REFERENCES) ⌝ }
 {
-    1 < references(opens, e)
+    1 < references(open_files, e)
 }
 
-fn kept_one_less(opens: &[u32], e: u32) -> Release
-    ensures { λ r. ⌜ r ≡ release.Kept e (tab OPEN (now (opens .entry)) e REFERENCES - 1) ⌝ }
+fn kept_one_less(open_files: &[u32], e: Ofd) -> Release
+    ensures { λ r. ⌜ r ≡ release.Kept e (tab OPEN (now («open_files» .entry)) (e .0) REFERENCES - 1) ⌝ }
 {
-    Release::Kept(e, down_one(references(opens, e)))
+    Release::Kept(e, down_one(references(open_files, e)))
 }
 
 // Open file e loses a reference.
-fn drop_one(files: &[u32], opens: &[u32], e: u32) -> Release
-    ensures { λ r. ⌜ r ≡ dropping (tab FILE (now (files .entry))) (tab OPEN (now (opens .entry))) e ⌝ }
+fn drop_one(files: &[u32], open_files: &[u32], e: Ofd) -> Release
+    ensures { λ r. ⌜ r ≡ dropping (tab FILE (now (files .entry))) (tab OPEN (now («open_files» .entry))) e ⌝ }
 {
-    if has_more(opens, e) {
-        return kept_one_less(opens, e);
+    if has_more(open_files, e) {
+        return kept_one_less(open_files, e);
     }
-    close_last_of(files, opens, e)
+    close_last_of(files, open_files, e)
 }
 
-fn drop_held(files: &[u32], opens: &[u32], processes: &[u32], p: Pid, i: Fd) -> Release
-    ensures { λ r. ⌜ r ≡ dropping (tab FILE (now (files .entry))) (tab OPEN (now (opens .entry))) (ofdHeld (descOf (now (processes .entry))) p i) ⌝ }
+fn drop_held(files: &[u32], open_files: &[u32], processes: &[u32], p: Pid, i: Fd) -> Release
+    ensures { λ r. ⌜ r ≡ dropping (tab FILE (now (files .entry))) (tab OPEN (now («open_files» .entry))) (ofdHeld (descOf (now (processes .entry))) p i) ⌝ }
 {
-    drop_one(files, opens, ofd_held(processes, p, i))
+    drop_one(files, open_files, ofd_held(processes, p, i))
 }
 
 // Descriptor i is emptied.
-pub fn release(files: &[u32], opens: &[u32], processes: &[u32], p: Pid, i: Fd) -> Release
-    ensures { λ r. ⌜ r ≡ releasing (tab FILE (now (files .entry))) (tab OPEN (now (opens .entry))) (descOf (now (processes .entry))) p i ⌝ }
+pub fn release(files: &[u32], open_files: &[u32], processes: &[u32], p: Pid, i: Fd) -> Release
+    ensures { λ r. ⌜ r ≡ releasing (tab FILE (now (files .entry))) (tab OPEN (now («open_files» .entry))) (descOf (now (processes .entry))) p i ⌝ }
 {
     if is_held(processes, p, i) {
-        return drop_held(files, opens, processes, p, i);
+        return drop_held(files, open_files, processes, p, i);
     }
     Release::Nothing
 }
 
-fn closed_at(files: &[u32], opens: &[u32], processes: &[u32], p: Pid, i: Fd) -> Decision
-    ensures { λ r. ⌜ r ≡ closed (tab FILE (now (files .entry))) (tab OPEN (now (opens .entry))) (descOf (now (processes .entry))) p i ⌝ }
+fn closed_at(files: &[u32], open_files: &[u32], processes: &[u32], p: Pid, i: Fd) -> Decision
+    ensures { λ r. ⌜ r ≡ closed (tab FILE (now (files .entry))) (tab OPEN (now («open_files» .entry))) (descOf (now (processes .entry))) p i ⌝ }
 {
     Decision::Granted(
         0,
         Output::Nothing,
-        Effect::Closed(i, release(files, opens, processes, p, i)),
+        Effect::Closed(i, release(files, open_files, processes, p, i)),
     )
 }
 
-pub fn decide_close(files: &[u32], opens: &[u32], processes: &[u32], p: Pid, i: Fd) -> Decision
-    ensures { λ r. ⌜ r ≡ decideClose (tab FILE (now (files .entry))) (tab OPEN (now (opens .entry))) (descOf (now (processes .entry))) p i ⌝ }
+pub fn decide_close(files: &[u32], open_files: &[u32], processes: &[u32], p: Pid, i: Fd) -> Decision
+    ensures { λ r. ⌜ r ≡ decideClose (tab FILE (now (files .entry))) (tab OPEN (now («open_files» .entry))) (descOf (now (processes .entry))) p i ⌝ }
 {
     if !is_held(processes, p, i) {
         return Decision::Refused(Refusal::NotHeld, 0);
     }
-    closed_at(files, opens, processes, p, i)
+    closed_at(files, open_files, processes, p, i)
 }

@@ -1,3 +1,3 @@
 // What a granted call does to open files, descriptors and processes: the decision's numbers are written, nothing is decided or refused here.
-pub mod opens;
+pub mod open_files;
 pub mod processes;

@@ -1,13 +1,13 @@
-// Processes: made, freed, relabelled. Fork and exit go through the descriptors first, by `opens`.
+// Processes: made, freed, relabelled. Fork and exit go through the descriptors first, by `open_files`.
 ghost use mathlib.Core.Path.{_≡_};
 ghost use mathlib.Core.List.{List, [], _∷_};
 ghost use Prim.Native.Nat.{ℕ};
-ghost use Rattle.rules.specs.Layout.{DOMAIN};
+ghost use Rattle.rules.specs.Layout.{PROCESS-LABEL};
 ghost use Rattle.rules.specs.Store.{store, procWord, procZero, applyAll};
 ghost use Rattle.rules.specs.Effects.{forkChanges};
 use rules::ids::Pid;
-use tables::layout::DOMAIN;
 use tables::layout::PROCESS;
+use tables::layout::PROCESS_LABEL;
 use tables::layout::USED;
 use tables::layout::USER;
 use tables::words::put;
@@ -19,7 +19,7 @@ pub fn make_process(processes: &mut [u32], child: Pid, user: u32, label: u32)
     let at = PROCESS * (child.0 as usize);
     put(processes, at + USED, 1);
     put(processes, at + USER, user);
-    put(processes, at + DOMAIN, label);
+    put(processes, at + PROCESS_LABEL, label);
 }
 
 pub fn free_process(processes: &mut [u32], p: Pid)
@@ -29,7 +29,7 @@ pub fn free_process(processes: &mut [u32], p: Pid)
 }
 
 pub fn relabel_process(processes: &mut [u32], p: Pid, label: u32)
-    ensures { λ _. ⌜ ((F C E : List ℕ) → store F C E (now (processes .exit)) ≡ applyAll (procWord (p .0) DOMAIN label ∷ []) (store F C E (now (processes .entry)))) ⌝ }
+    ensures { λ _. ⌜ ((F C E : List ℕ) → store F C E (now (processes .exit)) ≡ applyAll (procWord (p .0) PROCESS-LABEL label ∷ []) (store F C E (now (processes .entry)))) ⌝ }
 {
-    put(processes, PROCESS * (p.0 as usize) + DOMAIN, label);
+    put(processes, PROCESS * (p.0 as usize) + PROCESS_LABEL, label);
 }

@@ -4,6 +4,7 @@ ghost use Rattle.rules.specs.Layout.{FILE, OWNER};
 ghost use Rattle.rules.specs.Store.{tab, tree};
 ghost use Rattle.rules.specs.Rights.{owns};
 ghost use Rattle.rules.specs.DecidePaths.{changeBitsAt, decideChangeBits};
+ghost use Rattle.rules.specs.declared.rights.BitsNumber.the-variants.{Valid};
 use resolution::rights::label_allows;
 use resolution::walk::walk_path;
 use rules::decision::Decision;
@@ -14,6 +15,7 @@ use rules::ids::Slot;
 use rules::refusal::Refusal;
 use rules::request::Subject;
 use rules::rights::Bits;
+use rules::rights::BitsNumber;
 use rules::rights::Rights;
 use tables::files::owner;
 
@@ -23,7 +25,7 @@ fn owns_file(files: &[u32], who: Subject, s: Slot) -> bool
     resolution::rights::is_owner(who, owner(files, s))
 }
 
-fn change_bits_at(files: &[u32], policy: &[u8], who: Subject, bits: u32, s: Slot) -> Decision
+fn change_bits_at(files: &[u32], policy: &[u8], who: Subject, bits: Bits, s: Slot) -> Decision
     ensures { λ r. ⌜ r ≡ changeBitsAt (now (policy .entry)) (tab FILE (now (files .entry))) who bits s ⌝ }
 {
     if !owns_file(files, who, s) {
@@ -32,7 +34,23 @@ fn change_bits_at(files: &[u32], policy: &[u8], who: Subject, bits: u32, s: Slot
     if !label_allows(files, policy, who, s, Rights::WRITE) {
         return Decision::Refused(Refusal::LabelForbids, 0);
     }
-    Decision::Granted(0, Output::Nothing, Effect::BitsChanged(s, Bits(bits)))
+    Decision::Granted(0, Output::Nothing, Effect::BitsChanged(s, bits))
+}
+
+fn change_bits_to(
+    files: &[u32],
+    contents: &[u8],
+    policy: &[u8],
+    who: Subject,
+    bits: Bits,
+    path: &[u8],
+) -> Decision
+    ensures { λ r. ⌜ r ≡ decideChangeBits (now (policy .entry)) (tree (now (files .entry)) (now (contents .entry))) who (Valid bits) (now (path .entry)) ⌝ }
+{
+    match walk_path(files, contents, policy, who, path) {
+        Walk::Reached(at) => change_bits_at(files, policy, who, bits, at.slot),
+        Walk::Stopped(r, k) => Decision::Refused(r, k),
+    }
 }
 
 pub fn decide_change_bits(
@@ -40,13 +58,13 @@ pub fn decide_change_bits(
     contents: &[u8],
     policy: &[u8],
     who: Subject,
-    bits: u32,
+    bits: BitsNumber,
     path: &[u8],
 ) -> Decision
     ensures { λ r. ⌜ r ≡ decideChangeBits (now (policy .entry)) (tree (now (files .entry)) (now (contents .entry))) who bits (now (path .entry)) ⌝ }
 {
-    match walk_path(files, contents, policy, who, path) {
-        Walk::Reached(at) => change_bits_at(files, policy, who, bits, at.slot),
-        Walk::Stopped(r, k) => Decision::Refused(r, k),
+    match bits {
+        BitsNumber::Valid(b) => change_bits_to(files, contents, policy, who, b, path),
+        BitsNumber::OutOfRange => Decision::Refused(Refusal::Malformed, 0),
     }
 }

@@ -11,19 +11,19 @@ use rules::decision::Decision;
 use rules::decision::Effect;
 use rules::decision::Output;
 use rules::decision::Walk;
+use rules::ids::Dirent;
 use rules::ids::Slot;
 use rules::refusal::Refusal;
 use rules::request::Subject;
 use rules::rights::Rights;
 use tables::files::is_directory;
 use tables::files::shown;
-use tables::layout::DIRENTS;
+use tables::ids::is_dirent;
 
-fn list_entry(d: Slot, i: u32) -> Decision
+fn list_entry(d: Slot, i: Dirent) -> Decision
     ensures { λ r. ⌜ r ≡ listEntry d i ⌝ }
 {
-    let there = i < DIRENTS;
-    if there {
+    if is_dirent(i) {
         return Decision::Granted(1, Output::Name(d, i), Effect::Nothing);
     }
     Decision::Granted(0, Output::Nothing, Effect::Nothing)

@@ -21,29 +21,30 @@ use tables::words::put;
 use tables::words::zero_bytes;
 
 // The gap past the file's end is filled with 0, then the bytes are written.
-fn put_bytes(contents: &mut [u8], bytes: &[u8], w: Placement)
-    ensures { λ _. ⌜ now (contents .exit) ≡ sets (sets (now (contents .entry)) (BLOCK * (w .slot .0) + w .end) (zeros (w .gap))) (BLOCK * (w .slot .0) + w .at) (now (bytes .entry)) ⌝ }
+fn put_bytes(contents: &mut [u8], data: &[u8], w: Placement)
+    ensures { λ _. ⌜ now (contents .exit) ≡ sets (sets (now (contents .entry)) (BLOCK * (w .slot .0) + w .end) (zeros (w .gap))) (BLOCK * (w .slot .0) + w .at) (now («data» .entry)) ⌝ }
 {
     let s = w.slot;
     let block = BLOCK * (s.0 as usize);
     zero_bytes(contents, block + (w.end as usize), w.gap as usize);
-    copy_bytes(contents, block + (w.at as usize), bytes);
+    copy_bytes(contents, block + (w.at as usize), data);
 }
 
 pub fn write_bytes(
     files: &mut [u32],
     contents: &mut [u8],
-    opens: &mut [u32],
-    bytes: &[u8],
+    open_files: &mut [u32],
+    data: &[u8],
     w: Placement,
 )
-    ensures { λ _. ⌜ ((P : List ℕ) → store (now (files .exit)) (now (contents .exit)) (now (opens .exit)) P ≡ applyAll (storeChanges (now (bytes .entry)) w) (store (now (files .entry)) (now (contents .entry)) (now (opens .entry)) P)) ⌝ }
+    ensures { λ _. ⌜ ((P : List ℕ) → store (now (files .exit)) (now (contents .exit)) (now («open_files» .exit)) P ≡ applyAll (storeChanges (now («data» .entry)) w) (store (now (files .entry)) (now (contents .entry)) (now («open_files» .entry)) P)) ⌝ }
 {
     let s = w.slot;
-    put_bytes(contents, bytes, w);
+    let e = w.ofd;
+    put_bytes(contents, data, w);
     put(files, FILE * (s.0 as usize) + LENGTH, w.length);
     put(files, FILE * (s.0 as usize) + VERSION, w.version);
-    put(opens, OPEN * (w.ofd as usize) + OFFSET, w.offset);
+    put(open_files, OPEN * (e.0 as usize) + OFFSET, w.offset);
 }
 
 pub fn change_bits(files: &mut [u32], s: Slot, bits: Bits)

@@ -26,7 +26,8 @@ fn add_name(files: &mut [u32], contents: &mut [u8], name: &[u8], s: Slot, d: Dir
     ensures { λ _. ⌜ ((E P : List ℕ) → store (now (files .exit)) (now (contents .exit)) E P ≡ applyAll (nameChanges (now (name .entry)) s d) (store (now (files .entry)) (now (contents .entry)) E P)) ⌝ }
 {
     let dir = d.dir;
-    put_dirent(contents, dir, d.dirent, name, s);
+    let i = d.dirent;
+    put_dirent(contents, dir, i, name, s);
     put_directory(files, d);
 }
 
@@ -35,9 +36,10 @@ fn remove_name(files: &mut [u32], contents: &mut [u8], d: DirChange)
     ensures { λ _. ⌜ ((E P : List ℕ) → store (now (files .exit)) (now (contents .exit)) E P ≡ applyAll (unnameChanges d) (store (now (files .entry)) (now (contents .entry)) E P)) ⌝ }
 {
     let dir = d.dir;
+    let i = d.dirent;
     zero_bytes(
         contents,
-        BLOCK * (dir.0 as usize) + DIRENT * (d.dirent as usize),
+        BLOCK * (dir.0 as usize) + DIRENT * (i.0 as usize),
         DIRENT,
     );
     put_directory(files, d);

@@ -21,6 +21,7 @@ use rules::decision::Output;
 use rules::decision::Record;
 use rules::decision::Walk;
 use rules::ids::Fd;
+use rules::ids::Ofd;
 use rules::ids::Pid;
 use rules::ids::Slot;
 use rules::refusal::Refusal;
@@ -29,8 +30,8 @@ use rules::rights::ModeNumber;
 use rules::rights::OpenMode;
 use rules::rights::Rights;
 use tables::files::is_plain;
-use tables::layout::DESCRIPTORS;
-use tables::layout::OPENS;
+use tables::ids::is_fd;
+use tables::ids::is_ofd;
 use tables::layout::PLAIN;
 use tables::numbers::up_one;
 
@@ -42,14 +43,14 @@ fn rights_of(m: OpenMode) -> Rights
     if reads {
         return Rights::READ;
     }
-    let both = m.0 == OpenMode::READ_WRITE.0;
+    let both = m.0 == OpenMode::BOTH.0;
     if both {
         return Rights::READ_WRITE;
     }
     Rights::WRITE
 }
 
-// The record of a file that is cut to empty.
+// The record of a file that is truncated.
 fn truncate(files: &[u32], s: Slot) -> Record
     ensures { λ r. ⌜ r ≡ truncated (tab FILE (now (files .entry))) s ⌝ }
 {
@@ -64,11 +65,11 @@ fn truncate(files: &[u32], s: Slot) -> Record
     }
 }
 
-fn new_open(s: Slot, m: OpenMode, i: u8, e: u32) -> NewOpen
+fn new_open(s: Slot, m: OpenMode, i: Fd, e: Ofd) -> NewOpen
     ensures { λ r. ⌜ r ≡ newOpen s m i e ⌝ }
 {
     NewOpen {
-        fd: Fd(i),
+        fd: i,
         ofd: e,
         slot: s,
         mode: m,
@@ -81,87 +82,92 @@ fn has_bytes(files: &[u32], s: Slot) -> bool
     0 < tables::files::length(files, s)
 }
 
-// An empty file is not cut.
-fn is_cut(files: &[u32], s: Slot, cut: bool) -> bool
-    ensures { λ r. ⌜ r ≡ every (cut ∷ ltb 0 (tab FILE (now (files .entry)) (s .0) LENGTH) ∷ []) ⌝ }
+// An empty file is not truncated.
+fn is_truncated(files: &[u32], s: Slot, truncating: bool) -> bool
+    ensures { λ r. ⌜ r ≡ every (truncating ∷ ltb 0 (tab FILE (now (files .entry)) (s .0) LENGTH) ∷ []) ⌝ }
 {
-    if !cut {
+    if !truncating {
         return false;
     }
     has_bytes(files, s)
 }
 
-fn truncated_open(files: &[u32], s: Slot, m: OpenMode, i: u8, e: u32) -> Effect
+fn truncated_open(files: &[u32], s: Slot, m: OpenMode, i: Fd, e: Ofd) -> Effect
     ensures { λ r. ⌜ r ≡ effect.Truncated (newOpen s m i e) (truncated (tab FILE (now (files .entry))) s) ⌝ }
 {
     Effect::Truncated(new_open(s, m, i, e), truncate(files, s))
 }
 
-fn plain_open(s: Slot, m: OpenMode, i: u8, e: u32) -> Effect
+fn plain_open(s: Slot, m: OpenMode, i: Fd, e: Ofd) -> Effect
     ensures { λ r. ⌜ r ≡ effect.Opened (newOpen s m i e) ⌝ }
 {
     Effect::Opened(new_open(s, m, i, e))
 }
 
-fn open_effect(files: &[u32], s: Slot, m: OpenMode, cut: bool, i: u8, e: u32) -> Effect
-    ensures { λ r. ⌜ r ≡ opening (tab FILE (now (files .entry))) s m cut i e ⌝ }
+fn open_effect(files: &[u32], s: Slot, m: OpenMode, truncating: bool, i: Fd, e: Ofd) -> Effect
+    ensures { λ r. ⌜ r ≡ opening (tab FILE (now (files .entry))) s m truncating i e ⌝ }
 {
-    if is_cut(files, s, cut) {
+    if is_truncated(files, s, truncating) {
         return truncated_open(files, s, m, i, e);
     }
     plain_open(s, m, i, e)
 }
 
-fn opened_at(files: &[u32], s: Slot, m: OpenMode, cut: bool, i: u8, e: u32) -> Decision
-    ensures { λ r. ⌜ r ≡ opened (tab FILE (now (files .entry))) s m cut i e ⌝ }
+fn opened_at(files: &[u32], s: Slot, m: OpenMode, truncating: bool, i: Fd, e: Ofd) -> Decision
+    ensures { λ r. ⌜ r ≡ opened (tab FILE (now (files .entry))) s m truncating i e ⌝ }
 {
     Decision::Granted(
-        i as u32,
+        i.0 as u32,
         Output::Nothing,
-        open_effect(files, s, m, cut, i, e),
+        open_effect(files, s, m, truncating, i, e),
     )
 }
 
-fn open_room(files: &[u32], s: Slot, m: OpenMode, cut: bool, i: u8, e: u32) -> Decision
-    ensures { λ r. ⌜ r ≡ openRoom (tab FILE (now (files .entry))) s m cut i e ⌝ }
+fn open_room(files: &[u32], s: Slot, m: OpenMode, truncating: bool, i: Fd, e: Ofd) -> Decision
+    ensures { λ r. ⌜ r ≡ openRoom (tab FILE (now (files .entry))) s m truncating i e ⌝ }
 {
-    let descriptor = i < DESCRIPTORS;
-    if !descriptor {
-        return Decision::Refused(Refusal::NoRoom, 0);
+    if !is_fd(i) {
+        return Decision::Refused(Refusal::TableFull, 0);
     }
-    let entry = e < OPENS;
-    if !entry {
-        return Decision::Refused(Refusal::NoRoom, 0);
+    if !is_ofd(e) {
+        return Decision::Refused(Refusal::TableFull, 0);
     }
-    opened_at(files, s, m, cut, i, e)
+    opened_at(files, s, m, truncating, i, e)
 }
 
 fn open_free(
     files: &[u32],
-    opens: &[u32],
+    open_files: &[u32],
     processes: &[u32],
     p: Pid,
     m: OpenMode,
-    cut: bool,
+    truncating: bool,
     s: Slot,
 ) -> Decision
-    ensures { λ r. ⌜ r ≡ openRoom (tab FILE (now (files .entry))) s m cut (freeFd (descOf (now (processes .entry))) p) (freeOfd (tab OPEN (now (opens .entry)))) ⌝ }
+    ensures { λ r. ⌜ r ≡ openRoom (tab FILE (now (files .entry))) s m truncating (freeFd (descOf (now (processes .entry))) p) (freeOfd (tab OPEN (now («open_files» .entry)))) ⌝ }
 {
-    open_room(files, s, m, cut, free_fd(processes, p), free_ofd(opens))
+    open_room(
+        files,
+        s,
+        m,
+        truncating,
+        free_fd(processes, p),
+        free_ofd(open_files),
+    )
 }
 
 fn open_file(
     files: &[u32],
-    opens: &[u32],
+    open_files: &[u32],
     processes: &[u32],
     policy: &[u8],
     p: Pid,
     who: Subject,
     m: OpenMode,
-    cut: bool,
+    truncating: bool,
     s: Slot,
 ) -> Decision
-    ensures { λ r. ⌜ r ≡ openFile (now (policy .entry)) (tab FILE (now (files .entry))) (tab OPEN (now (opens .entry))) (descOf (now (processes .entry))) p who m cut s ⌝ }
+    ensures { λ r. ⌜ r ≡ openFile (now (policy .entry)) (tab FILE (now (files .entry))) (tab OPEN (now («open_files» .entry))) (descOf (now (processes .entry))) p who m truncating s ⌝ }
 {
     if !is_plain(files, s) {
         return Decision::Refused(Refusal::WrongKind, 0);
@@ -173,12 +179,12 @@ fn open_file(
     if !label_allows(files, policy, who, s, want) {
         return Decision::Refused(Refusal::LabelForbids, 0);
     }
-    open_free(files, opens, processes, p, m, cut, s)
+    open_free(files, open_files, processes, p, m, truncating, s)
 }
 
 fn open_mode(
     files: &[u32],
-    opens: &[u32],
+    open_files: &[u32],
     processes: &[u32],
     policy: &[u8],
     p: Pid,
@@ -186,11 +192,21 @@ fn open_mode(
     m: ModeNumber,
     s: Slot,
 ) -> Decision
-    ensures { λ r. ⌜ r ≡ openMode (now (policy .entry)) (tab FILE (now (files .entry))) (tab OPEN (now (opens .entry))) (descOf (now (processes .entry))) p who m s ⌝ }
+    ensures { λ r. ⌜ r ≡ openMode (now (policy .entry)) (tab FILE (now (files .entry))) (tab OPEN (now («open_files» .entry))) (descOf (now (processes .entry))) p who m s ⌝ }
 {
     match m {
-        ModeNumber::Keep(k) => open_file(files, opens, processes, policy, p, who, k, false, s),
-        ModeNumber::Truncate(k) => open_file(files, opens, processes, policy, p, who, k, true, s),
+        ModeNumber::Keep(k) => open_file(files, open_files, processes, policy, p, who, k, false, s),
+        ModeNumber::Truncate(k) => open_file(
+            files,
+            open_files,
+            processes,
+            policy,
+            p,
+            who,
+            k,
+            true,
+            s,
+        ),
         ModeNumber::OutOfRange => Decision::Refused(Refusal::Malformed, 0),
     }
 }
@@ -198,7 +214,7 @@ fn open_mode(
 pub fn decide_open(
     files: &[u32],
     contents: &[u8],
-    opens: &[u32],
+    open_files: &[u32],
     processes: &[u32],
     policy: &[u8],
     p: Pid,
@@ -206,12 +222,12 @@ pub fn decide_open(
     n: u32,
     path: &[u8],
 ) -> Decision
-    ensures { λ r. ⌜ r ≡ decideOpen (now (policy .entry)) (tree (now (files .entry)) (now (contents .entry))) (tab OPEN (now (opens .entry))) (descOf (now (processes .entry))) p who n (now (path .entry)) ⌝ }
+    ensures { λ r. ⌜ r ≡ decideOpen (now (policy .entry)) (tree (now (files .entry)) (now (contents .entry))) (tab OPEN (now («open_files» .entry))) (descOf (now (processes .entry))) p who n (now (path .entry)) ⌝ }
 {
     match walk_path(files, contents, policy, who, path) {
         Walk::Reached(at) => open_mode(
             files,
-            opens,
+            open_files,
             processes,
             policy,
             p,

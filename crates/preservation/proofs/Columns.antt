@@ -12,7 +12,7 @@ abbrev narrow : (ℕ → ℕ → ℕ) → ℕ → ℕ → ℕ
 narrow f i k = getD (f i KIND ∷ f i OWNER ∷ f i BITS ∷ f i LABEL ∷ f i LENGTH ∷ f i LINKS ∷ f i VERSION ∷ []) k 0
 
 abbrev pub filesTo : (ℕ → ℕ → ℕ) → Tables → Tables
-filesTo f m = record { file = f; byte = m .byte; opened = m .opened; proc = m .proc; desc = m .desc }
+filesTo f m = record { file = f; byte = m .byte; openFiles = m .openFiles; proc = m .proc; desc = m .desc }
 
 narrowed : (x : ℕ) (m : Tables) → SoundBut x m → SoundBut x (filesTo (narrow (m .file)) m)
 narrowed x m h = record {

@@ -8,11 +8,11 @@ use native.Mathlib.Omega.{arith}
 use lib.Dec.{eqb, ltb}
 use lib.ListN.{getD}
 use borrow.Author.Tests.{eqb-true, lt-ltb, ltb-true}
-use Rattle.rules.specs.Layout.{SLOTS, DIRENT, DIRENTS, NAME, OPENS, PROCESSES, DESCRIPTORS, KIND, SLOT, REFERENCES, DIRECTORY}
+use Rattle.rules.specs.Layout.{SLOTS, DIRENT, DIRENTS, NAME, OPEN-FILES, PROCESSES, DESCRIPTORS, KIND, SLOT, REFERENCES, DIRECTORY}
 use Rattle.rules.specs.Choice.{every}
 use Rattle.rules.specs.Scan.{any}
 use Rattle.rules.specs.Scan as scan
-use Rattle.rules.specs.Store.{Tree}
+use Rattle.rules.specs.Store.{Tree, slot, ofdOf}
 use Rattle.rules.specs.Directories.{direntAt, direntSlot, isEmpty}
 use Rattle.rules.specs.Sound.{isUsed, linksAt, linksFrom, linksTo, isParent, parentOf, climbs, isOn, openBut, isOpen, holdsAt, holdersIn, holders}
 use Rattle.preservation.proofs.Tests.{split, Means, and-left, and-right, means-every, means-and, means-last, means-not, means-eq}
@@ -95,26 +95,26 @@ module _ (t : Tree) (pl : ℕ → ℕ → ℕ → ℕ) (agree : (d : ℕ) → d 
 -- ---- open files and descriptors
 
 -- open file e, another than x, is on slot s
-pub means-on : (opened : ℕ → ℕ → ℕ) (x s e : ℕ) → Means (isOn opened x s e) ((e ≡ x → ⊥) × ((opened e REFERENCES ≡ 0 → ⊥) × (opened e SLOT ≡ s)))
+pub means-on : (openFiles : ℕ → ℕ → ℕ) (x s e : ℕ) → Means (isOn openFiles (ofdOf x) (slot s) e) ((e ≡ x → ⊥) × ((openFiles e REFERENCES ≡ 0 → ⊥) × (openFiles e SLOT ≡ s)))
 unfolding isOn
-means-on opened x s e = means-every (means-and (means-not (means-eq e x)) (means-and (means-not (means-eq (opened e REFERENCES) 0)) (means-last (means-eq (opened e SLOT) s))))
+means-on openFiles x s e = means-every (means-and (means-not (means-eq e x)) (means-and (means-not (means-eq (openFiles e REFERENCES) 0)) (means-last (means-eq (openFiles e SLOT) s))))
 
-pub means-open : (opened : ℕ → ℕ → ℕ) (s : ℕ) → Means (isOpen opened s) (0 < openCount (col opened SLOT) (col opened REFERENCES) s)
+pub means-open : (openFiles : ℕ → ℕ → ℕ) (s : ℕ) → Means (isOpen openFiles (slot s)) (0 < openCount (col openFiles SLOT) (col openFiles REFERENCES) s)
 unfolding openBut
-means-open opened s = record {
-  holds = λ t. let f = any-found (isOn opened OPENS s) OPENS t in let w = means-on opened OPENS s (f .at) .holds (f .passes) in
-      openCount-at (col opened SLOT) (col opened REFERENCES) (f .at) s (f .small) (w .1 .1) (w .1 .0);
-  tests = λ h. found (unfold openCount in sum-some OPENS (λ e. ind (eqb (opened e SLOT) s && ltb 0 (opened e REFERENCES))) h);
+means-open openFiles s = record {
+  holds = λ t. let f = any-found (isOn openFiles (ofdOf OPEN-FILES) (slot s)) OPEN-FILES t in let w = means-on openFiles OPEN-FILES s (f .at) .holds (f .passes) in
+      openCount-at (col openFiles SLOT) (col openFiles REFERENCES) (f .at) s (f .small) (w .1 .1) (w .1 .0);
+  tests = λ h. found (unfold openCount in sum-some OPEN-FILES (λ e. ind (eqb (openFiles e SLOT) s && ltb 0 (openFiles e REFERENCES))) h);
 }
   where
-    found : Some OPENS (λ e. ind (eqb (opened e SLOT) s && ltb 0 (opened e REFERENCES))) → any (isOn opened OPENS s) 0 OPENS ≡ true
+    found : Some OPEN-FILES (λ e. ind (eqb (openFiles e SLOT) s && ltb 0 (openFiles e REFERENCES))) → any (isOn openFiles (ofdOf OPEN-FILES) (slot s)) 0 OPEN-FILES ≡ true
     found f =
-        let b : eqb (opened (f .at) SLOT) s && ltb 0 (opened (f .at) REFERENCES) ≡ true = ind-more (eqb (opened (f .at) SLOT) s && ltb 0 (opened (f .at) REFERENCES)) (f .more) in
-        any-passes (isOn opened OPENS s) OPENS (f .at) (f .small) (means-on opened OPENS s (f .at) .tests (
+        let b : eqb (openFiles (f .at) SLOT) s && ltb 0 (openFiles (f .at) REFERENCES) ≡ true = ind-more (eqb (openFiles (f .at) SLOT) s && ltb 0 (openFiles (f .at) REFERENCES)) (f .more) in
+        any-passes (isOn openFiles (ofdOf OPEN-FILES) (slot s)) OPEN-FILES (f .at) (f .small) (means-on openFiles OPEN-FILES s (f .at) .tests (
           (λ q. omega (arith, f .small)),
           (
-            (λ q. omega (arith, ltb-true 0 (opened (f .at) REFERENCES) (and-right (eqb (opened (f .at) SLOT) s) (ltb 0 (opened (f .at) REFERENCES)) b))),
-            eqb-true (opened (f .at) SLOT) s (and-left (eqb (opened (f .at) SLOT) s) (ltb 0 (opened (f .at) REFERENCES)) b),
+            (λ q. omega (arith, ltb-true 0 (openFiles (f .at) REFERENCES) (and-right (eqb (openFiles (f .at) SLOT) s) (ltb 0 (openFiles (f .at) REFERENCES)) b))),
+            eqb-true (openFiles (f .at) SLOT) s (and-left (eqb (openFiles (f .at) SLOT) s) (ltb 0 (openFiles (f .at) REFERENCES)) b),
           ),
         ))
 

@@ -8,7 +8,7 @@ use borrow.Author.Tests.{eq-eqb, ne-eqb}
 use Rattle.preservation.proofs.Tests.{split, updRow}
 use Rattle.preservation.proofs.Sums.{count2, ind, sum-change, sum2-change, sum2-at, ind-true}
 use Rattle.preservation.proofs.Sound.{holderCount, openCount, File, OpenFile}
-use Rattle.rules.specs.Layout.{SLOTS, BLOCK, OPENS, PROCESSES, DESCRIPTORS, FREE, PLAIN, KIND-MAX, USER-MAX, BITS-MAX, LABEL-MAX, MODE-MAX, WORD-MAX}
+use Rattle.rules.specs.Layout.{SLOTS, BLOCK, OPEN-FILES, PROCESSES, DESCRIPTORS, FREE, PLAIN, KIND-MAX, USER-MAX, BITS-MAX, LABEL-MAX, MODE-MAX, WORD-MAX}
 
 pub updRow-same : (f : ℕ → ℕ → ℕ) (j c v : ℕ) → updRow f j c v j c ≡ v
 updRow-same f j c v = rw (eq-eqb j j refl, eq-eqb c c refl)
@@ -37,11 +37,11 @@ holders-at desc p k e hp hk q = omega (arith, sum2-at PROCESSES DESCRIPTORS (λ 
 -- ---- open files on a slot
 
 -- slot, refs and the changed slot′, refs′ differ at e only
-pub openCount-change : (slot refs slot′ refs′ : ℕ → ℕ) (e s : ℕ) → e < OPENS → ((i : ℕ) → (i ≡ e → ⊥) → slot′ i ≡ slot i) → ((i : ℕ) → (i ≡ e → ⊥) → refs′ i ≡ refs i) →
+pub openCount-change : (slot refs slot′ refs′ : ℕ → ℕ) (e s : ℕ) → e < OPEN-FILES → ((i : ℕ) → (i ≡ e → ⊥) → slot′ i ≡ slot i) → ((i : ℕ) → (i ≡ e → ⊥) → refs′ i ≡ refs i) →
     openCount slot′ refs′ s + ind (eqb (slot e) s && ltb 0 (refs e)) ≡ openCount slot refs s + ind (eqb (slot′ e) s && ltb 0 (refs′ e))
 unfolding openCount
 openCount-change slot refs slot′ refs′ e s he a b =
-    sum-change OPENS (λ i. ind (eqb (slot i) s && ltb 0 (refs i))) (λ i. ind (eqb (slot′ i) s && ltb 0 (refs′ i))) e he (λ i _ n. rw (a i n, b i n))
+    sum-change OPEN-FILES (λ i. ind (eqb (slot i) s && ltb 0 (refs i))) (λ i. ind (eqb (slot′ i) s && ltb 0 (refs′ i))) e he (λ i _ n. rw (a i n, b i n))
 
 -- ---- a row that is in use: nothing is owed of a free one
 

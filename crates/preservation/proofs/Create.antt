@@ -15,7 +15,7 @@ use Rattle.preservation.proofs.Dirents.{placed, Fits, used-at}
 use Rattle.preservation.proofs.Link.{loosen, tighten, linked, linked-sound}
 use Rattle.preservation.proofs.Unlink.{unlinked, unlinked-sound}
 use Rattle.preservation.proofs.Remake.{remade, remade-sound, remade-depths, Bare, Fresh}
-use Rattle.rules.specs.Layout.{SLOTS, BLOCK, DIRENTS, DIRENT, OPENS, NAME, NAMES, KIND, LENGTH, LINKS, VERSION, FREE, PLAIN, DIRECTORY, SLOT, REFERENCES, KIND-MAX, USER-MAX, BITS-MAX, LABEL-MAX, WORD-MAX}
+use Rattle.rules.specs.Layout.{SLOTS, BLOCK, DIRENTS, DIRENT, OPEN-FILES, NAME, NAMES, KIND, LENGTH, LINKS, VERSION, FREE, PLAIN, DIRECTORY, SLOT, REFERENCES, KIND-MAX, USER-MAX, BITS-MAX, LABEL-MAX, WORD-MAX}
 
 -- a record by its words
 abbrev pub fileRow : (kind owner bits label length links version : ℕ) → ℕ → ℕ
@@ -148,12 +148,12 @@ module _ (m : Tables) (h : Sound m) (d p t y : ℕ) (hd : d < SLOTS) (kd : m .fi
   target-small = rw e at (h .dirs d hd kd .dirents p hp .slot-small)
 
   -- the file keeps a name, or is open
-  pub unlink-sound : m .file y KIND ≡ PLAIN → 0 < m .file y LINKS - 1 + openCount (col (m .opened) SLOT) (col (m .opened) REFERENCES) y → Sound (unlinked d p t y m)
+  pub unlink-sound : m .file y KIND ≡ PLAIN → 0 < m .file y LINKS - 1 + openCount (col (m .openFiles) SLOT) (col (m .openFiles) REFERENCES) y → Sound (unlinked d p t y m)
   unlink-sound k a = tighten y (unlinked d p t y m) (unlinked-sound m d p t y (loosen y m h) hd kd hp e n0 ht)
       (unfold unlinked placed in (λ z. absurd (omega (arith, k, z)))) (unfold unlinked placed in rw (eq-eqb y y refl) (λ _. a))
 
   -- the file has no other name and is not open
-  pub unlink-frees : m .file y KIND ≡ PLAIN → m .file y LINKS - 1 ≡ 0 → ((i : ℕ) → i < OPENS → (m .opened i REFERENCES ≡ 0 → ⊥) → m .opened i SLOT ≡ y → ⊥) → (t′ : ℕ) → t′ ≤ WORD-MAX → Sound (freed y t′ (unlinked d p t y m))
+  pub unlink-frees : m .file y KIND ≡ PLAIN → m .file y LINKS - 1 ≡ 0 → ((i : ℕ) → i < OPEN-FILES → (m .openFiles i REFERENCES ≡ 0 → ⊥) → m .openFiles i SLOT ≡ y → ⊥) → (t′ : ℕ) → t′ ≤ WORD-MAX → Sound (freed y t′ (unlinked d p t y m))
   unfolding unlinked placed
   unlink-frees k l o t′ ht′ = freed-sound (unlinked d p t y m) y t′ (unlinked-sound m d p t y (loosen y m h) hd kd hp e n0 ht) (record {
     small = target-small;

@@ -9,10 +9,10 @@ use lib.Dec.{eqb}
 use borrow.Author.Tests.{eq-eqb, ne-eqb}
 use Rattle.rules.specs.Layout.{SLOTS, PROCESSES, DESCRIPTORS, REFERENCES, USED, USER-MAX, LABEL-MAX}
 use Rattle.rules.specs.Scan.{repeat}
-use Rattle.rules.specs.Store.{Store, view, up, applyAll, change, descTo}
+use Rattle.rules.specs.Store.{Store, view, ofdOf, up, applyAll, change, descTo, fdOf}
 use Rattle.rules.specs.Store as rules
-use Rattle.rules.specs.Checks.{held, sharing, shareOf}
-use Rattle.rules.specs.Effects.{fdOf, shareChanges, sharedAll, forkChanges}
+use Rattle.rules.specs.Checks.{held, ofdHeld, sharing, shareOf}
+use Rattle.rules.specs.Effects.{shareChanges, sharedAll, forkChanges}
 use Rattle.rules.specs.Effects as effects
 use Rattle.rules.specs.declared.ids.Pid.{Pid}
 use Rattle.rules.specs.declared.decision.Share.the-variants as share
@@ -42,6 +42,7 @@ module _ (p q : Pid) (u l : ℕ) (hp : p .0 < PROCESSES) (hq : q .0 < PROCESSES)
     pub sound : Sound (spawned (tablesOf t))
     pub rest : All DESCRIPTORS (λ j. i ≤ j → tablesOf t .desc (q .0) j ≡ 0)
     pub files-same : tablesOf t .file ≡ tablesOf s .file
+    pub bytes-same : tablesOf t .byte ≡ tablesOf s .byte
 
   module _ (s : Store) (i : ℕ) (t : Store) (hi : i < DESCRIPTORS) (c : Sharing s i t) where
     its : Has t (tablesOf t)
@@ -53,17 +54,17 @@ module _ (p q : Pid) (u l : ℕ) (hp : p .0 < PROCESSES) (hq : q .0 < PROCESSES)
     share-none z =
         let w = has-descTo its (q .0) i 0 hq hi in
         let e : tablesOf (change (descTo (q .0) i 0) t) ≡ tablesOf t
-        = w .is ∙ ap (λ (d : ℕ → ℕ → ℕ). record { file = tablesOf t .file; byte = tablesOf t .byte; opened = tablesOf t .opened; proc = tablesOf t .proc; desc = d }) (updRow-id (tablesOf t .desc) (q .0) i 0 (c .rest i hi (omega arith))) in
-        record { sized = w .sized; sound = rw e (c .sound); rest = λ j hj m. rw e (c .rest j hj (omega arith)); files-same = rw e (c .files-same) }
+        = w .is ∙ ap (λ (d : ℕ → ℕ → ℕ). record { file = tablesOf t .file; byte = tablesOf t .byte; openFiles = tablesOf t .openFiles; proc = tablesOf t .proc; desc = d }) (updRow-id (tablesOf t .desc) (q .0) i 0 (c .rest i hi (omega arith))) in
+        record { sized = w .sized; sound = rw e (c .sound); rest = λ j hj m. rw e (c .rest j hj (omega arith)); files-same = rw e (c .files-same); bytes-same = rw e (c .bytes-same) }
 
     module _ (e : ℕ) (z : tablesOf t .desc (p .0) i ≡ e + 1) where
       pub shared-held : Held (spawned (tablesOf t)) e
       shared-held = word.held SLOTS (spawned (tablesOf t)) (c .sound) (p .0) i e hp hi z
 
-      pub shared-up : up (tablesOf t .opened e REFERENCES) ≡ tablesOf t .opened e REFERENCES + 1
-      shared-up = up-is (tablesOf t .opened e REFERENCES) (omega (arith, references-most SLOTS (spawned (tablesOf t)) (c .sound) e (shared-held .small)))
+      pub shared-up : up (tablesOf t .openFiles e REFERENCES) ≡ tablesOf t .openFiles e REFERENCES + 1
+      shared-up = up-is (tablesOf t .openFiles e REFERENCES) (omega (arith, references-most SLOTS (spawned (tablesOf t)) (c .sound) e (shared-held .small)))
 
-      share-one : Sharing s (i + 1) (applyAll (shareChanges q (fdOf i) (share.Held e (up (tablesOf t .opened e REFERENCES)))) t)
+      share-one : Sharing s (i + 1) (applyAll (shareChanges q (fdOf i) (share.Held (ofdOf e) (up (tablesOf t .openFiles e REFERENCES)))) t)
       unfolding shareChanges applyAll
       share-one = record {
         sized = w .sized;
@@ -71,17 +72,18 @@ module _ (p q : Pid) (u l : ℕ) (hp : p .0 < PROCESSES) (hq : q .0 < PROCESSES)
             (shared-sound SLOTS (spawned (tablesOf t)) (c .sound) (p .0) i (q .0) i e hp hi hq hi (rw (eq-eqb (q .0) (q .0) refl) (λ y. omega arith)) z (c .rest i hi (omega arith))));
         rest = λ j hj m. rw (w .is) (unfold shared handed in (updRow-other (tablesOf t .desc) (q .0) i (e + 1) (q .0) j (λ _ y. omega arith) ∙ c .rest j hj (omega arith)));
         files-same = ap (λ (m : Tables). m .file) (w .is) ∙ (unfold shared handed in c .files-same);
+        bytes-same = ap (λ (m : Tables). m .byte) (w .is) ∙ (unfold shared handed in c .bytes-same);
       }
         where
-          w : Has (change (rules.openWord e REFERENCES (up (tablesOf t .opened e REFERENCES))) (change (descTo (q .0) i (up e)) t)) (shared (q .0) i e (tablesOf t))
+          w : Has (change (rules.openWord e REFERENCES (up (tablesOf t .openFiles e REFERENCES))) (change (descTo (q .0) i (up e)) t)) (shared (q .0) i e (tablesOf t))
           w = unfold shared handed in rw (up-is e (omega (arith, shared-held .small)), shared-up)
-              (has-openRow (has-descTo its (q .0) i (e + 1) hq hi) e REFERENCES (tablesOf t .opened e REFERENCES + 1) (shared-held .small) (omega arith))
+              (has-openRow (has-descTo its (q .0) i (e + 1) hq hi) e REFERENCES (tablesOf t .openFiles e REFERENCES + 1) (shared-held .small) (omega arith))
 
     pub sharing-one : Sharing s (i + 1) (effects.shared p q i t)
     unfolding effects.shared shareOf held
     sharing-one = by (ℕ-discrete (view t .desc (p .0) i) 0)
       where
-        by : Dec (view t .desc (p .0) i ≡ 0) → Sharing s (i + 1) (applyAll (shareChanges q (fdOf i) (cond (not (eqb (view t .desc (p .0) i) 0)) (sharing (view t .opened) (view t .desc (p .0) i - 1)) share.Nothing)) t)
+        by : Dec (view t .desc (p .0) i ≡ 0) → Sharing s (i + 1) (applyAll (shareChanges q (fdOf i) (cond (not (eqb (view t .desc (p .0) i) 0)) (sharing (view t .openFiles) (ofdHeld (view t .desc) p (fdOf i))) share.Nothing)) t)
         by (yes e) = rw (eq-eqb (view t .desc (p .0) i) 0 e) (share-none (unfold tablesOf in e))
         by (no n) = rw (ne-eqb (view t .desc (p .0) i) 0 n) (unfold tablesOf in (share-one (view t .desc (p .0) i - 1) (omega (arith, n))))
 
@@ -100,12 +102,14 @@ module _ (p q : Pid) (u l : ℕ) (hp : p .0 < PROCESSES) (hq : q .0 < PROCESSES)
     sound = spawn-sound SLOTS (tablesOf s) (h .tables) (q .0) u l hq hu hl;
     rest = λ j hj _. h .tables .procs (q .0) hq .desc-zero f j hj;
     files-same = refl;
+    bytes-same = refl;
   }
 
   pub record Forks (s t : Store) : Type 0 where
     pub tables : Tables
     pub leaves : Leaves t tables
     pub files-same : tables .file ≡ tablesOf s .file
+    pub bytes-same : tables .byte ≡ tablesOf s .byte
 
   pub fork-leaves : (s : Store) → SoundStore s → tablesOf s .proc (q .0) USED ≡ 0 → u ≤ USER-MAX → l ≤ LABEL-MAX → Forks s (applyAll (forkChanges q u l) (sharedAll p q s))
   unfolding forkChanges sharedAll applyAll
@@ -113,6 +117,7 @@ module _ (p q : Pid) (u l : ℕ) (hp : p .0 < PROCESSES) (hq : q .0 < PROCESSES)
     tables = spawned (tablesOf (repeat (effects.shared p q) 0 DESCRIPTORS s));
     leaves = record { has = has-procTo (record { sized = c .sized; is = refl }) (q .0) (1 ∷ u ∷ l ∷ []) hq refl; sound = c .sound };
     files-same = c .files-same;
+    bytes-same = c .bytes-same;
   }
     where
       c : Sharing s DESCRIPTORS (repeat (effects.shared p q) 0 DESCRIPTORS s)

@@ -5,13 +5,13 @@ use mathlib.Core.List.{List}
 use Prim.Native.Nat.{ℕ, _+_, _-_, _*_, _≤_, _<_}
 use native.Mathlib.Omega.{arith}
 use native.Mathlib.Decide.{decLt}
-use lib.Dec.{eqb, ltb}
+use lib.Dec.{eqb}
 use lib.ListN.{length, getD, List·getD-eq-default}
 use borrow.Author.Tests.{eqb-true, eqb-false, ltb-true}
-use Rattle.rules.specs.Layout.{SLOTS, BLOCK, DIRENTS, OPENS, PROCESSES, DESCRIPTORS, RIGHTS, LABELS, NONE, BITS-MAX, LABEL-MAX}
+use Rattle.rules.specs.Layout.{SLOTS, BLOCK, DIRENTS, OPEN-FILES, PROCESSES, DESCRIPTORS, RIGHTS, LABELS, NONE, BITS-MAX, LABEL-MAX}
 use Rattle.rules.specs.Layout.{KIND, OWNER, LABEL, LENGTH, LINKS, SLOT, OFFSET, REFERENCES, USED, FREE, PLAIN, DIRECTORY}
 use Rattle.rules.specs.Scan.{all}
-use Rattle.rules.specs.Store.{Store, view, slot, subjectOf, up, plus}
+use Rattle.rules.specs.Store.{Store, view, slot, isSlot, isPid, isFd, ofdOf, isOfd, entry, isDirent, bitsAt, subjectOf, up, plus}
 use Rattle.rules.specs.Paths.{names, lastName}
 use Rattle.rules.specs.Rights.{owns, transition, moved}
 use Rattle.rules.specs.Directories.{isEmpty, freeDirent}
@@ -65,12 +65,22 @@ unfolding after
 after-fit f (reached at p) g = g at p
 after-fit f (stopped r k) g = refusing r k
 
+-- the same as a function of the decision
+unfoldable pub Of : (ℕ → Output → Effect → Type 0) → Decision → Type 0
+Of G (Refused r k) = Unit {0}
+Of G (Granted n o e) = G n o e
+
+pub fit-of : {G : ℕ → Output → Effect → Type 0} {d : Decision} → Fit G d → Of G d
+unfolding Of
+fit-of (granting n o e g) = g
+fit-of (refusing r k) = tt
+
 -- ---- the facts
 
 module _ (s : Store) (h : SoundStore s) (c : Call) where
   -- call 4
   pub data Unlinking : ℕ → Output → Effect → Type 0 where
-    unlinking : (d : Slot) (i : ℕ) (y : Slot) → Names s h d i y → tablesOf s .file (y .0) KIND ≡ PLAIN → Unlinking 0 output.Nothing (effect.Unlinked (loses (view s .tree .file) d i) (unnaming (view s .tree .file) (view s .opened) y))
+    unlinking : (d : Slot) (i : ℕ) (y : Slot) → Names s h d i y → tablesOf s .file (y .0) KIND ≡ PLAIN → Unlinking 0 output.Nothing (effect.Unlinked (loses (view s .tree .file) d (entry i)) (unnaming (view s .tree .file) (view s .openFiles) y))
 
   -- every call
   pub data Granting : ℕ → Output → Effect → Type 0 where
@@ -78,20 +88,20 @@ module _ (s : Store) (h : SoundStore s) (c : Call) where
     opens : (n : NewOpen) → Opens (tablesOf s) (c .process) n → Granting (n .fd .0) output.Nothing (effect.Opened n)
     truncates : (n : NewOpen) → Opens (tablesOf s) (c .process) n → Granting (n .fd .0) output.Nothing (effect.Truncated n (truncated (view s .tree .file) (n .slot)))
     creates : (d : Slot) (i y kind bits : ℕ) → Creates s h (lastName (names (c .path))) d i (slot y) kind (subjectOf (view s .proc) (c .process) .user) bits (tablesOf s .file (d .0) LABEL) →
-        Granting y output.Nothing (effect.Created (gains (view s .tree .file) d i) (slot y) (newRecord (view s .tree .file) (subjectOf (view s .proc) (c .process)) kind bits d (slot y)))
+        Granting y output.Nothing (effect.Created (gains (view s .tree .file) d (entry i)) (slot y) (newRecord (view s .tree .file) (subjectOf (view s .proc) (c .process)) kind (bitsAt bits) d (slot y)))
     unlinks : {n : ℕ} {o : Output} {e : Effect} → Unlinking n o e → Granting n o e
     removes : (d : Slot) (i : ℕ) (y : Slot) → Names s h d i y → tablesOf s .file (y .0) KIND ≡ DIRECTORY → tablesOf s .file (y .0) LENGTH ≡ 0 →
-        Granting 0 output.Nothing (effect.Removed (loses (view s .tree .file) d i) y (checks.freed (view s .tree .file) y))
-    links : (d : Slot) (i : ℕ) (y : Slot) → Naming (tablesOf s) (lastName (names (c .bytes))) d i y → y .0 < SLOTS → tablesOf s .file (y .0) KIND ≡ PLAIN →
-        Granting 0 output.Nothing (effect.Linked (gains (view s .tree .file) d i) y (up (view s .tree .file (y .0) LINKS)))
+        Granting 0 output.Nothing (effect.Removed (loses (view s .tree .file) d (entry i)) y (checks.freed (view s .tree .file) y))
+    links : (d : Slot) (i : ℕ) (y : Slot) → Naming (tablesOf s) (lastName (names (c .«data»))) d i y → y .0 < SLOTS → tablesOf s .file (y .0) KIND ≡ PLAIN →
+        Granting 0 output.Nothing (effect.Linked (gains (view s .tree .file) d (entry i)) y (up (view s .tree .file (y .0) LINKS)))
     changesBits : (y : Slot) (b : Bits) → y .0 < SLOTS → (tablesOf s .file (y .0) KIND ≡ FREE → ⊥) → b .0 ≤ BITS-MAX → owns (subjectOf (view s .proc) (c .process)) (view s .tree .file (y .0) OWNER) ≡ true → Granting 0 output.Nothing (effect.BitsChanged y b)
-    closes : (i : Fd) → Caller (tablesOf s) (c .process) → i .0 < DESCRIPTORS → Granting 0 output.Nothing (effect.Closed i (releasing (view s .tree .file) (view s .opened) (view s .desc) (c .process) i))
-    stores : (e at : ℕ) → Held (tablesOf s) e → at + length (c .bytes) ≤ BLOCK →
-        Granting (length (c .bytes)) output.Nothing (effect.Stored (placement (view s .tree .file) e (slot (view s .opened e SLOT)) at (length (c .bytes))))
-    reads : (e n : ℕ) → Held (tablesOf s) e → tablesOf s .opened e OFFSET + n ≤ BLOCK → Granting n (output.Bytes (slot (view s .opened e SLOT)) (view s .opened e OFFSET) n) (effect.Moved e (plus (view s .opened e OFFSET) n))
-    seeks : (e n : ℕ) → Held (tablesOf s) e → n ≤ BLOCK → Granting n output.Nothing (effect.Moved e n)
+    closes : (i : Fd) → Caller (tablesOf s) (c .process) → i .0 < DESCRIPTORS → Granting 0 output.Nothing (effect.Closed i (releasing (view s .tree .file) (view s .openFiles) (view s .desc) (c .process) i))
+    stores : (e at : ℕ) → Held (tablesOf s) e → at + length (c .«data») ≤ BLOCK →
+        Granting (length (c .«data»)) output.Nothing (effect.Stored (placement (view s .tree .file) (ofdOf e) (slot (view s .openFiles e SLOT)) at (length (c .«data»))))
+    reads : (e n : ℕ) → Held (tablesOf s) e → tablesOf s .openFiles e OFFSET + n ≤ BLOCK → Granting n (output.Bytes (slot (view s .openFiles e SLOT)) (view s .openFiles e OFFSET) n) (effect.Moved (ofdOf e) (plus (view s .openFiles e OFFSET) n))
+    seeks : (e n : ℕ) → Held (tablesOf s) e → n ≤ BLOCK → Granting n output.Nothing (effect.Moved (ofdOf e) n)
     duplicates : (i j : Fd) (e : ℕ) → Holds (tablesOf s) (c .process) i e → j .0 < DESCRIPTORS → tablesOf s .desc (c .process .0) (j .0) ≡ 0 →
-        Granting (j .0) output.Nothing (effect.Duplicated j e (up (view s .opened e REFERENCES)))
+        Granting (j .0) output.Nothing (effect.Duplicated j (ofdOf e) (up (view s .openFiles e REFERENCES)))
     forks : (q : Pid) → Caller (tablesOf s) (c .process) → q .0 < PROCESSES → tablesOf s .proc (q .0) USED ≡ 0 →
         Granting (q .0) output.Nothing (effect.Forked q (subjectOf (view s .proc) (c .process) .user) (subjectOf (view s .proc) (c .process) .label))
     exits : Caller (tablesOf s) (c .process) → Granting 0 output.Nothing effect.Exited
@@ -116,7 +126,7 @@ module _ (s : Store) (h : SoundStore s) where
   unfolding inUse tablesOf
   in-use p e = let w = means-every (means-and (means-lt (p .0) PROCESSES) (means-last (means-eq (view s .proc (p .0) USED) 1))) .holds e in record { small = w .0; used = w .1 }
 
-  pub holds : (p : Pid) (i : Fd) → Caller (tablesOf s) p → held (view s .desc) p i ≡ true → Holds (tablesOf s) p i (ofdHeld (view s .desc) p i)
+  pub holds : (p : Pid) (i : Fd) → Caller (tablesOf s) p → held (view s .desc) p i ≡ true → Holds (tablesOf s) p i (ofdHeld (view s .desc) p i .0)
   unfolding held tablesOf
   holds p i u e = record { caller = u; fd-small = small (decLt (i .0) DESCRIPTORS); there = omega (arith, some-file) }
     where
@@ -133,24 +143,24 @@ module _ (s : Store) (h : SoundStore s) where
 
   -- ---- the lowest free ones
 
-  pub slot-free : ltb (freeSlot (view s .tree .file)) SLOTS ≡ true → tablesOf s .file (freeSlot (view s .tree .file)) KIND ≡ FREE
+  pub slot-free : isSlot (freeSlot (view s .tree .file)) ≡ true → tablesOf s .file (freeSlot (view s .tree .file) .0) KIND ≡ FREE
   unfolding tablesOf
-  slot-free t = eqb-true (view s .tree .file (freeSlot (view s .tree .file)) KIND) FREE (unfold slotFree in first-passes (slotFree (view s .tree .file)) SLOTS (ltb-true (freeSlot (view s .tree .file)) SLOTS t))
+  slot-free t = eqb-true (view s .tree .file (freeSlot (view s .tree .file) .0) KIND) FREE (unfold slotFree in first-passes (slotFree (view s .tree .file)) SLOTS (ltb-true (freeSlot (view s .tree .file) .0) SLOTS t))
 
-  pub ofd-free : ltb (freeOfd (view s .opened)) OPENS ≡ true → tablesOf s .opened (freeOfd (view s .opened)) REFERENCES ≡ 0
+  pub ofd-free : isOfd (freeOfd (view s .openFiles)) ≡ true → tablesOf s .openFiles (freeOfd (view s .openFiles) .0) REFERENCES ≡ 0
   unfolding tablesOf
-  ofd-free t = eqb-true (view s .opened (freeOfd (view s .opened)) REFERENCES) 0 (unfold ofdFree in first-passes (ofdFree (view s .opened)) OPENS (ltb-true (freeOfd (view s .opened)) OPENS t))
+  ofd-free t = eqb-true (view s .openFiles (freeOfd (view s .openFiles) .0) REFERENCES) 0 (unfold ofdFree in first-passes (ofdFree (view s .openFiles)) OPEN-FILES (ltb-true (freeOfd (view s .openFiles) .0) OPEN-FILES t))
 
-  pub fd-free : (p : Pid) → ltb (freeFd (view s .desc) p) DESCRIPTORS ≡ true → tablesOf s .desc (p .0) (freeFd (view s .desc) p) ≡ 0
+  pub fd-free : (p : Pid) → isFd (freeFd (view s .desc) p) ≡ true → tablesOf s .desc (p .0) (freeFd (view s .desc) p .0) ≡ 0
   unfolding tablesOf
-  fd-free p t = eqb-true (view s .desc (p .0) (freeFd (view s .desc) p)) 0 (unfold fdFree in first-passes (fdFree (view s .desc) p) DESCRIPTORS (ltb-true (freeFd (view s .desc) p) DESCRIPTORS t))
+  fd-free p t = eqb-true (view s .desc (p .0) (freeFd (view s .desc) p .0)) 0 (unfold fdFree in first-passes (fdFree (view s .desc) p) DESCRIPTORS (ltb-true (freeFd (view s .desc) p .0) DESCRIPTORS t))
 
-  pub pid-free : ltb (freePid (view s .proc)) PROCESSES ≡ true → tablesOf s .proc (freePid (view s .proc)) USED ≡ 0
+  pub pid-free : isPid (freePid (view s .proc)) ≡ true → tablesOf s .proc (freePid (view s .proc) .0) USED ≡ 0
   unfolding tablesOf
-  pid-free t = eqb-true (view s .proc (freePid (view s .proc)) USED) 0 (unfold pidFree in first-passes (pidFree (view s .proc)) PROCESSES (ltb-true (freePid (view s .proc)) PROCESSES t))
+  pid-free t = eqb-true (view s .proc (freePid (view s .proc) .0) USED) 0 (unfold pidFree in first-passes (pidFree (view s .proc)) PROCESSES (ltb-true (freePid (view s .proc) .0) PROCESSES t))
 
-  pub dirent-free : (d : ℕ) → ltb (freeDirent (view s .tree .shown d)) DIRENTS ≡ true → isEmpty (view s .tree .shown d) (freeDirent (view s .tree .shown d)) ≡ true
-  dirent-free d t = first-passes (isEmpty (view s .tree .shown d)) DIRENTS (ltb-true (freeDirent (view s .tree .shown d)) DIRENTS t)
+  pub dirent-free : (d : ℕ) → isDirent (freeDirent (view s .tree .shown d)) ≡ true → isEmpty (view s .tree .shown d) (freeDirent (view s .tree .shown d) .0) ≡ true
+  dirent-free d t = first-passes (isEmpty (view s .tree .shown d)) DIRENTS (ltb-true (freeDirent (view s .tree .shown d) .0) DIRENTS t)
 
 -- ---- a label moves to a label
 

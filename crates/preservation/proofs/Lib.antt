@@ -40,11 +40,15 @@ pub mod Reach
 pub mod Walked
 pub mod Granted
 pub mod Decided
+pub mod Asked
 -- the theorems
 pub mod Preserved
+pub mod TestedOnce
+pub mod Kept
 pub mod RefusedLeaves
-pub mod BitsByOwner
+pub mod BitsChange
 pub mod OpenStays
+pub mod Unwritten
 pub mod NoWrap
 pub mod Sizes
 pub mod Proved

@@ -31,7 +31,7 @@ loosen x m h = record {
 }
 
 -- slot x is a directory named once, or a plain file that is named or open
-pub tighten : (x : ℕ) (m : Tables) → SoundBut x m → (m .file x KIND ≡ DIRECTORY → (x ≡ 0 → ⊥) → m .file x LINKS ≡ 1) → (m .file x KIND ≡ PLAIN → 0 < m .file x LINKS + openCount (col (m .opened) SLOT) (col (m .opened) REFERENCES) x) → Sound m
+pub tighten : (x : ℕ) (m : Tables) → SoundBut x m → (m .file x KIND ≡ DIRECTORY → (x ≡ 0 → ⊥) → m .file x LINKS ≡ 1) → (m .file x KIND ≡ PLAIN → 0 < m .file x LINKS + openCount (col (m .openFiles) SLOT) (col (m .openFiles) REFERENCES) x) → Sound m
 tighten x m h a b = record {
   files = h .files;
   root-kind = h .root-kind;

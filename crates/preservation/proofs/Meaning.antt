@@ -6,13 +6,15 @@ use Prim.Native.Nat.{ℕ, _-_, _*_, _≤_, _<_}
 use native.Mathlib.Omega.{arith}
 use native.Mathlib.Decide.{decLt, ℕ-discrete}
 use lib.ListN.{length, getD}
-use Rattle.rules.specs.Layout.{SLOTS, BLOCK, DIRENT, DIRENTS, NAME, OPENS, PROCESSES, DESCRIPTORS, FILE, OPEN, PROCESS}
-use Rattle.rules.specs.Layout.{KIND, OWNER, BITS, LABEL, LENGTH, LINKS, VERSION, SLOT, MODE, OFFSET, REFERENCES, USED, USER, DOMAIN, FREE, PLAIN}
+use Rattle.rules.specs.Layout.{SLOTS, BLOCK, DIRENT, DIRENTS, NAME, OPEN-FILES, PROCESSES, DESCRIPTORS, FILE, OPEN, PROCESS}
+use Rattle.rules.specs.Layout.{KIND, OWNER, BITS, LABEL, LENGTH, LINKS, VERSION, SLOT, MODE, OFFSET, REFERENCES, USED, USER, PROCESS-LABEL, FREE, PLAIN}
 use Rattle.rules.specs.Layout.{KIND-MAX, USER-MAX, BITS-MAX, LABEL-MAX, MODE-MAX, WORD-MAX}
 use Rattle.rules.specs.Store.{Store, Tree, View}
+use Rattle.rules.specs.Rights.{bitsKnown, modeOf, modeKept}
 use Rattle.rules.specs.Directories.{direntAt}
 use Rattle.rules.specs.Sound.{sizesSound, recordFree, recordSound, direntSound, differs, isNew, direntsSound}
 use Rattle.rules.specs.Sound.{openFree, openUsed, openSound, descSound, descFree, procFree, procUsed, procSound}
+use Rattle.rules.proofs.Ranges.{bits-known, mode-kept}
 use Rattle.preservation.proofs.Tests.{Means, means-every, means-and, means-last, means-imp, means-cond, means-or3, means-eq, means-lt, means-le, means-not, means-test, means-all, means-same}
 use Rattle.preservation.proofs.Tables.{col}
 use Rattle.preservation.proofs.Sound.{All, File, Dirent, Directory, OpenFile, Process, sameRow, nameCount, holderCount}
@@ -27,16 +29,24 @@ pub means-sized : (s : Store) → Means (sizesSound s) (Sized s)
 unfolding sizesSound
 means-sized s = means-same
     (means-every (means-and (means-eq (length (s .files)) (SLOTS * FILE)) (means-and (means-eq (length (s .contents)) (SLOTS * BLOCK))
-    (means-and (means-eq (length (s .opens)) (OPENS * OPEN)) (means-last (means-eq (length (s .processes)) (PROCESSES * PROCESS)))))))
-    (λ w. record { files-size = w .0; contents-size = w .1 .0; opens-size = w .1 .1 .0; processes-size = w .1 .1 .1 })
-    (λ w. (w .files-size, (w .contents-size, (w .opens-size, w .processes-size))))
+    (means-and (means-eq (length (s .openFiles)) (OPEN-FILES * OPEN)) (means-last (means-eq (length (s .processes)) (PROCESSES * PROCESS)))))))
+    (λ w. record { files-size = w .0; contents-size = w .1 .0; open-files-size = w .1 .1 .0; processes-size = w .1 .1 .1 })
+    (λ w. (w .files-size, (w .contents-size, (w .open-files-size, w .processes-size))))
+
+-- ---- bits and modes
+
+means-bits : (n : ℕ) → Means (bitsKnown n) (n ≤ BITS-MAX)
+means-bits n = rw bits-known (means-le n BITS-MAX)
+
+means-mode : (n : ℕ) → Means (modeKept (modeOf n)) ((1 ≤ n) × (n ≤ MODE-MAX))
+means-mode n = rw mode-kept (means-every (means-and (means-le 1 n) (means-last (means-le n MODE-MAX))))
 
 -- ---- a file's record
 
 pub means-record : (t : Tree) (s : ℕ) → Means (recordSound t s) (File (t .file s KIND) (t .file s OWNER) (t .file s BITS) (t .file s LABEL) (t .file s LENGTH) (t .file s LINKS) (t .file s VERSION))
 unfolding recordSound recordFree
 means-record t s = means-same
-    (means-every (means-and (means-le (t .file s KIND) KIND-MAX) (means-and (means-le (t .file s OWNER) USER-MAX) (means-and (means-le (t .file s BITS) BITS-MAX) (means-and (means-le (t .file s LABEL) LABEL-MAX)
+    (means-every (means-and (means-le (t .file s KIND) KIND-MAX) (means-and (means-le (t .file s OWNER) USER-MAX) (means-and (means-bits (t .file s BITS)) (means-and (means-le (t .file s LABEL) LABEL-MAX)
     (means-and (means-le (t .file s VERSION) WORD-MAX) (means-last (means-imp (means-eq (t .file s KIND) FREE)
     (means-every (means-and (means-eq (t .file s OWNER) 0) (means-and (means-eq (t .file s BITS) 0) (means-and (means-eq (t .file s LABEL) 0) (means-and (means-eq (t .file s LENGTH) 0) (means-last (means-eq (t .file s LINKS) 0)))))))))))))))
     (λ w. record {
@@ -83,10 +93,10 @@ module _ (t : Tree) (D : List ℕ) (rows : ℕ → ℕ → ℕ) (agree : (i k : 
 
 -- ---- open files and processes
 
-pub means-opened : (v : View) (e : ℕ) → Means (openSound v e)
-    ((v .opened e REFERENCES ≡ holderCount (v .desc) e) × OpenFile (col (v .tree .file) KIND) (v .opened e SLOT) (v .opened e MODE) (v .opened e OFFSET) (v .opened e REFERENCES))
+pub means-open-file : (v : View) (e : ℕ) → Means (openSound v e)
+    ((v .openFiles e REFERENCES ≡ holderCount (v .desc) e) × OpenFile (col (v .tree .file) KIND) (v .openFiles e SLOT) (v .openFiles e MODE) (v .openFiles e OFFSET) (v .openFiles e REFERENCES))
 unfolding openSound openFree openUsed
-means-opened v e = means-same w
+means-open-file v e = means-same w
     (λ u. (
       u .0,
       record {
@@ -95,35 +105,35 @@ means-opened v e = means-same w
         offset-zero = λ z. u .1 .0 z .1 .1;
         slot-small = λ n. u .1 .1 n .0;
         plain = λ n. u .1 .1 n .1 .0;
-        mode-least = λ n. u .1 .1 n .1 .1 .0;
-        mode-most = λ n. u .1 .1 n .1 .1 .1 .0;
-        offset-most = λ n. u .1 .1 n .1 .1 .1 .1;
+        mode-least = λ n. u .1 .1 n .1 .1 .0 .0;
+        mode-most = λ n. u .1 .1 n .1 .1 .0 .1;
+        offset-most = λ n. u .1 .1 n .1 .1 .1;
       },
     ))
-    (λ u. let o = u .1 in (u .0, ((λ z. (o .slot-zero z, (o .mode-zero z, o .offset-zero z))), λ n. (o .slot-small n, (o .plain n, (o .mode-least n, (o .mode-most n, o .offset-most n)))))))
+    (λ u. let o = u .1 in (u .0, ((λ z. (o .slot-zero z, (o .mode-zero z, o .offset-zero z))), λ n. (o .slot-small n, (o .plain n, ((o .mode-least n, o .mode-most n), o .offset-most n))))))
   where
-    w : Means (openSound v e) ((v .opened e REFERENCES ≡ holderCount (v .desc) e)
-        × ((v .opened e REFERENCES ≡ 0 → (v .opened e SLOT ≡ 0) × ((v .opened e MODE ≡ 0) × (v .opened e OFFSET ≡ 0)))
-        × ((v .opened e REFERENCES ≡ 0 → ⊥) → (v .opened e SLOT < SLOTS) × ((v .tree .file (v .opened e SLOT) KIND ≡ PLAIN) × ((1 ≤ v .opened e MODE) × ((v .opened e MODE ≤ MODE-MAX) × (v .opened e OFFSET ≤ BLOCK)))))))
-    w = rw (holders-counted (v .desc) e) (means-every (means-and (means-eq (v .opened e REFERENCES) (holderCount (v .desc) e)) (means-last (means-cond (means-eq (v .opened e REFERENCES) 0)
-        (means-every (means-and (means-eq (v .opened e SLOT) 0) (means-and (means-eq (v .opened e MODE) 0) (means-last (means-eq (v .opened e OFFSET) 0)))))
-        (means-every (means-and (means-lt (v .opened e SLOT) SLOTS) (means-and (means-eq (v .tree .file (v .opened e SLOT) KIND) PLAIN) (means-and (means-le 1 (v .opened e MODE)) (means-and (means-le (v .opened e MODE) MODE-MAX) (means-last (means-le (v .opened e OFFSET) BLOCK)))))))))))
+    w : Means (openSound v e) ((v .openFiles e REFERENCES ≡ holderCount (v .desc) e)
+        × ((v .openFiles e REFERENCES ≡ 0 → (v .openFiles e SLOT ≡ 0) × ((v .openFiles e MODE ≡ 0) × (v .openFiles e OFFSET ≡ 0)))
+        × ((v .openFiles e REFERENCES ≡ 0 → ⊥) → (v .openFiles e SLOT < SLOTS) × ((v .tree .file (v .openFiles e SLOT) KIND ≡ PLAIN) × (((1 ≤ v .openFiles e MODE) × (v .openFiles e MODE ≤ MODE-MAX)) × (v .openFiles e OFFSET ≤ BLOCK))))))
+    w = rw (holders-counted (v .desc) e) (means-every (means-and (means-eq (v .openFiles e REFERENCES) (holderCount (v .desc) e)) (means-last (means-cond (means-eq (v .openFiles e REFERENCES) 0)
+        (means-every (means-and (means-eq (v .openFiles e SLOT) 0) (means-and (means-eq (v .openFiles e MODE) 0) (means-last (means-eq (v .openFiles e OFFSET) 0)))))
+        (means-every (means-and (means-lt (v .openFiles e SLOT) SLOTS) (means-and (means-eq (v .tree .file (v .openFiles e SLOT) KIND) PLAIN) (means-and (means-mode (v .openFiles e MODE)) (means-last (means-le (v .openFiles e OFFSET) BLOCK))))))))))
 
-pub means-process : (v : View) (p : ℕ) → Means (procSound v p) (Process (v .proc p USED) (v .proc p USER) (v .proc p DOMAIN) (v .desc p))
+pub means-process : (v : View) (p : ℕ) → Means (procSound v p) (Process (v .proc p USED) (v .proc p USER) (v .proc p PROCESS-LABEL) (v .desc p))
 unfolding procSound procFree procUsed descFree descSound
 means-process v p = means-same w (λ u. from u (ℕ-discrete (v .proc p USED) 0))
     (λ u. ((λ z. (u .user-zero z, (u .label-zero z, u .desc-zero z))), λ n. ((omega (arith, u .active-most, n)), (u .user-most, (u .label-most, u .desc-most)))))
   where
     Parts : Type 0
-    Parts = (v .proc p USED ≡ 0 → (v .proc p USER ≡ 0) × ((v .proc p DOMAIN ≡ 0) × All DESCRIPTORS (λ k. v .desc p k ≡ 0)))
-        × ((v .proc p USED ≡ 0 → ⊥) → (v .proc p USED ≡ 1) × ((v .proc p USER ≤ USER-MAX) × ((v .proc p DOMAIN ≤ LABEL-MAX) × All DESCRIPTORS (λ k. v .desc p k ≤ OPENS))))
+    Parts = (v .proc p USED ≡ 0 → (v .proc p USER ≡ 0) × ((v .proc p PROCESS-LABEL ≡ 0) × All DESCRIPTORS (λ k. v .desc p k ≡ 0)))
+        × ((v .proc p USED ≡ 0 → ⊥) → (v .proc p USED ≡ 1) × ((v .proc p USER ≤ USER-MAX) × ((v .proc p PROCESS-LABEL ≤ LABEL-MAX) × All DESCRIPTORS (λ k. v .desc p k ≤ OPEN-FILES))))
 
     w : Means (procSound v p) Parts
     w = means-cond (means-eq (v .proc p USED) 0)
-        (means-every (means-and (means-eq (v .proc p USER) 0) (means-and (means-eq (v .proc p DOMAIN) 0) (means-last (means-all DESCRIPTORS (descFree (v .desc) p) (λ k. v .desc p k ≡ 0) (λ k. means-eq (v .desc p k) 0))))))
-        (means-every (means-and (means-eq (v .proc p USED) 1) (means-and (means-le (v .proc p USER) USER-MAX) (means-and (means-le (v .proc p DOMAIN) LABEL-MAX) (means-last (means-all DESCRIPTORS (descSound (v .desc) p) (λ k. v .desc p k ≤ OPENS) (λ k. means-le (v .desc p k) OPENS)))))))
+        (means-every (means-and (means-eq (v .proc p USER) 0) (means-and (means-eq (v .proc p PROCESS-LABEL) 0) (means-last (means-all DESCRIPTORS (descFree (v .desc) p) (λ k. v .desc p k ≡ 0) (λ k. means-eq (v .desc p k) 0))))))
+        (means-every (means-and (means-eq (v .proc p USED) 1) (means-and (means-le (v .proc p USER) USER-MAX) (means-and (means-le (v .proc p PROCESS-LABEL) LABEL-MAX) (means-last (means-all DESCRIPTORS (descSound (v .desc) p) (λ k. v .desc p k ≤ OPEN-FILES) (λ k. means-le (v .desc p k) OPEN-FILES)))))))
 
-    from : Parts → Dec (v .proc p USED ≡ 0) → Process (v .proc p USED) (v .proc p USER) (v .proc p DOMAIN) (v .desc p)
+    from : Parts → Dec (v .proc p USED ≡ 0) → Process (v .proc p USED) (v .proc p USER) (v .proc p PROCESS-LABEL) (v .desc p)
     from u (yes z) = let a = u .0 z in record {
       active-most = omega arith;
       user-most = omega (arith, a .0);

@@ -8,10 +8,10 @@ use native.Mathlib.Decide.{decLt, ℕ-discrete}
 use lib.Dec.{eqb}
 use lib.ListN.{length, getD}
 use borrow.Author.Tests.{eq-eqb, ne-eqb}
-use Rattle.rules.specs.Layout.{SLOTS, DIRENTS, DIRENT, OPENS, NAME, NAMES, KIND-MAX, USER-MAX, BITS-MAX, LABEL-MAX}
+use Rattle.rules.specs.Layout.{SLOTS, DIRENTS, DIRENT, OPEN-FILES, NAME, NAMES, KIND-MAX, USER-MAX, BITS-MAX, LABEL-MAX}
 use Rattle.rules.specs.Layout.{KIND, LABEL, LENGTH, LINKS, VERSION, SLOT, REFERENCES, FREE, PLAIN, DIRECTORY}
 use Rattle.rules.specs.Choice.{every}
-use Rattle.rules.specs.Store.{Store, view, up, zeros, applyAll}
+use Rattle.rules.specs.Store.{Store, view, entry, bitsAt, up, zeros, applyAll}
 use Rattle.rules.specs.Paths as paths
 use Rattle.rules.specs.Directories.{dirent}
 use Rattle.rules.specs.Sound.{isOpen}
@@ -59,7 +59,7 @@ module _ (s : Store) (h : SoundStore s) where
   -- ---- link
 
   pub link-leaves : (name : paths.Name) (d : Slot) (i : ℕ) (y : Slot) → Naming (tablesOf s) name d i y → y .0 < SLOTS → tablesOf s .file (y .0) KIND ≡ PLAIN →
-      Leaves (applyAll (linkChanges name (gains (view s .tree .file) d i) y (up (view s .tree .file (y .0) LINKS))) s)
+      Leaves (applyAll (linkChanges name (gains (view s .tree .file) d (entry i)) y (up (view s .tree .file (y .0) LINKS))) s)
       (direntTo (d .0) i (rowOf name y) (tablesOf s .file (d .0) LENGTH + 1) (up (tablesOf s .file (d .0) VERSION)) (fileTo (y .0) LINKS (tablesOf s .file (y .0) LINKS + 1) (tablesOf s)))
   unfolding linkChanges nameChanges applyAll tablesOf linked placed
   link-leaves name d i y n hy k = record {
@@ -93,13 +93,13 @@ module _ (s : Store) (h : SoundStore s) where
       (fileRowTo (y .0) (fileRow kind owner bits label 0 1 (tablesOf s .file (y .0) VERSION)) (tablesOf s))
 
   pub create-leaves : (name : paths.Name) (who : Subject) (d : Slot) (i : ℕ) (y : Slot) (kind bits : ℕ) → Creates name d i y kind (who .user) bits (tablesOf s .file (d .0) LABEL) →
-      Leaves (applyAll (createChanges name (gains (view s .tree .file) d i) y (newRecord (view s .tree .file) who kind bits d y)) s) (withFile name d i y kind (who .user) bits (tablesOf s .file (d .0) LABEL))
+      Leaves (applyAll (createChanges name (gains (view s .tree .file) d (entry i)) y (newRecord (view s .tree .file) who kind (bitsAt bits) d y)) s) (withFile name d i y kind (who .user) bits (tablesOf s .file (d .0) LABEL))
   unfolding createChanges nameChanges applyAll tablesOf linked placed created remade
   create-leaves name who d i y kind bits c = record {
     has = rw (longer (d .0) hd)
-        (has-fileWord (has-fileWord (has-dirent (has-fileTo (its-tables s h) (y .0) (words (newRecord (view s .tree .file) who kind bits d y)) (c .small) refl) (d .0) i (dirent name y) (rowOf name y) hd (n .dirent-small) (c .naming .bytes) (λ k. refl))
+        (has-fileWord (has-fileWord (has-dirent (has-fileTo (its-tables s h) (y .0) (words (newRecord (view s .tree .file) who kind (bitsAt bits) d y)) (c .small) refl) (d .0) i (dirent name y) (rowOf name y) hd (n .dirent-small) (c .naming .bytes) (λ k. refl))
         (d .0) LENGTH (tablesOf s .file (d .0) LENGTH + 1) hd (omega arith)) (d .0) VERSION (up (tablesOf s .file (d .0) VERSION)) hd (omega arith));
-    sound = subst (λ (b : ℕ → ℕ → ℕ). Sound (record { file = withFile name d i y kind owner bits label .file; byte = upd b (d .0) (fill (b (d .0)) i (rowOf name y)); opened = tablesOf s .opened; proc = tablesOf s .proc; desc = tablesOf s .desc }))
+    sound = subst (λ (b : ℕ → ℕ → ℕ). Sound (record { file = withFile name d i y kind owner bits label .file; byte = upd b (d .0) (fill (b (d .0)) i (rowOf name y)); openFiles = tablesOf s .openFiles; proc = tablesOf s .proc; desc = tablesOf s .desc }))
         (upd-same-value (tablesOf s .byte) (y .0))
         (same-columns SLOTS (created (d .0) i (rowOf name y) t (y .0) kind owner bits label (tablesOf s)) (withFile name d i y kind owner bits label .file) columns
         (create-sound (tablesOf s) (h .tables) (d .0) i (rowOf name y) t (y .0) kind owner bits label n (up-most (tablesOf s .file (d .0) VERSION)) (c .small) (c .free)
@@ -152,7 +152,7 @@ module _ (s : Store) (h : SoundStore s) where
   abbrev pub withoutName : Slot → ℕ → Tables
   withoutName d i = direntTo (d .0) i noRow (tablesOf s .file (d .0) LENGTH - 1) (up (tablesOf s .file (d .0) VERSION)) (tablesOf s)
 
-  has-unnamed : (d : Slot) (i : ℕ) (y : Slot) → Names d i y → Has (applyAll (unnameChanges (loses (view s .tree .file) d i)) s) (withoutName d i)
+  has-unnamed : (d : Slot) (i : ℕ) (y : Slot) → Names d i y → Has (applyAll (unnameChanges (loses (view s .tree .file) d (entry i))) s) (withoutName d i)
   unfolding unnameChanges applyAll tablesOf
   has-unnamed d i y n =
       has-fileWord (has-fileWord (has-dirent (its-tables s h) (d .0) i (zeros DIRENT) noRow (n .dir-small) (n .dirent-small) (length-zeros DIRENT) (λ k. getD-zeros DIRENT k))
@@ -160,28 +160,28 @@ module _ (s : Store) (h : SoundStore s) where
 
   -- what becomes of a plain file that loses a name
   pub data Unnaming (y : Slot) : Unnamed → Type 0 where
-    keeps : 0 < tablesOf s .file (y .0) LINKS - 1 + openCount (col (tablesOf s .opened) SLOT) (col (tablesOf s .opened) REFERENCES) (y .0) → Unnaming y (unnamed.Kept y (view s .tree .file (y .0) LINKS - 1))
-    frees : tablesOf s .file (y .0) LINKS - 1 ≡ 0 → ((e : ℕ) → e < OPENS → (tablesOf s .opened e REFERENCES ≡ 0 → ⊥) → tablesOf s .opened e SLOT ≡ y .0 → ⊥) →
+    keeps : 0 < tablesOf s .file (y .0) LINKS - 1 + openCount (col (tablesOf s .openFiles) SLOT) (col (tablesOf s .openFiles) REFERENCES) (y .0) → Unnaming y (unnamed.Kept y (view s .tree .file (y .0) LINKS - 1))
+    frees : tablesOf s .file (y .0) LINKS - 1 ≡ 0 → ((e : ℕ) → e < OPEN-FILES → (tablesOf s .openFiles e REFERENCES ≡ 0 → ⊥) → tablesOf s .openFiles e SLOT ≡ y .0 → ⊥) →
         Unnaming y (unnamed.Freed y (checks.freed (view s .tree .file) y))
 
-  pub unnaming-is : (y : Slot) → Unnaming y (unnaming (view s .tree .file) (view s .opened) y)
+  pub unnaming-is : (y : Slot) → Unnaming y (unnaming (view s .tree .file) (view s .openFiles) y)
   unfolding unnaming tablesOf
-  unnaming-is y = by (every (eqb (view s .tree .file (y .0) LINKS - 1) 0 ∷ not (isOpen (view s .opened) (y .0)) ∷ [])) refl
+  unnaming-is y = by (every (eqb (view s .tree .file (y .0) LINKS - 1) 0 ∷ not (isOpen (view s .openFiles) y) ∷ [])) refl
     where
-      test : Means (every (eqb (view s .tree .file (y .0) LINKS - 1) 0 ∷ not (isOpen (view s .opened) (y .0)) ∷ []))
-          ((view s .tree .file (y .0) LINKS - 1 ≡ 0) × (0 < openCount (col (view s .opened) SLOT) (col (view s .opened) REFERENCES) (y .0) → ⊥))
-      test = means-every (means-and (means-eq (view s .tree .file (y .0) LINKS - 1) 0) (means-last (means-not (means-open (view s .opened) (y .0)))))
+      test : Means (every (eqb (view s .tree .file (y .0) LINKS - 1) 0 ∷ not (isOpen (view s .openFiles) y) ∷ []))
+          ((view s .tree .file (y .0) LINKS - 1 ≡ 0) × (0 < openCount (col (view s .openFiles) SLOT) (col (view s .openFiles) REFERENCES) (y .0) → ⊥))
+      test = means-every (means-and (means-eq (view s .tree .file (y .0) LINKS - 1) 0) (means-last (means-not (means-open (view s .openFiles) (y .0)))))
 
-      alive : (every (eqb (view s .tree .file (y .0) LINKS - 1) 0 ∷ not (isOpen (view s .opened) (y .0)) ∷ []) ≡ false) → Dec (view s .tree .file (y .0) LINKS - 1 ≡ 0) →
-          Dec (0 < openCount (col (view s .opened) SLOT) (col (view s .opened) REFERENCES) (y .0)) → 0 < view s .tree .file (y .0) LINKS - 1 + openCount (col (view s .opened) SLOT) (col (view s .opened) REFERENCES) (y .0)
+      alive : (every (eqb (view s .tree .file (y .0) LINKS - 1) 0 ∷ not (isOpen (view s .openFiles) y) ∷ []) ≡ false) → Dec (view s .tree .file (y .0) LINKS - 1 ≡ 0) →
+          Dec (0 < openCount (col (view s .openFiles) SLOT) (col (view s .openFiles) REFERENCES) (y .0)) → 0 < view s .tree .file (y .0) LINKS - 1 + openCount (col (view s .openFiles) SLOT) (col (view s .openFiles) REFERENCES) (y .0)
       alive e (yes a) (yes b) = omega arith
       alive e (yes a) (no b) = absurd (false≢true (sym e ∙ test .tests (a, b)))
       alive e (no a) b = omega arith
 
-      by : (b : Bool) → every (eqb (view s .tree .file (y .0) LINKS - 1) 0 ∷ not (isOpen (view s .opened) (y .0)) ∷ []) ≡ b →
+      by : (b : Bool) → every (eqb (view s .tree .file (y .0) LINKS - 1) 0 ∷ not (isOpen (view s .openFiles) y) ∷ []) ≡ b →
           Unnaming y (cond b (unnamed.Freed y (checks.freed (view s .tree .file) y)) (unnamed.Kept y (view s .tree .file (y .0) LINKS - 1)))
-      by true e = let w = test .holds e in frees (w .0) (λ i hi r q. w .1 (openCount-at (col (view s .opened) SLOT) (col (view s .opened) REFERENCES) i (y .0) hi q r))
-      by false e = keeps (alive e (ℕ-discrete (view s .tree .file (y .0) LINKS - 1) 0) (decLt 0 (openCount (col (view s .opened) SLOT) (col (view s .opened) REFERENCES) (y .0))))
+      by true e = let w = test .holds e in frees (w .0) (λ i hi r q. w .1 (openCount-at (col (view s .openFiles) SLOT) (col (view s .openFiles) REFERENCES) i (y .0) hi q r))
+      by false e = keeps (alive e (ℕ-discrete (view s .tree .file (y .0) LINKS - 1) 0) (decLt 0 (openCount (col (view s .openFiles) SLOT) (col (view s .openFiles) REFERENCES) (y .0))))
 
   -- the tables after an unlink
   unfoldable pub unlinkedTables : Slot → ℕ → Unnamed → Tables
@@ -200,7 +200,7 @@ module _ (s : Store) (h : SoundStore s) where
   }
 
   pub unlink-leaves : (d : Slot) (i : ℕ) (y : Slot) → Names d i y → tablesOf s .file (y .0) KIND ≡ PLAIN → {u : Unnamed} → Unnaming y u →
-      Leaves (applyAll (unlinkChanges (loses (view s .tree .file) d i) u) s) (unlinkedTables d i u)
+      Leaves (applyAll (unlinkChanges (loses (view s .tree .file) d (entry i)) u) s) (unlinkedTables d i u)
   unfolding unlinkChanges unnamedChanges unnameChanges applyAll tablesOf unlinkedTables unlinked placed
   unlink-leaves d i y n k (keeps a) = record {
     has = has-fileWord (has-unnamed d i y n) (y .0) LINKS (tablesOf s .file (y .0) LINKS - 1) (named-small d i y n) (omega arith);
@@ -216,7 +216,7 @@ module _ (s : Store) (h : SoundStore s) where
   }
 
   pub remove-leaves : (d : Slot) (i : ℕ) (y : Slot) → Names d i y → tablesOf s .file (y .0) KIND ≡ DIRECTORY → tablesOf s .file (y .0) LENGTH ≡ 0 →
-      Leaves (applyAll (removeChanges (loses (view s .tree .file) d i) y (checks.freed (view s .tree .file) y)) s) (unlinkedTables d i (unnamed.Freed y (checks.freed (view s .tree .file) y)))
+      Leaves (applyAll (removeChanges (loses (view s .tree .file) d (entry i)) y (checks.freed (view s .tree .file) y)) s) (unlinkedTables d i (unnamed.Freed y (checks.freed (view s .tree .file) y)))
   unfolding removeChanges unnameChanges applyAll tablesOf unlinkedTables unlinked placed
   remove-leaves d i y n k l = record {
     has = has-clearTo (has-unnamed d i y n) (y .0) (words (checks.freed (view s .tree .file) y)) (named-small d i y n) refl;

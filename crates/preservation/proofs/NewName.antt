@@ -6,12 +6,11 @@ use Prim.Native.Nat.{ℕ, zero, suc, _+_, _-_, _%_, _≤_, _<_}
 use native.Mathlib.Nat.{not-suc-le-zero}
 use native.Mathlib.Omega.{arith}
 use native.Mathlib.Decide.{decLt}
-use lib.Dec.{ltb}
 use lib.ListN.{length, getD, drop, length-append, List·getD-append, List·getD-eq-default}
 use lib.Seq.{getD-append-add, getD-drop}
 use borrow.Author.Tests.{eqb-true, ltb-false}
 use Rattle.rules.specs.Layout.{SLOTS, DIRENT, DIRENTS, NAME, SLASH, KIND, DIRECTORY}
-use Rattle.rules.specs.Store.{Store, view}
+use Rattle.rules.specs.Store.{Store, view, isDirent}
 use Rattle.rules.specs.Paths as paths
 use Rattle.rules.specs.Paths.{sameName, sameAt, isDots}
 use Rattle.rules.specs.Directories.{direntAt, direntSlot, isEmpty, isPadding, hasName, direntOf, padded, dirent}
@@ -124,12 +123,12 @@ module _ (s : Store) (h : SoundStore s) (d : Slot) (hd : d .0 < SLOTS) (kd : tab
     };
   }
     where
-      absent : DIRENTS ≤ direntOf (view s .tree .shown (d .0)) name
-      absent = by (ltb (direntOf (view s .tree .shown (d .0)) name) DIRENTS) refl a
+      absent : DIRENTS ≤ direntOf (view s .tree .shown (d .0)) name .0
+      absent = by (isDirent (direntOf (view s .tree .shown (d .0)) name)) refl a
         where
-          by : (b : Bool) → ltb (direntOf (view s .tree .shown (d .0)) name) DIRENTS ≡ b → not b ≡ true → DIRENTS ≤ direntOf (view s .tree .shown (d .0)) name
+          by : (b : Bool) → isDirent (direntOf (view s .tree .shown (d .0)) name) ≡ b → not b ≡ true → DIRENTS ≤ direntOf (view s .tree .shown (d .0)) name .0
           by true q t = absurd (false≢true t)
-          by false q t = ltb-false (direntOf (view s .tree .shown (d .0)) name) DIRENTS q
+          by false q t = ltb-false (direntOf (view s .tree .shown (d .0)) name .0) DIRENTS q
 
       differ : (q : ℕ) → q < DIRENTS → sameRow (direntRow (tablesOf s .byte) (d .0) q) (rowOf name y) ≡ false
       differ q hq =

@@ -7,28 +7,26 @@ use native.Mathlib.Omega.{arith}
 use native.Mathlib.Decide.{ℕ-discrete}
 use lib.Dec.{eqb}
 use borrow.Author.Tests.{eq-eqb, ne-eqb}
-use Rattle.rules.specs.Layout.{SLOTS, BLOCK, DIRENTS, OPENS, PROCESSES, DESCRIPTORS, LENGTH, LINKS, OFFSET, REFERENCES}
+use Rattle.rules.specs.Layout.{SLOTS, BLOCK, DIRENTS, OPEN-FILES, PROCESSES, DESCRIPTORS, LENGTH, LINKS, OFFSET, REFERENCES}
 use Rattle.rules.specs.Scan.{repeat}
-use Rattle.rules.specs.Store.{Store, view, subjectOf, up, plus}
+use Rattle.rules.specs.Store.{Store, view, subjectOf, up, plus, fdOf}
 use Rattle.rules.specs.Sound.{sound}
 use Rattle.rules.specs.Calls.{Call}
-use Rattle.rules.specs.Checks.{held, sharing, shareOf}
+use Rattle.rules.specs.Checks.{held, ofdHeld, sharing, shareOf}
 use Rattle.rules.specs.Decide.{decide}
-use Rattle.rules.specs.Effects.{fdOf}
 use Rattle.rules.specs.Effects as effects
 use Rattle.rules.specs.declared.ids.Pid.{Pid}
 use Rattle.rules.specs.declared.decision.Share.the-variants as share
 use Rattle.rules.specs.declared.decision.Output.{Output}
 use Rattle.rules.specs.declared.decision.Effect.{Effect}
-use Rattle.rules.specs.declared.decision.Decision.{Decision}
-use Rattle.rules.specs.declared.decision.Decision.the-variants.{Refused, Granted}
+use Rattle.rules.specs.declared.decision.Decision.the-variants.{Granted}
 use Rattle.preservation.specs.Claims.{word, PlainShare, PlainRead, PlainSums}
 use Rattle.preservation.proofs.Words.{up-is, plus-is, length-most, link-most, references-most, offsets-most}
 use Rattle.preservation.proofs.StoreChanges.{tablesOf}
 use Rattle.preservation.proofs.SoundStore.{SoundStore, means-sound}
 use Rattle.preservation.proofs.OpenEffects.{held-open}
 use Rattle.preservation.proofs.ForkEffects.{Sharing, sharing-some, sharing-start, shared-held, shared-up}
-use Rattle.preservation.proofs.Granted.{Fit, granting, refusing, unlinking, Granting, nothing, opens, truncates, creates, unlinks, removes, links, changesBits, closes, stores, reads, seeks, duplicates, forks, exits, executes}
+use Rattle.preservation.proofs.Granted.{Of, fit-of, unlinking, Granting, nothing, opens, truncates, creates, unlinks, removes, links, changesBits, closes, stores, reads, seeks, duplicates, forks, exits, executes}
 use Rattle.preservation.proofs.Decided.{decide-fit}
 use Rattle.preservation.proofs.Preserved.{placed-well, caller-user, caller-label}
 
@@ -39,18 +37,18 @@ module _ (s : Store) (h : SoundStore s) where
   pub links-go-up : (f : ℕ) → f < SLOTS → up (word s f LINKS) ≡ word s f LINKS + 1
   links-go-up f l = let a : tablesOf s .file f LINKS ≤ DIRENTS * SLOTS = link-most SLOTS (tablesOf s) (h .tables) f l in up-is (word s f LINKS) (unfold tablesOf in (omega (arith, a)))
 
-  pub references-go-up : (e : ℕ) → e < OPENS → up (view s .opened e REFERENCES) ≡ view s .opened e REFERENCES + 1
-  references-go-up e l = let a : tablesOf s .opened e REFERENCES ≤ DESCRIPTORS * PROCESSES = references-most SLOTS (tablesOf s) (h .tables) e l in up-is (view s .opened e REFERENCES) (unfold tablesOf in (omega (arith, a)))
+  pub references-go-up : (e : ℕ) → e < OPEN-FILES → up (view s .openFiles e REFERENCES) ≡ view s .openFiles e REFERENCES + 1
+  references-go-up e l = let a : tablesOf s .openFiles e REFERENCES ≤ DESCRIPTORS * PROCESSES = references-most SLOTS (tablesOf s) (h .tables) e l in up-is (view s .openFiles e REFERENCES) (unfold tablesOf in (omega (arith, a)))
 
-  pub offset-goes-on : (e n : ℕ) → e < OPENS → n ≤ BLOCK → plus (view s .opened e OFFSET) n ≡ view s .opened e OFFSET + n
-  offset-goes-on e n l b = let a : tablesOf s .opened e OFFSET ≤ BLOCK = offsets-most SLOTS (tablesOf s) (h .tables) e l in plus-is (view s .opened e OFFSET) n (unfold tablesOf in (omega (arith, a)))
+  pub offset-goes-on : (e n : ℕ) → e < OPEN-FILES → n ≤ BLOCK → plus (view s .openFiles e OFFSET) n ≡ view s .openFiles e OFFSET + n
+  offset-goes-on e n l b = let a : tablesOf s .openFiles e OFFSET ≤ BLOCK = offsets-most SLOTS (tablesOf s) (h .tables) e l in plus-is (view s .openFiles e OFFSET) n (unfold tablesOf in (omega (arith, a)))
 
   -- each turn of a fork
-  share-sums : (p q : Pid) (u l : ℕ) (hp : p .0 < PROCESSES) (hq : q .0 < PROCESSES) (i : ℕ) → i < DESCRIPTORS → (t : Store) → Sharing p q u l hp hq s i t → PlainShare (view t) (shareOf (view t .opened) (view t .desc) p (fdOf i))
+  share-sums : (p q : Pid) (u l : ℕ) (hp : p .0 < PROCESSES) (hq : q .0 < PROCESSES) (i : ℕ) → i < DESCRIPTORS → (t : Store) → Sharing p q u l hp hq s i t → PlainShare (view t) (shareOf (view t .openFiles) (view t .desc) p (fdOf i))
   unfolding shareOf held
   share-sums p q u l hp hq i hi t c = by (ℕ-discrete (view t .desc (p .0) i) 0)
     where
-      by : Dec (view t .desc (p .0) i ≡ 0) → PlainShare (view t) (cond (not (eqb (view t .desc (p .0) i) 0)) (sharing (view t .opened) (view t .desc (p .0) i - 1)) share.Nothing)
+      by : Dec (view t .desc (p .0) i ≡ 0) → PlainShare (view t) (cond (not (eqb (view t .desc (p .0) i) 0)) (sharing (view t .openFiles) (ofdHeld (view t .desc) p (fdOf i))) share.Nothing)
       by (yes e) = rw (eq-eqb (view t .desc (p .0) i) 0 e) (unfold PlainShare in tt)
       by (no n) = rw (ne-eqb (view t .desc (p .0) i) 0 n) (unfold PlainShare tablesOf in
           (up-is (view t .desc (p .0) i - 1) (omega (arith, shared-held p q u l hp hq s i t hi c (view t .desc (p .0) i - 1) (omega (arith, n)) .small)), shared-up p q u l hp hq s i t hi c (view t .desc (p .0) i - 1) (omega (arith, n))))
@@ -58,8 +56,8 @@ module _ (s : Store) (h : SoundStore s) where
   sums : (c : Call) {n : ℕ} {o : Output} {e : Effect} → Granting s h c n o e → PlainSums s c o e
   unfolding PlainSums PlainRead
   sums c (nothing n o) = tt
-  sums c (opens n o) = up-is (n .ofd) (omega (arith, o .ofd-small))
-  sums c (truncates n o) = up-is (n .ofd) (omega (arith, o .ofd-small))
+  sums c (opens n o) = up-is (n .ofd .0) (omega (arith, o .ofd-small))
+  sums c (truncates n o) = up-is (n .ofd .0) (omega (arith, o .ofd-small))
   sums c (creates d i y kind bits o) = length-goes-up (d .0) (o .naming .fits .dir-small)
   sums c (unlinks (unlinking d i y n k)) = tt
   sums c (removes d i y n k l) = tt
@@ -67,7 +65,7 @@ module _ (s : Store) (h : SoundStore s) where
   sums c (changesBits y b hy k l o) = tt
   sums c (closes i u hi) = tt
   sums c (stores e at o l) = let w = placed-well s h c e at o l in (w .offset-is, w .length-is)
-  sums c (reads e n o l) = plus-is (view s .opened e OFFSET) n (unfold tablesOf in (omega (arith, l)))
+  sums c (reads e n o l) = plus-is (view s .openFiles e OFFSET) n (unfold tablesOf in (omega (arith, l)))
   sums c (seeks e n o l) = tt
   sums c (duplicates i j e o hj g) = let w = held-open s h (c .process) i e o in (up-is e (omega (arith, w .small)), references-go-up e (w .small))
   sums c (forks q u hq g) = λ i hi. share-sums (c .process) q (subjectOf (view s .proc) (c .process) .user) (subjectOf (view s .proc) (c .process) .label) (u .small) hq i hi (repeat (effects.shared (c .process) q) 0 i s)
@@ -75,16 +73,6 @@ module _ (s : Store) (h : SoundStore s) where
       (sharing-start (c .process) q (subjectOf (view s .proc) (c .process) .user) (subjectOf (view s .proc) (c .process) .label) (u .small) hq s h g (caller-user s h c u) (caller-label s h c u)))
   sums c (exits u) = tt
   sums c (executes l u hl) = tt
-
--- what holds of a granted decision
-unfoldable pub Of : (ℕ → Output → Effect → Type 0) → Decision → Type 0
-Of G (Refused r k) = Unit {0}
-Of G (Granted n o e) = G n o e
-
-fit-of : {G : ℕ → Output → Effect → Type 0} {d : Decision} → Fit G d → Of G d
-unfolding Of
-fit-of (granting n o e g) = g
-fit-of (refusing r k) = tt
 
 pub granted-sums : (Q : List ℕ) (s : Store) (c : Call) (n : ℕ) (o : Output) (e : Effect) → sound Q s ≡ true → decide Q (view s) c ≡ Granted n o e → PlainSums s c o e
 unfolding Of

@@ -6,21 +6,21 @@ use Rattle.preservation.proofs.Tests.{split}
 use Rattle.preservation.proofs.Tables.{Tables, fileTo, openTo}
 use Rattle.preservation.proofs.Sound.{SoundBut}
 use Rattle.preservation.proofs.Counts.{holders-at, file-used, open-used}
-use Rattle.rules.specs.Layout.{BLOCK, OPENS, PROCESSES, DESCRIPTORS, KIND, BITS, FREE, OFFSET, REFERENCES, BITS-MAX}
+use Rattle.rules.specs.Layout.{BLOCK, OPEN-FILES, PROCESSES, DESCRIPTORS, KIND, BITS, FREE, OFFSET, REFERENCES, BITS-MAX}
 
 -- the open file that a descriptor holds is in use
 pub record Held (m : Tables) (e : ℕ) : Type 0 where
-  pub small : e < OPENS
-  pub open-refs : m .opened e REFERENCES ≡ 0 → ⊥
+  pub small : e < OPEN-FILES
+  pub open-refs : m .openFiles e REFERENCES ≡ 0 → ⊥
 
 pub held : (x : ℕ) (m : Tables) (h : SoundBut x m) (p k e : ℕ) → p < PROCESSES → k < DESCRIPTORS → m .desc p k ≡ e + 1 → Held m e
 held x m h p k e hp hk q =
-    let l : e < OPENS = omega (arith, h .procs p hp .desc-most k hk) in
+    let l : e < OPEN-FILES = omega (arith, h .procs p hp .desc-most k hk) in
     record { small = l; open-refs = λ z. omega (arith, holders-at (m .desc) p k e hp hk q, h .refs e l) }
 
 -- ---- seek
 
-pub seek-sound : (x : ℕ) (m : Tables) → SoundBut x m → (e v : ℕ) → (m .opened e REFERENCES ≡ 0 → ⊥) → v ≤ BLOCK → SoundBut x (openTo e OFFSET v m)
+pub seek-sound : (x : ℕ) (m : Tables) → SoundBut x m → (e v : ℕ) → (m .openFiles e REFERENCES ≡ 0 → ⊥) → v ≤ BLOCK → SoundBut x (openTo e OFFSET v m)
 seek-sound x m h e v o l = record {
   files = h .files;
   root-kind = h .root-kind;
@@ -33,7 +33,7 @@ seek-sound x m h e v o l = record {
   depths = h .depths;
   alive = h .alive;
   open-files = λ i hi. split i e
-      (λ q t. let o′ : m .opened i REFERENCES ≡ 0 → ⊥ = rw q o in let r = h .open-files i hi in
+      (λ q t. let o′ : m .openFiles i REFERENCES ≡ 0 → ⊥ = rw q o in let r = h .open-files i hi in
       rw t (open-used o′ (r .slot-small o′) (r .plain o′) (r .mode-least o′) (r .mode-most o′) l))
       (λ q t. rw t (h .open-files i hi));
   refs = h .refs;

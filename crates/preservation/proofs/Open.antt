@@ -16,7 +16,7 @@ use Rattle.preservation.proofs.OneWord.{Held, held}
 use Rattle.preservation.proofs.Link.{loosen, tighten}
 use Rattle.preservation.proofs.Remake.{openCount-at}
 use Rattle.preservation.proofs.Create.{freed, freed-sound}
-use Rattle.rules.specs.Layout.{SLOTS, OPENS, PROCESSES, DESCRIPTORS, KIND, LINKS, PLAIN, SLOT, MODE, OFFSET, REFERENCES, USED, MODE-MAX, WORD-MAX}
+use Rattle.rules.specs.Layout.{SLOTS, OPEN-FILES, PROCESSES, DESCRIPTORS, KIND, LINKS, PLAIN, SLOT, MODE, OFFSET, REFERENCES, USED, MODE-MAX, WORD-MAX}
 
 -- an open file by its words
 abbrev pub openRow : (slot mode offset refs : ℕ) → ℕ → ℕ
@@ -24,11 +24,11 @@ openRow slot mode offset refs c = getD (slot ∷ mode ∷ offset ∷ refs ∷ []
 
 -- descriptor k of process p becomes v, open file e becomes row
 unfoldable pub handed : (p k v e : ℕ) → (ℕ → ℕ) → Tables → Tables
-handed p k v e row m = record { file = m .file; byte = m .byte; opened = upd (m .opened) e row; proc = m .proc; desc = updRow (m .desc) p k v }
+handed p k v e row m = record { file = m .file; byte = m .byte; openFiles = upd (m .openFiles) e row; proc = m .proc; desc = updRow (m .desc) p k v }
 
-pub handed-sound : (x : ℕ) (m : Tables) → SoundBut x m → (p k v e : ℕ) (row : ℕ → ℕ) → p < PROCESSES → k < DESCRIPTORS → (m .proc p USED ≡ 0 → ⊥) → v ≤ OPENS → OpenFile (col (m .file) KIND) (row SLOT) (row MODE) (row OFFSET) (row REFERENCES) →
-    All OPENS (λ i. upd (m .opened) e row i REFERENCES + ind (eqb (m .desc p k) (i + 1)) ≡ m .opened i REFERENCES + ind (eqb v (i + 1))) →
-    All SLOTS (λ s. (s ≡ x → ⊥) → openCount (col (m .opened) SLOT) (col (m .opened) REFERENCES) s ≤ openCount (col (upd (m .opened) e row) SLOT) (col (upd (m .opened) e row) REFERENCES) s) → SoundBut x (handed p k v e row m)
+pub handed-sound : (x : ℕ) (m : Tables) → SoundBut x m → (p k v e : ℕ) (row : ℕ → ℕ) → p < PROCESSES → k < DESCRIPTORS → (m .proc p USED ≡ 0 → ⊥) → v ≤ OPEN-FILES → OpenFile (col (m .file) KIND) (row SLOT) (row MODE) (row OFFSET) (row REFERENCES) →
+    All OPEN-FILES (λ i. upd (m .openFiles) e row i REFERENCES + ind (eqb (m .desc p k) (i + 1)) ≡ m .openFiles i REFERENCES + ind (eqb v (i + 1))) →
+    All SLOTS (λ s. (s ≡ x → ⊥) → openCount (col (m .openFiles) SLOT) (col (m .openFiles) REFERENCES) s ≤ openCount (col (upd (m .openFiles) e row) SLOT) (col (upd (m .openFiles) e row) REFERENCES) s) → SoundBut x (handed p k v e row m)
 unfolding handed
 handed-sound x m h p k v e row hp hk u hv w counts more = record {
   files = h .files;
@@ -48,7 +48,7 @@ handed-sound x m h p k v e row hp hk u hv w counts more = record {
         active-most = r .active-most;
         user-most = r .user-most;
         label-most = r .label-most;
-        desc-most = λ c hc. upd-elim (λ y. y ≤ OPENS) (m .desc p) k v c (λ _. hv) (λ _. s .desc-most c hc);
+        desc-most = λ c hc. upd-elim (λ y. y ≤ OPEN-FILES) (m .desc p) k v c (λ _. hv) (λ _. s .desc-most c hc);
         user-zero = r .user-zero;
         label-zero = r .label-zero;
         desc-zero = λ z. absurd (u (rw q at z));
@@ -57,21 +57,21 @@ handed-sound x m h p k v e row hp hk u hv w counts more = record {
 }
 
 -- the counts of open files, row by row
-pub openCount-row : (m : Tables) (e : ℕ) (row : ℕ → ℕ) (s : ℕ) → e < OPENS →
-    openCount (col (upd (m .opened) e row) SLOT) (col (upd (m .opened) e row) REFERENCES) s + ind (eqb (m .opened e SLOT) s && ltb 0 (m .opened e REFERENCES)) ≡ openCount (col (m .opened) SLOT) (col (m .opened) REFERENCES) s + ind (eqb (row SLOT) s && ltb 0 (row REFERENCES))
+pub openCount-row : (m : Tables) (e : ℕ) (row : ℕ → ℕ) (s : ℕ) → e < OPEN-FILES →
+    openCount (col (upd (m .openFiles) e row) SLOT) (col (upd (m .openFiles) e row) REFERENCES) s + ind (eqb (m .openFiles e SLOT) s && ltb 0 (m .openFiles e REFERENCES)) ≡ openCount (col (m .openFiles) SLOT) (col (m .openFiles) REFERENCES) s + ind (eqb (row SLOT) s && ltb 0 (row REFERENCES))
 openCount-row m e row s he =
-    rw (eq-eqb e e refl) at (openCount-change (col (m .opened) SLOT) (col (m .opened) REFERENCES) (col (upd (m .opened) e row) SLOT) (col (upd (m .opened) e row) REFERENCES) e s he (λ i q. rw (ne-eqb i e q)) (λ i q. rw (ne-eqb i e q)))
+    rw (eq-eqb e e refl) at (openCount-change (col (m .openFiles) SLOT) (col (m .openFiles) REFERENCES) (col (upd (m .openFiles) e row) SLOT) (col (upd (m .openFiles) e row) REFERENCES) e s he (λ i q. rw (ne-eqb i e q)) (λ i q. rw (ne-eqb i e q)))
 
 -- ---- open
 
-pub open-sound : (x : ℕ) (m : Tables) → SoundBut x m → (p k e s mode : ℕ) → p < PROCESSES → k < DESCRIPTORS → e < OPENS → s < SLOTS → (m .proc p USED ≡ 0 → ⊥) → m .desc p k ≡ 0 → m .opened e REFERENCES ≡ 0 → m .file s KIND ≡ PLAIN →
+pub open-sound : (x : ℕ) (m : Tables) → SoundBut x m → (p k e s mode : ℕ) → p < PROCESSES → k < DESCRIPTORS → e < OPEN-FILES → s < SLOTS → (m .proc p USED ≡ 0 → ⊥) → m .desc p k ≡ 0 → m .openFiles e REFERENCES ≡ 0 → m .file s KIND ≡ PLAIN →
     0 < mode → mode ≤ MODE-MAX → SoundBut x (handed p k (e + 1) e (openRow s mode 0 1) m)
 open-sound x m h p k e s mode hp hk he hs u d f ks m1 m4 =
     handed-sound x m h p k (e + 1) e (openRow s mode 0 1) hp hk u (omega arith) (open-used (λ z. omega arith) hs ks m1 m4 (omega arith))
     (λ i hi. split i e
     (λ q t. rw (t, q) (omega (arith, ind-eq (e + 1) (e + 1) refl, ind-ne (m .desc p k) (e + 1) (λ z. omega arith))))
     (λ q t. rw t (omega (arith, ind-ne (e + 1) (i + 1) (λ z. q (omega arith)), ind-ne (m .desc p k) (i + 1) (λ z. omega arith)))))
-    (λ y hy _. omega (arith, rw f at (openCount-row m e (openRow s mode 0 1) y he), none (eqb (m .opened e SLOT) y)))
+    (λ y hy _. omega (arith, rw f at (openCount-row m e (openRow s mode 0 1) y he), none (eqb (m .openFiles e SLOT) y)))
   where
     none : (b : Bool) → ind (b && ltb 0 0) ≡ 0
     none true = refl
@@ -83,60 +83,60 @@ module _ (m : Tables) (h : Sound m) (p k e : ℕ) (hp : p < PROCESSES) (hk : k <
   is-open : Held m e
   is-open = held SLOTS m h p k e hp hk d
 
-  but-its-file : SoundBut (m .opened e SLOT) m
-  but-its-file = loosen (m .opened e SLOT) m h
+  but-its-file : SoundBut (m .openFiles e SLOT) m
+  but-its-file = loosen (m .openFiles e SLOT) m h
 
-  pub slot-small : m .opened e SLOT < SLOTS
+  pub slot-small : m .openFiles e SLOT < SLOTS
   slot-small = h .open-files e (is-open .small) .slot-small (is-open .open-refs)
 
-  pub slot-plain : m .file (m .opened e SLOT) KIND ≡ PLAIN
+  pub slot-plain : m .file (m .openFiles e SLOT) KIND ≡ PLAIN
   slot-plain = h .open-files e (is-open .small) .plain (is-open .open-refs)
 
   false-and : (b : Bool) → ind (b && ltb 0 0) ≡ 0
   false-and true = refl
   false-and false = refl
 
-  counts : (r : ℕ → ℕ) → r REFERENCES + 1 ≡ m .opened e REFERENCES → (i : ℕ) → i < OPENS → upd (m .opened) e r i REFERENCES + ind (eqb (m .desc p k) (i + 1)) ≡ m .opened i REFERENCES + ind (eqb 0 (i + 1))
+  counts : (r : ℕ → ℕ) → r REFERENCES + 1 ≡ m .openFiles e REFERENCES → (i : ℕ) → i < OPEN-FILES → upd (m .openFiles) e r i REFERENCES + ind (eqb (m .desc p k) (i + 1)) ≡ m .openFiles i REFERENCES + ind (eqb 0 (i + 1))
   counts r z i hi = split i e
       (λ q t. rw (t, q) (omega (arith, ind-eq (m .desc p k) (e + 1) d, ind-ne 0 (e + 1) (λ y. omega arith))))
       (λ q t. rw t (omega (arith, ind-ne (m .desc p k) (i + 1) (λ y. q (omega arith)), ind-ne 0 (i + 1) (λ y. omega arith))))
 
   -- other references remain
-  pub close-keeps : 1 < m .opened e REFERENCES → Sound (handed p k 0 e (upd (m .opened e) REFERENCES (m .opened e REFERENCES - 1)) m)
+  pub close-keeps : 1 < m .openFiles e REFERENCES → Sound (handed p k 0 e (upd (m .openFiles e) REFERENCES (m .openFiles e REFERENCES - 1)) m)
   close-keeps l =
       let r = h .open-files e (is-open .small) in
-      let a : ltb 0 (m .opened e REFERENCES) ≡ true = lt-ltb 0 (m .opened e REFERENCES) (omega (arith, is-open .open-refs)) in
-      let b : ltb 0 (m .opened e REFERENCES - 1) ≡ true = lt-ltb 0 (m .opened e REFERENCES - 1) (omega arith) in
-      handed-sound SLOTS m h p k 0 e (upd (m .opened e) REFERENCES (m .opened e REFERENCES - 1)) hp hk u (omega arith)
+      let a : ltb 0 (m .openFiles e REFERENCES) ≡ true = lt-ltb 0 (m .openFiles e REFERENCES) (omega (arith, is-open .open-refs)) in
+      let b : ltb 0 (m .openFiles e REFERENCES - 1) ≡ true = lt-ltb 0 (m .openFiles e REFERENCES - 1) (omega arith) in
+      handed-sound SLOTS m h p k 0 e (upd (m .openFiles e) REFERENCES (m .openFiles e REFERENCES - 1)) hp hk u (omega arith)
       (open-used (λ z. omega arith) (r .slot-small (is-open .open-refs)) (r .plain (is-open .open-refs)) (r .mode-least (is-open .open-refs)) (r .mode-most (is-open .open-refs)) (r .offset-most (is-open .open-refs)))
-      (counts (upd (m .opened e) REFERENCES (m .opened e REFERENCES - 1)) (omega arith))
-      (λ s hs n. omega (arith, rw (a, b) at (openCount-row m e (upd (m .opened e) REFERENCES (m .opened e REFERENCES - 1)) s (is-open .small))))
+      (counts (upd (m .openFiles e) REFERENCES (m .openFiles e REFERENCES - 1)) (omega arith))
+      (λ s hs n. omega (arith, rw (a, b) at (openCount-row m e (upd (m .openFiles e) REFERENCES (m .openFiles e REFERENCES - 1)) s (is-open .small))))
 
   -- the open file goes: sound, but for the file that it was on
-  last : m .opened e REFERENCES ≡ 1 → SoundBut (m .opened e SLOT) (handed p k 0 e (λ _. 0) m)
-  last q = handed-sound (m .opened e SLOT) m but-its-file p k 0 e (λ _. 0) hp hk u (omega arith)
+  last : m .openFiles e REFERENCES ≡ 1 → SoundBut (m .openFiles e SLOT) (handed p k 0 e (λ _. 0) m)
+  last q = handed-sound (m .openFiles e SLOT) m but-its-file p k 0 e (λ _. 0) hp hk u (omega arith)
       (record { slot-zero = λ _. refl; mode-zero = λ _. refl; offset-zero = λ _. refl; slot-small = λ n. absurd (n refl); plain = λ n. absurd (n refl); mode-least = λ n. absurd (n refl); mode-most = λ n. absurd (n refl); offset-most = λ n. absurd (n refl) })
       (counts (λ _. 0) (omega arith))
-      (λ s hs n. omega (arith, rw (ne-eqb (m .opened e SLOT) s (λ z. n (sym z))) at (openCount-row m e (λ _. 0) s (is-open .small)), false-and (eqb 0 s)))
+      (λ s hs n. omega (arith, rw (ne-eqb (m .openFiles e SLOT) s (λ z. n (sym z))) at (openCount-row m e (λ _. 0) s (is-open .small)), false-and (eqb 0 s)))
 
   -- the file has a name
-  pub close-named : m .opened e REFERENCES ≡ 1 → 0 < m .file (m .opened e SLOT) LINKS → Sound (handed p k 0 e (λ _. 0) m)
-  close-named q l = tighten (m .opened e SLOT) (handed p k 0 e (λ _. 0) m) (last q)
+  pub close-named : m .openFiles e REFERENCES ≡ 1 → 0 < m .file (m .openFiles e SLOT) LINKS → Sound (handed p k 0 e (λ _. 0) m)
+  close-named q l = tighten (m .openFiles e SLOT) (handed p k 0 e (λ _. 0) m) (last q)
       (unfold handed in (λ z. absurd (omega (arith, z, slot-plain)))) (unfold handed in (λ _. omega arith))
 
   -- the file has another open file i
-  pub close-open : m .opened e REFERENCES ≡ 1 → (i : ℕ) → i < OPENS → (i ≡ e → ⊥) → (m .opened i REFERENCES ≡ 0 → ⊥) → m .opened i SLOT ≡ m .opened e SLOT → Sound (handed p k 0 e (λ _. 0) m)
-  close-open q i hi n r s = tighten (m .opened e SLOT) (handed p k 0 e (λ _. 0) m) (last q)
+  pub close-open : m .openFiles e REFERENCES ≡ 1 → (i : ℕ) → i < OPEN-FILES → (i ≡ e → ⊥) → (m .openFiles i REFERENCES ≡ 0 → ⊥) → m .openFiles i SLOT ≡ m .openFiles e SLOT → Sound (handed p k 0 e (λ _. 0) m)
+  close-open q i hi n r s = tighten (m .openFiles e SLOT) (handed p k 0 e (λ _. 0) m) (last q)
       (unfold handed in (λ z. absurd (omega (arith, z, slot-plain)))) (unfold handed in (λ _. omega (arith, other)))
     where
-      other : 0 < openCount (col (upd (m .opened) e (λ _. 0)) SLOT) (col (upd (m .opened) e (λ _. 0)) REFERENCES) (m .opened e SLOT)
-      other = openCount-at (col (upd (m .opened) e (λ _. 0)) SLOT) (col (upd (m .opened) e (λ _. 0)) REFERENCES) i (m .opened e SLOT) hi (rw (ne-eqb i e n) s) (rw (ne-eqb i e n) r)
+      other : 0 < openCount (col (upd (m .openFiles) e (λ _. 0)) SLOT) (col (upd (m .openFiles) e (λ _. 0)) REFERENCES) (m .openFiles e SLOT)
+      other = openCount-at (col (upd (m .openFiles) e (λ _. 0)) SLOT) (col (upd (m .openFiles) e (λ _. 0)) REFERENCES) i (m .openFiles e SLOT) hi (rw (ne-eqb i e n) s) (rw (ne-eqb i e n) r)
 
   -- the file has neither, and goes
-  pub close-frees : m .opened e REFERENCES ≡ 1 → m .file (m .opened e SLOT) LINKS ≡ 0 → ((i : ℕ) → i < OPENS → (i ≡ e → ⊥) → (m .opened i REFERENCES ≡ 0 → ⊥) → m .opened i SLOT ≡ m .opened e SLOT → ⊥) →
-      (t : ℕ) → t ≤ WORD-MAX → Sound (freed (m .opened e SLOT) t (handed p k 0 e (λ _. 0) m))
+  pub close-frees : m .openFiles e REFERENCES ≡ 1 → m .file (m .openFiles e SLOT) LINKS ≡ 0 → ((i : ℕ) → i < OPEN-FILES → (i ≡ e → ⊥) → (m .openFiles i REFERENCES ≡ 0 → ⊥) → m .openFiles i SLOT ≡ m .openFiles e SLOT → ⊥) →
+      (t : ℕ) → t ≤ WORD-MAX → Sound (freed (m .openFiles e SLOT) t (handed p k 0 e (λ _. 0) m))
   unfolding handed
-  close-frees q l none t ht = freed-sound (handed p k 0 e (λ _. 0) m) (m .opened e SLOT) t (last q) (record {
+  close-frees q l none t ht = freed-sound (handed p k 0 e (λ _. 0) m) (m .openFiles e SLOT) t (last q) (record {
     small = slot-small;
     not-root = λ z. omega (arith, h .root-kind, rw z at slot-plain);
     no-links = l;

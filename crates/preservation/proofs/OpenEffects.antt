@@ -8,10 +8,10 @@ use native.Mathlib.Decide.{decLt}
 use lib.Dec.{ltb}
 use lib.ListN.{length, getD}
 use borrow.Author.Tests.{eq-eqb, lt-ltb, le-ltb}
-use Rattle.rules.specs.Layout.{SLOTS, BLOCK, OPENS, PROCESSES, DESCRIPTORS, BITS-MAX, LABEL-MAX, MODE-MAX}
-use Rattle.rules.specs.Layout.{KIND, OWNER, BITS, LABEL, LENGTH, LINKS, VERSION, SLOT, OFFSET, REFERENCES, USED, DOMAIN, FREE, PLAIN}
+use Rattle.rules.specs.Layout.{SLOTS, BLOCK, OPEN-FILES, PROCESSES, DESCRIPTORS, BITS-MAX, LABEL-MAX, MODE-MAX}
+use Rattle.rules.specs.Layout.{KIND, OWNER, BITS, LABEL, LENGTH, LINKS, VERSION, SLOT, OFFSET, REFERENCES, USED, PROCESS-LABEL, FREE, PLAIN}
 use Rattle.rules.specs.Store as rules
-use Rattle.rules.specs.Store.{Store, change, view, up, zeros, applyAll, fileWord, openWord, procWord}
+use Rattle.rules.specs.Store.{Store, change, view, ofdOf, up, zeros, applyAll, fileWord, openWord, procWord}
 use Rattle.rules.specs.DecidePaths.{truncated}
 use Rattle.rules.specs.Effects.{words, openChanges, truncateChanges, duplicateChanges, storeChanges}
 use Rattle.rules.specs.declared.ids.Slot.{Slot}
@@ -26,7 +26,7 @@ use Rattle.preservation.proofs.Words.{up-is, up-most, references-most}
 use Rattle.preservation.proofs.OneWord.{held, Held, seek-sound, bits-sound}
 use Rattle.preservation.proofs.Remake.{remade}
 use Rattle.preservation.proofs.Create.{fileRow}
-use Rattle.preservation.proofs.Plain.{wrote, wrote-sound, cut-sound}
+use Rattle.preservation.proofs.Plain.{wrote, wrote-sound, truncated-sound}
 use Rattle.preservation.proofs.Open.{openRow, handed, open-sound}
 use Rattle.preservation.proofs.Processes.{shared, shared-sound, execute-sound}
 use Rattle.preservation.proofs.FlatList.{overRow, upd-twice, length-zeros, getD-zeros}
@@ -55,26 +55,26 @@ pub record Opens (m : Tables) (p : Pid) (n : NewOpen) : Type 0 where
   pub caller : Caller m p
   pub fd-small : n .fd .0 < DESCRIPTORS
   pub fd-free : m .desc (p .0) (n .fd .0) ≡ 0
-  pub ofd-small : n .ofd < OPENS
-  pub ofd-free : m .opened (n .ofd) REFERENCES ≡ 0
+  pub ofd-small : n .ofd .0 < OPEN-FILES
+  pub ofd-free : m .openFiles (n .ofd .0) REFERENCES ≡ 0
   pub slot-small : n .slot .0 < SLOTS
   pub plain : m .file (n .slot .0) KIND ≡ PLAIN
   pub mode-least : 0 < n .mode .0
   pub mode-most : n .mode .0 ≤ MODE-MAX
 
 abbrev pub withOpen : Pid → NewOpen → Tables → Tables
-withOpen p n m = handed (p .0) (n .fd .0) (n .ofd + 1) (n .ofd) (openRow (n .slot .0) (n .mode .0) 0 1) m
+withOpen p n m = handed (p .0) (n .fd .0) (n .ofd .0 + 1) (n .ofd .0) (openRow (n .slot .0) (n .mode .0) 0 1) m
 
 pub open-leaves : (s : Store) → SoundStore s → (p : Pid) (n : NewOpen) → Opens (tablesOf s) p n → Leaves (applyAll (openChanges p n) s) (withOpen p n (tablesOf s))
 unfolding openChanges applyAll handed
 open-leaves s h p n o = record {
-  has = rw (up-is (n .ofd) (omega (arith, o .ofd-small)))
-      (has-descTo (has-openTo (its-tables s h) (n .ofd) (n .slot .0 ∷ n .mode .0 ∷ 0 ∷ 1 ∷ []) (o .ofd-small) refl) (p .0) (n .fd .0) (n .ofd + 1) (o .caller .small) (o .fd-small));
-  sound = open-sound SLOTS (tablesOf s) (h .tables) (p .0) (n .fd .0) (n .ofd) (n .slot .0) (n .mode .0) (o .caller .small) (o .fd-small) (o .ofd-small) (o .slot-small)
+  has = rw (up-is (n .ofd .0) (omega (arith, o .ofd-small)))
+      (has-descTo (has-openTo (its-tables s h) (n .ofd .0) (n .slot .0 ∷ n .mode .0 ∷ 0 ∷ 1 ∷ []) (o .ofd-small) refl) (p .0) (n .fd .0) (n .ofd .0 + 1) (o .caller .small) (o .fd-small));
+  sound = open-sound SLOTS (tablesOf s) (h .tables) (p .0) (n .fd .0) (n .ofd .0) (n .slot .0) (n .mode .0) (o .caller .small) (o .fd-small) (o .ofd-small) (o .slot-small)
       (λ z. omega (arith, o .caller .used, z)) (o .fd-free) (o .ofd-free) (o .plain) (o .mode-least) (o .mode-most);
 }
 
--- ---- open with a cut
+-- ---- an open that truncates
 
 abbrev pub cutTo : Slot → Tables → Tables → Tables
 cutTo s m n = remade (s .0) (fileRow PLAIN (m .file (s .0) OWNER) (m .file (s .0) BITS) (m .file (s .0) LABEL) 0 (m .file (s .0) LINKS) (up (m .file (s .0) VERSION))) (λ _. 0) n
@@ -84,7 +84,7 @@ pub truncate-leaves : (s : Store) → SoundStore s → (p : Pid) (n : NewOpen) �
 unfolding truncateChanges openChanges applyAll handed tablesOf
 truncate-leaves s h p n o = record {
   has = has-clearTo (w .has) (n .slot .0) (words (truncated (view s .tree .file) (n .slot))) (o .slot-small) refl;
-  sound = cut-sound SLOTS (withOpen p n (tablesOf s)) (w .sound) (n .slot .0) (up (tablesOf s .file (n .slot .0) VERSION)) (o .plain) (up-most (tablesOf s .file (n .slot .0) VERSION));
+  sound = truncated-sound SLOTS (withOpen p n (tablesOf s)) (w .sound) (n .slot .0) (up (tablesOf s .file (n .slot .0) VERSION)) (o .plain) (up-most (tablesOf s .file (n .slot .0) VERSION));
 }
   where
     w : Leaves (applyAll (openChanges p n) s) (withOpen p n (tablesOf s))
@@ -112,11 +112,11 @@ move-leaves s h e v o l = record {
 -- ---- duplicate
 
 pub duplicate-leaves : (s : Store) → SoundStore s → (p : Pid) (i j : Fd) (e : ℕ) → Holds (tablesOf s) p i e → j .0 < DESCRIPTORS → tablesOf s .desc (p .0) (j .0) ≡ 0 →
-    Leaves (applyAll (duplicateChanges p j e (up (tablesOf s .opened e REFERENCES))) s) (shared (p .0) (j .0) e (tablesOf s))
+    Leaves (applyAll (duplicateChanges p j (ofdOf e) (up (tablesOf s .openFiles e REFERENCES))) s) (shared (p .0) (j .0) e (tablesOf s))
 unfolding duplicateChanges applyAll shared handed
 duplicate-leaves s h p i j e o hj f = record {
-  has = rw (up-is e (omega (arith, u .small)), up-is (tablesOf s .opened e REFERENCES) (omega (arith, references-most SLOTS (tablesOf s) (h .tables) e (u .small))))
-      (has-openRow (has-descTo (its-tables s h) (p .0) (j .0) (e + 1) (o .caller .small) hj) e REFERENCES (tablesOf s .opened e REFERENCES + 1) (u .small) (omega arith));
+  has = rw (up-is e (omega (arith, u .small)), up-is (tablesOf s .openFiles e REFERENCES) (omega (arith, references-most SLOTS (tablesOf s) (h .tables) e (u .small))))
+      (has-openRow (has-descTo (its-tables s h) (p .0) (j .0) (e + 1) (o .caller .small) hj) e REFERENCES (tablesOf s .openFiles e REFERENCES + 1) (u .small) (omega arith));
   sound = shared-sound SLOTS (tablesOf s) (h .tables) (p .0) (i .0) (p .0) (j .0) e (o .caller .small) (o .fd-small) (o .caller .small) hj (λ z. omega (arith, o .caller .used, z)) (o .there) f;
 }
   where
@@ -134,18 +134,18 @@ bits-leaves s h i v hi u l = record {
 
 -- ---- execute
 
-pub execute-leaves : (s : Store) → SoundStore s → (p : Pid) (l : ℕ) → Caller (tablesOf s) p → l ≤ LABEL-MAX → Leaves (applyAll (procWord (p .0) DOMAIN l ∷ []) s) (procTo (p .0) DOMAIN l (tablesOf s))
+pub execute-leaves : (s : Store) → SoundStore s → (p : Pid) (l : ℕ) → Caller (tablesOf s) p → l ≤ LABEL-MAX → Leaves (applyAll (procWord (p .0) PROCESS-LABEL l ∷ []) s) (procTo (p .0) PROCESS-LABEL l (tablesOf s))
 unfolding applyAll
 execute-leaves s h p l o hl = record {
-  has = has-procWord (its-tables s h) (p .0) DOMAIN l (o .small) (omega arith);
+  has = has-procWord (its-tables s h) (p .0) PROCESS-LABEL l (o .small) (omega arith);
   sound = execute-sound SLOTS (tablesOf s) (h .tables) (p .0) l (o .small) (o .used) hl;
 }
 
 -- ---- write: the gap filled with 0, then the bytes
 
 pub record Writes (m : Tables) (bytes : List ℕ) (w : Placement) : Type 0 where
-  pub ofd : Held m (w .ofd)
-  pub on : m .opened (w .ofd) SLOT ≡ w .slot .0
+  pub ofd : Held m (w .ofd .0)
+  pub on : m .openFiles (w .ofd .0) SLOT ≡ w .slot .0
   pub end-is : w .end ≡ m .file (w .slot .0) LENGTH
   pub gap-is : w .gap ≡ w .at - w .end
   pub fits : w .at + length bytes ≤ BLOCK
@@ -157,13 +157,13 @@ abbrev pub written : Tables → List ℕ → Placement → ℕ → ℕ
 written m bytes w = overRow (overRow (m .byte (w .slot .0)) (w .end) (zeros (w .gap))) (w .at) bytes
 
 pub write-leaves : (s : Store) → SoundStore s → (bytes : List ℕ) (w : Placement) → Writes (tablesOf s) bytes w →
-    Leaves (applyAll (storeChanges bytes w) s) (openTo (w .ofd) OFFSET (w .offset) (wrote (w .slot .0) (written (tablesOf s) bytes w) (w .length) (w .version) (tablesOf s)))
+    Leaves (applyAll (storeChanges bytes w) s) (openTo (w .ofd .0) OFFSET (w .offset) (wrote (w .slot .0) (written (tablesOf s) bytes w) (w .length) (w .version) (tablesOf s)))
 unfolding storeChanges applyAll wrote
 write-leaves s h bytes w o = record {
-  has = has-openWord (has-fileWord (has-fileWord (record { sized = b .sized; is = b .is ∙ once }) (w .slot .0) LENGTH (w .length) small (omega arith)) (w .slot .0) VERSION (w .version) small (omega arith)) (w .ofd) OFFSET (w .offset) (o .ofd .small) (omega arith);
+  has = has-openWord (has-fileWord (has-fileWord (record { sized = b .sized; is = b .is ∙ once }) (w .slot .0) LENGTH (w .length) small (omega arith)) (w .slot .0) VERSION (w .version) small (omega arith)) (w .ofd .0) OFFSET (w .offset) (o .ofd .small) (omega arith);
   sound = seek-sound SLOTS (wrote (w .slot .0) g (w .length) (w .version) m)
       (wrote-sound SLOTS m (h .tables) (w .slot .0) g (w .length) (w .version) plain (omega (arith, o .length-is, o .fits, end-most)) past (rw (o .version-is) (up-most (m .file (w .slot .0) VERSION))))
-      (w .ofd) (w .offset) (o .ofd .open-refs) (omega (arith, o .offset-is, o .fits));
+      (w .ofd .0) (w .offset) (o .ofd .open-refs) (omega (arith, o .offset-is, o .fits));
 }
   where
     m : Tables
@@ -173,10 +173,10 @@ write-leaves s h bytes w o = record {
     g = written (tablesOf s) bytes w
 
     small : w .slot .0 < SLOTS
-    small = rw (o .on) at (h .tables .open-files (w .ofd) (o .ofd .small) .slot-small (o .ofd .open-refs))
+    small = rw (o .on) at (h .tables .open-files (w .ofd .0) (o .ofd .small) .slot-small (o .ofd .open-refs))
 
     plain : tablesOf s .file (w .slot .0) KIND ≡ PLAIN
-    plain = rw (o .on) at (h .tables .open-files (w .ofd) (o .ofd .small) .plain (o .ofd .open-refs))
+    plain = rw (o .on) at (h .tables .open-files (w .ofd .0) (o .ofd .small) .plain (o .ofd .open-refs))
 
     end-most : w .end ≤ BLOCK
     end-most = rw (o .end-is) (h .tables .blocks (w .slot .0) small .length-most (λ z. omega (arith, plain, z)))
@@ -191,7 +191,7 @@ write-leaves s h bytes w o = record {
 
     once : bytesTo (w .slot .0) (overRow (upd (tablesOf s .byte) (w .slot .0) (overRow (tablesOf s .byte (w .slot .0)) (w .end) (zeros (w .gap))) (w .slot .0)) (w .at) bytes)
         (bytesTo (w .slot .0) (overRow (tablesOf s .byte (w .slot .0)) (w .end) (zeros (w .gap))) (tablesOf s)) ≡ bytesTo (w .slot .0) (written (tablesOf s) bytes w) (tablesOf s)
-    once = rw (eq-eqb (w .slot .0) (w .slot .0) refl) (ap (λ (f : ℕ → ℕ → ℕ). record { file = tablesOf s .file; byte = f; opened = tablesOf s .opened; proc = tablesOf s .proc; desc = tablesOf s .desc })
+    once = rw (eq-eqb (w .slot .0) (w .slot .0) refl) (ap (λ (f : ℕ → ℕ → ℕ). record { file = tablesOf s .file; byte = f; openFiles = tablesOf s .openFiles; proc = tablesOf s .proc; desc = tablesOf s .desc })
         (upd-twice (tablesOf s .byte) (w .slot .0) (overRow (tablesOf s .byte (w .slot .0)) (w .end) (zeros (w .gap))) (written (tablesOf s) bytes w)))
 
     past : (k : ℕ) → k < BLOCK → w .length ≤ k → written (tablesOf s) bytes w k ≡ 0

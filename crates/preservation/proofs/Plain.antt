@@ -1,4 +1,4 @@
--- A plain file's bytes, length and version change: write, and cut.
+-- A plain file's bytes, length and version change: write, and truncation.
 use mathlib.Core.Path.{_≡_, refl}
 use Prim.Native.Nat.{ℕ, _-_, _≤_, _<_}
 use native.Mathlib.Omega.{arith}
@@ -48,12 +48,12 @@ wrote-sound x m h s g z t k hz g0 ht = record {
     same : (n i j : ℕ) → i < SLOTS → j < DIRENTS → naming (col (m .file) KIND) (direntRow (upd (m .byte) s g)) n i j ≡ naming (col (m .file) KIND) (direntRow (m .byte)) n i j
     same n i j _ _ = split i s (λ q e. rw (ne-eqb (m .file i KIND) DIRECTORY (plain i q))) (λ q e. rw e)
 
--- ---- cut: a record with length 0 and no bytes
+-- ---- truncated: a record with length 0 and no bytes
 
-pub cut-sound : (x : ℕ) (m : Tables) → SoundBut x m → (s t : ℕ) → m .file s KIND ≡ PLAIN → t ≤ WORD-MAX →
+pub truncated-sound : (x : ℕ) (m : Tables) → SoundBut x m → (s t : ℕ) → m .file s KIND ≡ PLAIN → t ≤ WORD-MAX →
     SoundBut x (remade s (fileRow PLAIN (m .file s OWNER) (m .file s BITS) (m .file s LABEL) 0 (m .file s LINKS) t) (λ _. 0) m)
 unfolding remade
-cut-sound x m h s t k ht = unfold wrote in same-columns x (wrote s (λ _. 0) 0 t m) (upd (m .file) s (fileRow PLAIN (m .file s OWNER) (m .file s BITS) (m .file s LABEL) 0 (m .file s LINKS) t)) (record {
+truncated-sound x m h s t k ht = unfold wrote in same-columns x (wrote s (λ _. 0) 0 t m) (upd (m .file) s (fileRow PLAIN (m .file s OWNER) (m .file s BITS) (m .file s LABEL) 0 (m .file s LINKS) t)) (record {
   kind = λ i. split i s (λ q e. rw (e, q) k) (λ q e. rw e);
   owner = λ i. split i s (λ q e. rw (e, q)) (λ q e. rw e);
   bits = λ i. split i s (λ q e. rw (e, q)) (λ q e. rw e);

@@ -2,16 +2,17 @@
 use mathlib.Core.Path.{_≡_, refl, ap}
 use mathlib.Core.Bool.{true}
 use mathlib.Core.List.{List, [], _∷_}
-use Prim.Native.Nat.{ℕ, _+_, _-_, _≤_, max}
+use Prim.Native.Nat.{ℕ, _+_, _-_, _≤_, _<_, max}
 use native.Mathlib.Omega.{arith}
 use lib.ListN.{length}
-use Rattle.rules.specs.Layout.{BLOCK, LENGTH, SLOT, OFFSET, USER, DOMAIN, USER-MAX, LABEL-MAX}
-use Rattle.rules.specs.Store.{Store, view, slot, subjectOf, plus}
+use Rattle.rules.specs.Layout.{BLOCK, PROCESSES, LENGTH, SLOT, OFFSET, USED, USER, PROCESS-LABEL, USER-MAX, LABEL-MAX}
+use Rattle.rules.specs.Store.{Store, view, slot, ofdOf, subjectOf, applyAll, plus}
 use Rattle.rules.specs.Sound.{sound}
 use Rattle.rules.specs.Calls.{Call}
 use Rattle.rules.specs.Decide.{placement, decide}
-use Rattle.rules.specs.Effects.{carryOut}
+use Rattle.rules.specs.Effects.{sharedAll, forkChanges, carryOut}
 use Rattle.rules.specs.Step.{storeAfter, outcomeOf, act, step, final}
+use Rattle.rules.specs.declared.ids.Pid.{Pid}
 use Rattle.rules.specs.declared.decision.Output.{Output}
 use Rattle.rules.specs.declared.decision.Effect.{Effect}
 use Rattle.rules.specs.declared.decision.Decision.{Decision}
@@ -22,12 +23,12 @@ use Rattle.preservation.proofs.SoundStore.{SoundStore, means-sound}
 use Rattle.preservation.proofs.OpenEffects.{Caller, Writes, leaves-sound, open-leaves, truncate-leaves, move-leaves, duplicate-leaves, bits-leaves, execute-leaves, write-leaves}
 use Rattle.preservation.proofs.NameEffects.{link-leaves, create-leaves, unlink-leaves, unnaming-is, remove-leaves}
 use Rattle.preservation.proofs.CloseEffects.{close-leaves, releasing-is, exit-leaves}
-use Rattle.preservation.proofs.ForkEffects.{fork-leaves}
+use Rattle.preservation.proofs.ForkEffects.{Forks, fork-leaves}
 use Rattle.preservation.proofs.Granted.{Fit, granting, refusing, unlinking, Granting, nothing, opens, truncates, creates, unlinks, removes, links, changesBits, closes, stores, reads, seeks, duplicates, forks, exits, executes}
 use Rattle.preservation.proofs.Decided.{decide-fit}
 
 module _ (s : Store) (h : SoundStore s) (c : Call) where
-  pub placed-well : (e at : ℕ) → Held (tablesOf s) e → at + length (c .bytes) ≤ BLOCK → Writes (tablesOf s) (c .bytes) (placement (view s .tree .file) e (slot (view s .opened e SLOT)) at (length (c .bytes)))
+  pub placed-well : (e at : ℕ) → Held (tablesOf s) e → at + length (c .«data») ≤ BLOCK → Writes (tablesOf s) (c .«data») (placement (view s .tree .file) (ofdOf e) (slot (view s .openFiles e SLOT)) at (length (c .«data»)))
   unfolding tablesOf
   placed-well e at o l = record {
     ofd = o;
@@ -35,18 +36,26 @@ module _ (s : Store) (h : SoundStore s) (c : Call) where
     end-is = refl;
     gap-is = refl;
     fits = l;
-    length-is = ap (max (view s .tree .file (view s .opened e SLOT) LENGTH)) (plus-is at (length (c .bytes)) (omega arith));
+    length-is = ap (max (view s .tree .file (view s .openFiles e SLOT) LENGTH)) (plus-is at (length (c .«data»)) (omega arith));
     version-is = refl;
-    offset-is = plus-is at (length (c .bytes)) (omega arith);
+    offset-is = plus-is at (length (c .«data»)) (omega arith);
   }
 
   pub caller-user : Caller (tablesOf s) (c .process) → view s .proc (c .process .0) USER ≤ USER-MAX
   unfolding tablesOf
   caller-user u = h .tables .procs (c .process .0) (u .small) .user-most
 
-  pub caller-label : Caller (tablesOf s) (c .process) → view s .proc (c .process .0) DOMAIN ≤ LABEL-MAX
+  pub caller-label : Caller (tablesOf s) (c .process) → view s .proc (c .process .0) PROCESS-LABEL ≤ LABEL-MAX
   unfolding tablesOf
   caller-label u = h .tables .procs (c .process .0) (u .small) .label-most
+
+  pub read-fits : (e n : ℕ) → tablesOf s .openFiles e OFFSET + n ≤ BLOCK → plus (view s .openFiles e OFFSET) n ≤ BLOCK
+  unfolding tablesOf
+  read-fits e n l = rw (plus-is (view s .openFiles e OFFSET) n (omega (arith, l))) l
+
+  pub forking : (q : Pid) (u : Caller (tablesOf s) (c .process)) (hq : q .0 < PROCESSES) → tablesOf s .proc (q .0) USED ≡ 0 → let who = subjectOf (view s .proc) (c .process) in
+      Forks (c .process) q (who .user) (who .label) (u .small) hq s (applyAll (forkChanges q (who .user) (who .label)) (sharedAll (c .process) q s))
+  forking q u hq f = fork-leaves (c .process) q (subjectOf (view s .proc) (c .process) .user) (subjectOf (view s .proc) (c .process) .label) (u .small) hq s h f (caller-user u) (caller-label u)
 
   pub effect-keeps : {n : ℕ} {o : Output} {e : Effect} → Granting s h c n o e → SoundStore (carryOut c e s)
   unfolding carryOut
@@ -59,15 +68,15 @@ module _ (s : Store) (h : SoundStore s) (c : Call) where
   effect-keeps (links d i y n hy k) = leaves-sound (link-leaves s h _ d i y n hy k)
   effect-keeps (changesBits y b hy k l o) = leaves-sound (bits-leaves s h (y .0) (b .0) hy k l)
   effect-keeps (closes i u hi) = close-leaves s h (c .process) i (u .small) hi (u .used) (releasing-is s h (c .process) i (u .small) hi) .sound
-  effect-keeps (stores e at o l) = leaves-sound (write-leaves s h (c .bytes) _ (placed-well e at o l))
-  effect-keeps (reads e n o l) = unfold tablesOf in leaves-sound (move-leaves s h e (plus (view s .opened e OFFSET) n) o (rw (plus-is (view s .opened e OFFSET) n (omega (arith, l))) l))
+  effect-keeps (stores e at o l) = leaves-sound (write-leaves s h (c .«data») _ (placed-well e at o l))
+  effect-keeps (reads e n o l) = leaves-sound (move-leaves s h e _ o (read-fits e n l))
   effect-keeps (seeks e n o l) = leaves-sound (move-leaves s h e n o l)
   effect-keeps (duplicates i j e o hj f) = unfold tablesOf in leaves-sound (duplicate-leaves s h (c .process) i j e o hj f)
-  effect-keeps (forks q u hq f) = leaves-sound (fork-leaves (c .process) q (subjectOf (view s .proc) (c .process) .user) (subjectOf (view s .proc) (c .process) .label) (u .small) hq s h f (caller-user u) (caller-label u) .leaves)
+  effect-keeps (forks q u hq f) = leaves-sound (forking q u hq f .leaves)
   effect-keeps (exits u) = exit-leaves s h (c .process) (u .small) (u .used) .sound
   effect-keeps (executes l u hl) = leaves-sound (execute-leaves s h (c .process) l u hl)
 
-  after-sound : {d : Decision} → Fit (Granting s h c) d → SoundStore (storeAfter s c d)
+  pub after-sound : {d : Decision} → Fit (Granting s h c) d → SoundStore (storeAfter s c d)
   unfolding storeAfter
   after-sound (granting n o e g) = effect-keeps g
   after-sound (refusing r k) = h

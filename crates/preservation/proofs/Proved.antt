@@ -1,10 +1,13 @@
 -- The claims hold.
 use Rattle.preservation.specs.Claims.{Claims}
+use Rattle.preservation.proofs.StoreChanges.{tablesOf}
 use Rattle.preservation.proofs.SoundStore.{means-sound}
 use Rattle.preservation.proofs.Preserved.{step-sound, final-sound}
+use Rattle.preservation.proofs.TestedOnce.{tested-call, tested-once}
 use Rattle.preservation.proofs.RefusedLeaves.{refused-store, refused-buffer}
-use Rattle.preservation.proofs.BitsByOwner.{bits-by-owner}
-use Rattle.preservation.proofs.OpenStays.{open-stays, unlink-keeps-open}
+use Rattle.preservation.proofs.BitsChange.{bits-by-call}
+use Rattle.preservation.proofs.OpenStays.{open-plain, open-stays, unlink-keeps-open}
+use Rattle.preservation.proofs.Unwritten.{changed-by-write, open-unwritten}
 use Rattle.preservation.proofs.NoWrap.{length-goes-up, links-go-up, references-go-up, offset-goes-on, granted-sums}
 use Rattle.preservation.proofs.Sizes.{other-size}
 
@@ -12,13 +15,18 @@ pub claims : Claims
 claims = record {
   call-keeps-sound = step-sound;
   calls-keep-sound = final-sound;
+  tested-call = tested-call;
+  tested-once = tested-once;
   refused-leaves-store = refused-store;
   refused-leaves-buffer = refused-buffer;
-  bits-by-owner = bits-by-owner;
+  bits-by-owner = λ Q s c f a b d. bits-by-call Q s c f a b d .1 .1;
+  bits-by-call-8 = λ Q s c f a b d. let w = bits-by-call Q s c f a b d in (w .1 .0, w .0);
+  open-plain = λ Q s f e. unfold tablesOf in open-plain s (means-sound Q s .holds e .1) f;
   open-stays = open-stays;
-  unlink-leaves-kind = λ Q s c f e q t. unlink-keeps-open Q s c f e q t .kind;
-  unlink-leaves-length = λ Q s c f e q t. unlink-keeps-open Q s c f e q t .length;
-  unlink-leaves-bytes = λ Q s c f e q t. unlink-keeps-open Q s c f e q t .bytes;
+  unlink-leaves-record = λ Q s c f k q t. unlink-keeps-open Q s c f q t .words k;
+  unlink-leaves-bytes = λ Q s c f q t. unlink-keeps-open Q s c f q t .bytes;
+  changed-by-write = changed-by-write;
+  open-unwritten = open-unwritten;
   length-up = λ Q s f e. length-goes-up s (means-sound Q s .holds e .1) f;
   links-up = λ Q s f e. links-go-up s (means-sound Q s .holds e .1) f;
   references-up = λ Q s i e. references-go-up s (means-sound Q s .holds e .1) i;

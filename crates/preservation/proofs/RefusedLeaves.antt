@@ -1,18 +1,16 @@
 -- A refused call leaves the store and the buffer as they were.
 use mathlib.Core.Path.{_≡_, refl}
-use mathlib.Core.Bool.{Bool, true, false, cond}
 use mathlib.Core.List.{List}
 use Prim.Native.Nat.{ℕ}
 use Rattle.rules.specs.Store.{Store, view}
 use Rattle.rules.specs.Refusals.{GRANTED}
-use Rattle.rules.specs.Sound.{sound}
 use Rattle.rules.specs.Calls.{Call}
 use Rattle.rules.specs.Decide.{decide}
-use Rattle.rules.specs.Step.{refusedReply, replyTo, storeAfter, outcomeOf, act, step}
-use Rattle.rules.specs.declared.refusal.Refusal.the-variants.{Unsound}
+use Rattle.rules.specs.Step.{replyTo, storeAfter, outcomeOf, act, step}
 use Rattle.rules.specs.declared.decision.Decision.{Decision}
 use Rattle.rules.specs.declared.decision.Decision.the-variants.{Refused, Granted}
 use Rattle.preservation.specs.Claims.{IsGranted}
+use Rattle.preservation.proofs.TestedOnce.{step-by}
 
 decided-store : (s : Store) (c : Call) (d : Decision) → (outcomeOf s c d .reply .refusal ≡ GRANTED → ⊥) → outcomeOf s c d .store ≡ s
 unfolding outcomeOf replyTo storeAfter
@@ -26,17 +24,7 @@ decided-buffer s c (Granted n o e) f = absurd (f refl)
 
 module _ (Q : List ℕ) (s : Store) (c : Call) where
   pub refused-store : (IsGranted Q s c → ⊥) → step Q s c .store ≡ s
-  unfolding step act
-  refused-store = by (sound Q s)
-    where
-      by : (b : Bool) → ((cond b (act Q s c) (record { reply = refusedReply Unsound 0 c; store = s })) .reply .refusal ≡ GRANTED → ⊥) → (cond b (act Q s c) (record { reply = refusedReply Unsound 0 c; store = s })) .store ≡ s
-      by true = unfold act in decided-store s c (decide Q (view s) c)
-      by false = λ _. refl
+  refused-store = step-by Q s c (λ x. (x .reply .refusal ≡ GRANTED → ⊥) → x .store ≡ s) (λ _. unfold act in decided-store s c (decide Q (view s) c)) (λ _ _. refl)
 
   pub refused-buffer : (IsGranted Q s c → ⊥) → step Q s c .reply .buffer ≡ c .buffer
-  unfolding step act
-  refused-buffer = by (sound Q s)
-    where
-      by : (b : Bool) → ((cond b (act Q s c) (record { reply = refusedReply Unsound 0 c; store = s })) .reply .refusal ≡ GRANTED → ⊥) → (cond b (act Q s c) (record { reply = refusedReply Unsound 0 c; store = s })) .reply .buffer ≡ c .buffer
-      by true = unfold act in decided-buffer s c (decide Q (view s) c)
-      by false = λ _. refl
+  refused-buffer = step-by Q s c (λ x. (x .reply .refusal ≡ GRANTED → ⊥) → x .reply .buffer ≡ c .buffer) (λ _. unfold act in decided-buffer s c (decide Q (view s) c)) (λ _ _. refl)

@@ -10,7 +10,7 @@ use Rattle.preservation.proofs.Sums.{ind, sum2-same, sum-at}
 use Rattle.preservation.proofs.Tables.{Tables, col, direntRow, rowsOf}
 use Rattle.preservation.proofs.Sound.{All, SoundBut, File, Block, Directory, Depths, OpenFile, naming, linkCount, openCount}
 use Rattle.preservation.proofs.Dirents.{naming-at, used-none}
-use Rattle.rules.specs.Layout.{SLOTS, DIRENTS, DIRENT, OPENS, NAME, KIND, OWNER, BITS, LABEL, LENGTH, LINKS, VERSION, DIRECTORY, SLOT, REFERENCES}
+use Rattle.rules.specs.Layout.{SLOTS, DIRENTS, DIRENT, OPEN-FILES, NAME, KIND, OWNER, BITS, LABEL, LENGTH, LINKS, VERSION, DIRECTORY, SLOT, REFERENCES}
 
 -- ---- a group over other columns
 
@@ -59,23 +59,23 @@ open-kinds w e = record {
 }
 
 -- an open file on s counts
-pub openCount-at : (slot refs : ℕ → ℕ) (e s : ℕ) → e < OPENS → slot e ≡ s → (refs e ≡ 0 → ⊥) → 0 < openCount slot refs s
+pub openCount-at : (slot refs : ℕ → ℕ) (e s : ℕ) → e < OPEN-FILES → slot e ≡ s → (refs e ≡ 0 → ⊥) → 0 < openCount slot refs s
 unfolding openCount
 openCount-at slot refs e s he q n =
     let a : ind (eqb (slot e) s && ltb 0 (refs e)) ≡ 1 = rw (eq-eqb (slot e) s q, lt-ltb 0 (refs e) (omega arith)) in
-    omega (arith, sum-at OPENS (λ i. ind (eqb (slot i) s && ltb 0 (refs i))) e he)
+    omega (arith, sum-at OPEN-FILES (λ i. ind (eqb (slot i) s && ltb 0 (refs i))) e he)
 
 -- ---- the change
 
 unfoldable pub remade : ℕ → (row g : ℕ → ℕ) → Tables → Tables
-remade y row g m = record { file = upd (m .file) y row; byte = upd (m .byte) y g; opened = m .opened; proc = m .proc; desc = m .desc }
+remade y row g m = record { file = upd (m .file) y row; byte = upd (m .byte) y g; openFiles = m .openFiles; proc = m .proc; desc = m .desc }
 
 -- nothing is on slot y
 pub record Bare (m : Tables) (y : ℕ) : Type 0 where
   pub small : y < SLOTS
   pub not-root : y ≡ 0 → ⊥
   pub no-links : m .file y LINKS ≡ 0
-  pub not-open : (e : ℕ) → e < OPENS → (m .opened e REFERENCES ≡ 0 → ⊥) → m .opened e SLOT ≡ y → ⊥
+  pub not-open : (e : ℕ) → e < OPEN-FILES → (m .openFiles e REFERENCES ≡ 0 → ⊥) → m .openFiles e SLOT ≡ y → ⊥
   pub no-dirents : m .file y KIND ≡ DIRECTORY → All DIRENTS (λ q. direntRow (m .byte) y q NAME ≡ 0)
 
 -- the record and the bytes that it gets
@@ -137,7 +137,7 @@ module _ (m : Tables) (y : ℕ) (row g : ℕ → ℕ) (h : SoundBut y m) (a : Ba
     once = λ i hi q. rw (ne-eqb i y q) (h .once i hi q);
     depths = remade-depths (h .depths);
     alive = λ i hi q. rw (ne-eqb i y q) (h .alive i hi q);
-    open-files = λ i hi. open-kinds (h .open-files i hi) (λ r. kind-other (m .opened i SLOT) (a .not-open i hi r));
+    open-files = λ i hi. open-kinds (h .open-files i hi) (λ r. kind-other (m .openFiles i SLOT) (a .not-open i hi r));
     refs = h .refs;
     procs = h .procs;
   }

@@ -8,8 +8,8 @@ use lib.ListN.{getD}
 use lib.Dec.{eqb, ltb}
 use Rattle.rules.specs.Choice.{every, some, implies}
 use Rattle.rules.specs.Scan.{all, first}
-use Rattle.rules.specs.Layout.{SLOTS, BLOCK, DIRENT, DIRENTS, OPENS, PROCESSES, DESCRIPTORS, NAME, NAMES, SLASH, POINT}
-use Rattle.rules.specs.Layout.{KIND, OWNER, BITS, LABEL, LENGTH, LINKS, VERSION, SLOT, MODE, OFFSET, REFERENCES, USED, USER, DOMAIN, FREE, PLAIN, DIRECTORY}
+use Rattle.rules.specs.Layout.{SLOTS, BLOCK, DIRENT, DIRENTS, OPEN-FILES, PROCESSES, DESCRIPTORS, NAME, NAMES, SLASH, POINT}
+use Rattle.rules.specs.Layout.{KIND, OWNER, BITS, LABEL, LENGTH, LINKS, VERSION, SLOT, MODE, OFFSET, REFERENCES, USED, USER, PROCESS-LABEL, FREE, PLAIN, DIRECTORY}
 use Rattle.rules.specs.Layout.{KIND-MAX, USER-MAX, BITS-MAX, LABEL-MAX, MODE-MAX, WORD-MAX}
 use Rattle.preservation.proofs.Sums.{count, count2}
 use Rattle.preservation.proofs.Tables.{Tables, col, direntRow}
@@ -109,7 +109,7 @@ pub record OpenFile (kind : ℕ → ℕ) (slot mode offset refs : ℕ) : Type 0 
 
 -- how many open files are on slot s
 unfoldable pub openCount : (slot refs : ℕ → ℕ) → ℕ → ℕ
-openCount slot refs s = count OPENS (λ e. eqb (slot e) s && ltb 0 (refs e))
+openCount slot refs s = count OPEN-FILES (λ e. eqb (slot e) s && ltb 0 (refs e))
 
 -- how many descriptors hold open file e
 unfoldable pub holderCount : (ℕ → ℕ → ℕ) → ℕ → ℕ
@@ -121,7 +121,7 @@ pub record Process (active user label : ℕ) (desc : ℕ → ℕ) : Type 0 where
   pub active-most : active ≤ 1
   pub user-most : user ≤ USER-MAX
   pub label-most : label ≤ LABEL-MAX
-  pub desc-most : All DESCRIPTORS (λ k. desc k ≤ OPENS)
+  pub desc-most : All DESCRIPTORS (λ k. desc k ≤ OPEN-FILES)
   pub user-zero : active ≡ 0 → user ≡ 0
   pub label-zero : active ≡ 0 → label ≡ 0
   pub desc-zero : active ≡ 0 → All DESCRIPTORS (λ k. desc k ≡ 0)
@@ -139,10 +139,10 @@ pub record SoundBut (x : ℕ) (m : Tables) : Type 0 where
   pub links : All SLOTS (λ s. (s ≡ 0 → ⊥) → m .file s LINKS ≡ linkCount (col (m .file) KIND) (direntRow (m .byte)) s)
   pub once : All SLOTS (λ d. (d ≡ x → ⊥) → m .file d KIND ≡ DIRECTORY → (d ≡ 0 → ⊥) → m .file d LINKS ≡ 1)
   pub depths : Depths (col (m .file) KIND) (direntRow (m .byte))
-  pub alive : All SLOTS (λ s. (s ≡ x → ⊥) → m .file s KIND ≡ PLAIN → 0 < m .file s LINKS + openCount (col (m .opened) SLOT) (col (m .opened) REFERENCES) s)
-  pub open-files : All OPENS (λ e. OpenFile (col (m .file) KIND) (m .opened e SLOT) (m .opened e MODE) (m .opened e OFFSET) (m .opened e REFERENCES))
-  pub refs : All OPENS (λ e. m .opened e REFERENCES ≡ holderCount (m .desc) e)
-  pub procs : All PROCESSES (λ p. Process (m .proc p USED) (m .proc p USER) (m .proc p DOMAIN) (m .desc p))
+  pub alive : All SLOTS (λ s. (s ≡ x → ⊥) → m .file s KIND ≡ PLAIN → 0 < m .file s LINKS + openCount (col (m .openFiles) SLOT) (col (m .openFiles) REFERENCES) s)
+  pub open-files : All OPEN-FILES (λ e. OpenFile (col (m .file) KIND) (m .openFiles e SLOT) (m .openFiles e MODE) (m .openFiles e OFFSET) (m .openFiles e REFERENCES))
+  pub refs : All OPEN-FILES (λ e. m .openFiles e REFERENCES ≡ holderCount (m .desc) e)
+  pub procs : All PROCESSES (λ p. Process (m .proc p USED) (m .proc p USER) (m .proc p PROCESS-LABEL) (m .desc p))
 
 -- sound: there is no slot SLOTS
 abbrev pub Sound : Tables → Type 0

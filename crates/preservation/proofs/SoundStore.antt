@@ -9,10 +9,10 @@ use lib.Dec.{ltb}
 use lib.ListN.{length, getD, drop}
 use lib.Seq.{getD-drop}
 use borrow.Author.Tests.{lt-ltb}
-use Rattle.rules.specs.Layout.{SLOTS, BLOCK, DIRENT, DIRENTS, NAMES, OPENS, PROCESSES, FILE, OPEN}
-use Rattle.rules.specs.Layout.{KIND, OWNER, BITS, LABEL, LENGTH, LINKS, VERSION, SLOT, MODE, OFFSET, REFERENCES, USED, USER, DOMAIN, FREE, PLAIN, DIRECTORY}
+use Rattle.rules.specs.Layout.{SLOTS, BLOCK, DIRENT, DIRENTS, NAMES, OPEN-FILES, PROCESSES, FILE, OPEN}
+use Rattle.rules.specs.Layout.{KIND, OWNER, BITS, LABEL, LENGTH, LINKS, VERSION, SLOT, MODE, OFFSET, REFERENCES, USED, USER, PROCESS-LABEL, FREE, PLAIN, DIRECTORY}
 use Rattle.rules.specs.Choice.{some}
-use Rattle.rules.specs.Store.{Store, view, tab, block, shownOf}
+use Rattle.rules.specs.Store.{Store, view, slot, tab, block, shownOf}
 use Rattle.rules.specs.Directories.{direntAt}
 use Rattle.rules.specs.Sound.{sizesSound, allZero, direntsSound, linksSound, directorySound, isOpen, plainSound, kindSound, slotSound, openSound, procSound, tablesSound, storeSound, policySound, sound}
 use Rattle.preservation.proofs.Tests.{Means, means-every, means-and, means-last, means-cond, means-choice, means-or, means-eq, means-lt, means-le, means-test, means-all, means-within, means-same}
@@ -22,7 +22,7 @@ use Rattle.preservation.proofs.Tree.{depths-from, depth-is}
 use Rattle.preservation.proofs.StoreChanges.{tablesOf, Sized, Has}
 use Rattle.preservation.proofs.Shown.{block-length, block-byte, shown-whole, shown-plain, means-zeros}
 use Rattle.preservation.proofs.Counted.{links-total, means-climbs, means-open}
-use Rattle.preservation.proofs.Meaning.{means-sized, means-record, means-dirents, means-opened, means-process}
+use Rattle.preservation.proofs.Meaning.{means-sized, means-record, means-dirents, means-open-file, means-process}
 
 module _ (s : Store) (z : Sized s) where
   abbrev file : ℕ → ℕ → ℕ
@@ -35,7 +35,7 @@ module _ (s : Store) (z : Sized s) where
   rows = direntRow (tab BLOCK (s .contents))
 
   abbrev onSlot : ℕ → ℕ
-  onSlot = openCount (col (tab OPEN (s .opens)) SLOT) (col (tab OPEN (s .opens)) REFERENCES)
+  onSlot = openCount (col (tab OPEN (s .openFiles)) SLOT) (col (tab OPEN (s .openFiles)) REFERENCES)
 
   pub agree : (d : ℕ) → d < SLOTS → file d KIND ≡ DIRECTORY → (i k : ℕ) → k < DIRENT → getD (direntAt (shownOf (s .files) (s .contents) d) i) k 0 ≡ rows d i k
   agree d h e i k l =
@@ -81,8 +81,8 @@ module _ (s : Store) (z : Sized s) where
   unfolding plainSound
   means-plain d h e = means-every (means-and (means-le (file d LENGTH) BLOCK) (means-and alive (means-last zeros)))
     where
-      alive : Means (some (ltb 0 (file d LINKS) ∷ isOpen (tab OPEN (s .opens)) d ∷ [])) (0 < file d LINKS + onSlot d)
-      alive = means-same (means-or (means-lt 0 (file d LINKS)) (means-open (tab OPEN (s .opens)) d)) (λ f. go f (decLt 0 (file d LINKS))) (λ l n. omega arith)
+      alive : Means (some (ltb 0 (file d LINKS) ∷ isOpen (tab OPEN (s .openFiles)) (slot d) ∷ [])) (0 < file d LINKS + onSlot d)
+      alive = means-same (means-or (means-lt 0 (file d LINKS)) (means-open (tab OPEN (s .openFiles)) d)) (λ f. go f (decLt 0 (file d LINKS))) (λ l n. omega arith)
         where
           go : ((0 < file d LINKS → ⊥) → 0 < onSlot d) → Dec (0 < file d LINKS) → 0 < file d LINKS + onSlot d
           go f (yes l) = omega arith
@@ -117,14 +117,14 @@ module _ (s : Store) (z : Sized s) where
   -- ---- all tables
 
   abbrev OfTables : Type 0
-  OfTables = (file 0 KIND ≡ DIRECTORY) × (All SLOTS OfSlot × (All OPENS (λ e. (tab OPEN (s .opens) e REFERENCES ≡ holderCount (view s .desc) e)
-      × OpenFile kind (tab OPEN (s .opens) e SLOT) (tab OPEN (s .opens) e MODE) (tab OPEN (s .opens) e OFFSET) (tab OPEN (s .opens) e REFERENCES))
-      × All PROCESSES (λ p. Process (view s .proc p USED) (view s .proc p USER) (view s .proc p DOMAIN) (view s .desc p))))
+  OfTables = (file 0 KIND ≡ DIRECTORY) × (All SLOTS OfSlot × (All OPEN-FILES (λ e. (tab OPEN (s .openFiles) e REFERENCES ≡ holderCount (view s .desc) e)
+      × OpenFile kind (tab OPEN (s .openFiles) e SLOT) (tab OPEN (s .openFiles) e MODE) (tab OPEN (s .openFiles) e OFFSET) (tab OPEN (s .openFiles) e REFERENCES))
+      × All PROCESSES (λ p. Process (view s .proc p USED) (view s .proc p USER) (view s .proc p PROCESS-LABEL) (view s .desc p))))
 
   means-parts : Means (tablesSound (view s)) OfTables
   unfolding tablesSound
   means-parts = means-every (means-and (means-eq (file 0 KIND) DIRECTORY) (means-and (means-within SLOTS (slotSound (view s)) OfSlot means-slot)
-      (means-and (means-all OPENS (openSound (view s)) _ (means-opened (view s))) (means-last (means-all PROCESSES (procSound (view s)) _ (means-process (view s)))))))
+      (means-and (means-all OPEN-FILES (openSound (view s)) _ (means-open-file (view s))) (means-last (means-all PROCESSES (procSound (view s)) _ (means-process (view s)))))))
 
   from-parts : OfTables → Sound (tablesOf s)
   unfolding tablesOf

@@ -9,7 +9,7 @@ use lib.Dec.{ltb}
 use lib.ListN.{length, getD, set, length-set, List·getD-eq-default}
 use lib.Seq.{sets, length-sets}
 use borrow.Author.Tests.{eq-eqb, ne-eqb, lt-ltb, le-ltb}
-use Rattle.rules.specs.Layout.{SLOTS, BLOCK, DIRENT, DIRENTS, OPENS, PROCESSES, DESCRIPTORS, FILE, OPEN, PROCESS, OWN}
+use Rattle.rules.specs.Layout.{SLOTS, BLOCK, DIRENT, DIRENTS, OPEN-FILES, PROCESSES, DESCRIPTORS, FILE, OPEN, PROCESS, OWN}
 use Rattle.rules.specs.Store.{Store, store, tab, procOf, descOf, puts, zeros, change, fileWord, clearTo, openWord, openZero, procWord, procZero}
 use Rattle.rules.specs.Store as rules
 use Rattle.rules.proofs.Lists.{puts-sets}
@@ -19,12 +19,12 @@ use Rattle.preservation.proofs.FlatList.{overRow, tab-run, tab-set, tab
 use Rattle.preservation.proofs.Remake.{remade}
 
 unfoldable pub tablesOf : Store → Tables
-tablesOf s = record { file = tab FILE (s .files); byte = tab BLOCK (s .contents); opened = tab OPEN (s .opens); proc = procOf (s .processes); desc = descOf (s .processes) }
+tablesOf s = record { file = tab FILE (s .files); byte = tab BLOCK (s .contents); openFiles = tab OPEN (s .openFiles); proc = procOf (s .processes); desc = descOf (s .processes) }
 
 pub record Sized (s : Store) : Type 0 where
   pub files-size : length (s .files) ≡ SLOTS * FILE
   pub contents-size : length (s .contents) ≡ SLOTS * BLOCK
-  pub opens-size : length (s .opens) ≡ OPENS * OPEN
+  pub open-files-size : length (s .openFiles) ≡ OPEN-FILES * OPEN
   pub processes-size : length (s .processes) ≡ PROCESSES * PROCESS
 
 -- store s has the tables m
@@ -35,37 +35,37 @@ pub record Has (s : Store) (m : Tables) : Type 0 where
 -- ---- one table changed: f is the changed list's table
 
 module _ {s : Store} {m : Tables} (h : Has s m) where
-  with-files : (F : List ℕ) (f : ℕ → ℕ → ℕ) → length F ≡ length (s .files) → tab FILE F ≡ f → Has (store F (s .contents) (s .opens) (s .processes)) (record { file = f; byte = m .byte; opened = m .opened; proc = m .proc; desc = m .desc })
+  with-files : (F : List ℕ) (f : ℕ → ℕ → ℕ) → length F ≡ length (s .files) → tab FILE F ≡ f → Has (store F (s .contents) (s .openFiles) (s .processes)) (record { file = f; byte = m .byte; openFiles = m .openFiles; proc = m .proc; desc = m .desc })
   unfolding tablesOf
   with-files F f l e = record {
-    sized = record { files-size = l ∙ h .sized .files-size; contents-size = h .sized .contents-size; opens-size = h .sized .opens-size; processes-size = h .sized .processes-size };
-    is = ap (λ (g : ℕ → ℕ → ℕ). record { file = g; byte = tab BLOCK (s .contents); opened = tab OPEN (s .opens); proc = procOf (s .processes); desc = descOf (s .processes) }) e
-        ∙ ap (λ (n : Tables). record { file = f; byte = n .byte; opened = n .opened; proc = n .proc; desc = n .desc }) (h .is);
+    sized = record { files-size = l ∙ h .sized .files-size; contents-size = h .sized .contents-size; open-files-size = h .sized .open-files-size; processes-size = h .sized .processes-size };
+    is = ap (λ (g : ℕ → ℕ → ℕ). record { file = g; byte = tab BLOCK (s .contents); openFiles = tab OPEN (s .openFiles); proc = procOf (s .processes); desc = descOf (s .processes) }) e
+        ∙ ap (λ (n : Tables). record { file = f; byte = n .byte; openFiles = n .openFiles; proc = n .proc; desc = n .desc }) (h .is);
   }
 
-  with-contents : (C : List ℕ) (g : ℕ → ℕ → ℕ) → length C ≡ length (s .contents) → tab BLOCK C ≡ g → Has (store (s .files) C (s .opens) (s .processes)) (record { file = m .file; byte = g; opened = m .opened; proc = m .proc; desc = m .desc })
+  with-contents : (C : List ℕ) (g : ℕ → ℕ → ℕ) → length C ≡ length (s .contents) → tab BLOCK C ≡ g → Has (store (s .files) C (s .openFiles) (s .processes)) (record { file = m .file; byte = g; openFiles = m .openFiles; proc = m .proc; desc = m .desc })
   unfolding tablesOf
   with-contents C g l e = record {
-    sized = record { files-size = h .sized .files-size; contents-size = l ∙ h .sized .contents-size; opens-size = h .sized .opens-size; processes-size = h .sized .processes-size };
-    is = ap (λ (f : ℕ → ℕ → ℕ). record { file = tab FILE (s .files); byte = f; opened = tab OPEN (s .opens); proc = procOf (s .processes); desc = descOf (s .processes) }) e
-        ∙ ap (λ (n : Tables). record { file = n .file; byte = g; opened = n .opened; proc = n .proc; desc = n .desc }) (h .is);
+    sized = record { files-size = h .sized .files-size; contents-size = l ∙ h .sized .contents-size; open-files-size = h .sized .open-files-size; processes-size = h .sized .processes-size };
+    is = ap (λ (f : ℕ → ℕ → ℕ). record { file = tab FILE (s .files); byte = f; openFiles = tab OPEN (s .openFiles); proc = procOf (s .processes); desc = descOf (s .processes) }) e
+        ∙ ap (λ (n : Tables). record { file = n .file; byte = g; openFiles = n .openFiles; proc = n .proc; desc = n .desc }) (h .is);
   }
 
-  with-opens : (E : List ℕ) (g : ℕ → ℕ → ℕ) → length E ≡ length (s .opens) → tab OPEN E ≡ g → Has (store (s .files) (s .contents) E (s .processes)) (record { file = m .file; byte = m .byte; opened = g; proc = m .proc; desc = m .desc })
+  with-open-files : (E : List ℕ) (g : ℕ → ℕ → ℕ) → length E ≡ length (s .openFiles) → tab OPEN E ≡ g → Has (store (s .files) (s .contents) E (s .processes)) (record { file = m .file; byte = m .byte; openFiles = g; proc = m .proc; desc = m .desc })
   unfolding tablesOf
-  with-opens E g l e = record {
-    sized = record { files-size = h .sized .files-size; contents-size = h .sized .contents-size; opens-size = l ∙ h .sized .opens-size; processes-size = h .sized .processes-size };
-    is = ap (λ (f : ℕ → ℕ → ℕ). record { file = tab FILE (s .files); byte = tab BLOCK (s .contents); opened = f; proc = procOf (s .processes); desc = descOf (s .processes) }) e
-        ∙ ap (λ (n : Tables). record { file = n .file; byte = n .byte; opened = g; proc = n .proc; desc = n .desc }) (h .is);
+  with-open-files E g l e = record {
+    sized = record { files-size = h .sized .files-size; contents-size = h .sized .contents-size; open-files-size = l ∙ h .sized .open-files-size; processes-size = h .sized .processes-size };
+    is = ap (λ (f : ℕ → ℕ → ℕ). record { file = tab FILE (s .files); byte = tab BLOCK (s .contents); openFiles = f; proc = procOf (s .processes); desc = descOf (s .processes) }) e
+        ∙ ap (λ (n : Tables). record { file = n .file; byte = n .byte; openFiles = g; proc = n .proc; desc = n .desc }) (h .is);
   }
 
-  with-processes : (P : List ℕ) (f g : ℕ → ℕ → ℕ) → length P ≡ length (s .processes) → procOf P ≡ f → descOf P ≡ g → Has (store (s .files) (s .contents) (s .opens) P) (record { file = m .file; byte = m .byte; opened = m .opened; proc = f; desc = g })
+  with-processes : (P : List ℕ) (f g : ℕ → ℕ → ℕ) → length P ≡ length (s .processes) → procOf P ≡ f → descOf P ≡ g → Has (store (s .files) (s .contents) (s .openFiles) P) (record { file = m .file; byte = m .byte; openFiles = m .openFiles; proc = f; desc = g })
   unfolding tablesOf
   with-processes P f g l e d = record {
-    sized = record { files-size = h .sized .files-size; contents-size = h .sized .contents-size; opens-size = h .sized .opens-size; processes-size = l ∙ h .sized .processes-size };
-    is = ap (λ (t : ℕ → ℕ → ℕ). record { file = tab FILE (s .files); byte = tab BLOCK (s .contents); opened = tab OPEN (s .opens); proc = t; desc = descOf P }) e
-        ∙ ap (λ (t : ℕ → ℕ → ℕ). record { file = tab FILE (s .files); byte = tab BLOCK (s .contents); opened = tab OPEN (s .opens); proc = f; desc = t }) d
-        ∙ ap (λ (n : Tables). record { file = n .file; byte = n .byte; opened = n .opened; proc = f; desc = g }) (h .is);
+    sized = record { files-size = h .sized .files-size; contents-size = h .sized .contents-size; open-files-size = h .sized .open-files-size; processes-size = l ∙ h .sized .processes-size };
+    is = ap (λ (t : ℕ → ℕ → ℕ). record { file = tab FILE (s .files); byte = tab BLOCK (s .contents); openFiles = tab OPEN (s .openFiles); proc = t; desc = descOf P }) e
+        ∙ ap (λ (t : ℕ → ℕ → ℕ). record { file = tab FILE (s .files); byte = tab BLOCK (s .contents); openFiles = tab OPEN (s .openFiles); proc = f; desc = t }) d
+        ∙ ap (λ (n : Tables). record { file = n .file; byte = n .byte; openFiles = n .openFiles; proc = f; desc = g }) (h .is);
   }
 
   file-is : tab FILE (s .files) ≡ m .file
@@ -74,8 +74,8 @@ module _ {s : Store} {m : Tables} (h : Has s m) where
   byte-is : tab BLOCK (s .contents) ≡ m .byte
   byte-is = unfold tablesOf in ap (λ (n : Tables). n .byte) (h .is)
 
-  opened-is : tab OPEN (s .opens) ≡ m .opened
-  opened-is = unfold tablesOf in ap (λ (n : Tables). n .opened) (h .is)
+  open-files-is : tab OPEN (s .openFiles) ≡ m .openFiles
+  open-files-is = unfold tablesOf in ap (λ (n : Tables). n .openFiles) (h .is)
 
   proc-is : procOf (s .processes) ≡ m .proc
   proc-is = unfold tablesOf in ap (λ (n : Tables). n .proc) (h .is)
@@ -137,23 +137,23 @@ has-dirent {s} {m} h d p vs r hd hp l e =
 -- ---- open files
 
 module _ {s : Store} {m : Tables} (h : Has s m) where
-  pub has-openWord : (e c v : ℕ) → e < OPENS → c < OPEN → Has (change (openWord e c v) s) (openTo e c v m)
-  has-openWord e c v he hc = with-opens h (set (s .opens) (OPEN * e + c) v) (upd2 (m .opened) e c v) (length-set (s .opens) (OPEN * e + c) v)
-      (tab-set OPEN (s .opens) e c v (omega (arith, h .sized .opens-size)) hc ∙ upd2-row (tab OPEN (s .opens)) e c v ∙ ap (λ (f : ℕ → ℕ → ℕ). upd2 f e c v) (opened-is h))
+  pub has-openWord : (e c v : ℕ) → e < OPEN-FILES → c < OPEN → Has (change (openWord e c v) s) (openTo e c v m)
+  has-openWord e c v he hc = with-open-files h (set (s .openFiles) (OPEN * e + c) v) (upd2 (m .openFiles) e c v) (length-set (s .openFiles) (OPEN * e + c) v)
+      (tab-set OPEN (s .openFiles) e c v (omega (arith, h .sized .open-files-size)) hc ∙ upd2-row (tab OPEN (s .openFiles)) e c v ∙ ap (λ (f : ℕ → ℕ → ℕ). upd2 f e c v) (open-files-is h))
 
   -- the same, as a change of the row
-  pub has-openRow : (e c v : ℕ) → e < OPENS → c < OPEN → Has (change (openWord e c v) s) (openRowTo e (upd (m .opened e) c v) m)
-  has-openRow e c v he hc = with-opens h (set (s .opens) (OPEN * e + c) v) (updRow (m .opened) e c v) (length-set (s .opens) (OPEN * e + c) v)
-      (tab-set OPEN (s .opens) e c v (omega (arith, h .sized .opens-size)) hc ∙ ap (λ (f : ℕ → ℕ → ℕ). updRow f e c v) (opened-is h))
+  pub has-openRow : (e c v : ℕ) → e < OPEN-FILES → c < OPEN → Has (change (openWord e c v) s) (openRowTo e (upd (m .openFiles e) c v) m)
+  has-openRow e c v he hc = with-open-files h (set (s .openFiles) (OPEN * e + c) v) (updRow (m .openFiles) e c v) (length-set (s .openFiles) (OPEN * e + c) v)
+      (tab-set OPEN (s .openFiles) e c v (omega (arith, h .sized .open-files-size)) hc ∙ ap (λ (f : ℕ → ℕ → ℕ). updRow f e c v) (open-files-is h))
 
-  pub has-openTo : (e : ℕ) (ws : List ℕ) → e < OPENS → length ws ≡ OPEN → Has (change (rules.openTo e ws) s) (openRowTo e (λ c. getD ws c 0) m)
-  has-openTo e ws he l = with-opens h (puts OPEN (s .opens) e 0 ws) (upd (m .opened) e (λ c. getD ws c 0)) (puts-length h OPEN (s .opens) e ws)
-      (ap (tab OPEN) (puts-sets OPEN (s .opens) e 0 ws) ∙ tab-row OPEN (s .opens) e ws l (omega (arith, h .sized .opens-size)) ∙ ap (λ (f : ℕ → ℕ → ℕ). upd f e (λ c. getD ws c 0)) (opened-is h))
+  pub has-openTo : (e : ℕ) (ws : List ℕ) → e < OPEN-FILES → length ws ≡ OPEN → Has (change (rules.openTo e ws) s) (openRowTo e (λ c. getD ws c 0) m)
+  has-openTo e ws he l = with-open-files h (puts OPEN (s .openFiles) e 0 ws) (upd (m .openFiles) e (λ c. getD ws c 0)) (puts-length h OPEN (s .openFiles) e ws)
+      (ap (tab OPEN) (puts-sets OPEN (s .openFiles) e 0 ws) ∙ tab-row OPEN (s .openFiles) e ws l (omega (arith, h .sized .open-files-size)) ∙ ap (λ (f : ℕ → ℕ → ℕ). upd f e (λ c. getD ws c 0)) (open-files-is h))
 
-  pub has-openZero : (e : ℕ) → e < OPENS → Has (change (openZero e) s) (openRowTo e (λ _. 0) m)
-  has-openZero e he = with-opens h (sets (s .opens) (OPEN * e + 0) (zeros OPEN)) (upd (m .opened) e (λ _. 0)) (length-sets (s .opens) (OPEN * e + 0) (zeros OPEN))
-      (tab-row OPEN (s .opens) e (zeros OPEN) (length-zeros OPEN) (omega (arith, h .sized .opens-size))
-      ∙ ap (λ (r : ℕ → ℕ). upd (tab OPEN (s .opens)) e r) (fun-ext (λ k. getD-zeros OPEN k)) ∙ ap (λ (f : ℕ → ℕ → ℕ). upd f e (λ _. 0)) (opened-is h))
+  pub has-openZero : (e : ℕ) → e < OPEN-FILES → Has (change (openZero e) s) (openRowTo e (λ _. 0) m)
+  has-openZero e he = with-open-files h (sets (s .openFiles) (OPEN * e + 0) (zeros OPEN)) (upd (m .openFiles) e (λ _. 0)) (length-sets (s .openFiles) (OPEN * e + 0) (zeros OPEN))
+      (tab-row OPEN (s .openFiles) e (zeros OPEN) (length-zeros OPEN) (omega (arith, h .sized .open-files-size))
+      ∙ ap (λ (r : ℕ → ℕ). upd (tab OPEN (s .openFiles)) e r) (fun-ext (λ k. getD-zeros OPEN k)) ∙ ap (λ (f : ℕ → ℕ → ℕ). upd f e (λ _. 0)) (open-files-is h))
 
 -- ---- processes: the words of a process's row before its descriptors, and its descriptors
 
@@ -259,7 +259,7 @@ module _ {s : Store} {m : Tables} (h : Has s m) where
       tail-same : tailOf (upd t p (overRow (t p) 0 ws)) ≡ tailOf t
       tail-same = fun-ext (λ i. fun-ext (λ c. split i p (λ q e. rw (e, le-ltb (OWN + c) 0 (omega arith), le-ltb (OWN + c) (0 + length ws) (omega arith), q)) (λ q e. rw e)))
 
-  pub has-procZero : (p : ℕ) → p < PROCESSES → Has (change (procZero p) s) (record { file = m .file; byte = m .byte; opened = m .opened; proc = upd (m .proc) p (λ _. 0); desc = upd (m .desc) p (λ _. 0) })
+  pub has-procZero : (p : ℕ) → p < PROCESSES → Has (change (procZero p) s) (record { file = m .file; byte = m .byte; openFiles = m .openFiles; proc = upd (m .proc) p (λ _. 0); desc = upd (m .desc) p (λ _. 0) })
   has-procZero p hp = with-processes h P (upd (m .proc) p (λ _. 0)) (upd (m .desc) p (λ _. 0)) (length-sets (s .processes) (PROCESS * p + 0) (zeros PROCESS))
       (proc-head P ∙ ap headOf row ∙ head-to ∙ ap (λ (f : ℕ → ℕ → ℕ). upd f p (λ _. 0)) heads) (desc-tail P ∙ ap tailOf row ∙ tail-to ∙ ap (λ (f : ℕ → ℕ → ℕ). upd f p (λ _. 0)) tails)
     where

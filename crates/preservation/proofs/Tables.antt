@@ -10,7 +10,7 @@ use Rattle.preservation.proofs.Tests.{upd, upd2, updRow}
 pub record Tables : Type 0 where
   pub file : ℕ → ℕ → ℕ
   pub byte : ℕ → ℕ → ℕ
-  pub opened : ℕ → ℕ → ℕ
+  pub openFiles : ℕ → ℕ → ℕ
   pub proc : ℕ → ℕ → ℕ
   pub desc : ℕ → ℕ → ℕ
 
@@ -33,25 +33,25 @@ fill bytes p r b = cond (eqb (b / DIRENT) p) (r (b % DIRENT)) (bytes b)
 -- ---- primitive changes
 
 abbrev pub fileTo : ℕ → ℕ → ℕ → Tables → Tables
-fileTo s c v m = record { file = upd2 (m .file) s c v; byte = m .byte; opened = m .opened; proc = m .proc; desc = m .desc }
+fileTo s c v m = record { file = upd2 (m .file) s c v; byte = m .byte; openFiles = m .openFiles; proc = m .proc; desc = m .desc }
 
 abbrev pub bytesTo : ℕ → (ℕ → ℕ) → Tables → Tables
-bytesTo s g m = record { file = m .file; byte = upd (m .byte) s g; opened = m .opened; proc = m .proc; desc = m .desc }
+bytesTo s g m = record { file = m .file; byte = upd (m .byte) s g; openFiles = m .openFiles; proc = m .proc; desc = m .desc }
 
 abbrev pub openTo : ℕ → ℕ → ℕ → Tables → Tables
-openTo e c v m = record { file = m .file; byte = m .byte; opened = upd2 (m .opened) e c v; proc = m .proc; desc = m .desc }
+openTo e c v m = record { file = m .file; byte = m .byte; openFiles = upd2 (m .openFiles) e c v; proc = m .proc; desc = m .desc }
 
 abbrev pub procTo : ℕ → ℕ → ℕ → Tables → Tables
-procTo p c v m = record { file = m .file; byte = m .byte; opened = m .opened; proc = updRow (m .proc) p c v; desc = m .desc }
+procTo p c v m = record { file = m .file; byte = m .byte; openFiles = m .openFiles; proc = updRow (m .proc) p c v; desc = m .desc }
 
 abbrev pub descTo : ℕ → ℕ → ℕ → Tables → Tables
-descTo p k v m = record { file = m .file; byte = m .byte; opened = m .opened; proc = m .proc; desc = updRow (m .desc) p k v }
+descTo p k v m = record { file = m .file; byte = m .byte; openFiles = m .openFiles; proc = m .proc; desc = updRow (m .desc) p k v }
 
 abbrev pub fileRowTo : ℕ → (ℕ → ℕ) → Tables → Tables
-fileRowTo s row m = record { file = upd (m .file) s row; byte = m .byte; opened = m .opened; proc = m .proc; desc = m .desc }
+fileRowTo s row m = record { file = upd (m .file) s row; byte = m .byte; openFiles = m .openFiles; proc = m .proc; desc = m .desc }
 
 abbrev pub openRowTo : ℕ → (ℕ → ℕ) → Tables → Tables
-openRowTo e row m = record { file = m .file; byte = m .byte; opened = upd (m .opened) e row; proc = m .proc; desc = m .desc }
+openRowTo e row m = record { file = m .file; byte = m .byte; openFiles = upd (m .openFiles) e row; proc = m .proc; desc = m .desc }
 
 abbrev pub procRowTo : ℕ → (ℕ → ℕ) → Tables → Tables
-procRowTo p row m = record { file = m .file; byte = m .byte; opened = m .opened; proc = upd (m .proc) p row; desc = m .desc }
+procRowTo p row m = record { file = m .file; byte = m .byte; openFiles = m .openFiles; proc = upd (m .proc) p row; desc = m .desc }

@@ -4,16 +4,16 @@ use mathlib.Core.Bool.{Bool, true, false}
 use mathlib.Core.List.{List, [], _∷_}
 use Prim.Native.Nat.{ℕ, suc, _+_, _-_, _<_}
 use native.Mathlib.Omega.{arith}
-use lib.Dec.{eqb, ltb}
+use lib.Dec.{eqb}
 use lib.ListN.{length, getD}
 use lib.Seq.{length-take-le}
 use borrow.Author.Tests.{eqb-true, ltb-true}
 use Rattle.rules.specs.Layout.{SLOTS, DIRENTS, NAME, KIND, DIRECTORY}
-use Rattle.rules.specs.Store.{Store, view, slot}
+use Rattle.rules.specs.Store.{Store, view, slot, entry, isDirent}
 use Rattle.rules.specs.Paths.{Name, names, parentNames}
 use Rattle.rules.specs.Directories.{direntOf, direntSlot, hasName}
 use Rattle.rules.specs.Walk.{isDirectory, bitsAllow, labelAllows, needAt, onReached, searched, lookup, walk, ROOT, walkPath, enterParent, walkParent}
-use Rattle.rules.specs.Rights.{SEARCH}
+use Rattle.rules.specs.Rights.{EXECUTE}
 use Rattle.rules.specs.declared.ids.Slot.{Slot}
 use Rattle.rules.specs.declared.request.Subject.{Subject}
 use Rattle.rules.specs.declared.refusal.Refusal.{Refusal}
@@ -54,7 +54,7 @@ module _ (s : Store) (h : SoundStore s) (Q : List ℕ) (who : Subject) where
   -- a location that j names lead to
   pub record Found (j : ℕ) (at : Location) : Type 0 where
     pub reach : Reach (tablesOf s) j (at .slot .0)
-    pub named : (j ≡ 0 → ⊥) → Names s h (at .dir) (at .dirent) (at .slot)
+    pub named : (j ≡ 0 → ⊥) → Names s h (at .dir) (at .dirent .0) (at .slot)
 
   pub found-small : {j : ℕ} {at : Location} → Found j at → at .slot .0 < SLOTS
   found-small f = reach-small (tablesOf s) (h .tables) (f .reach)
@@ -69,19 +69,19 @@ module _ (s : Store) (h : SoundStore s) (Q : List ℕ) (who : Subject) where
   searched-fit : {P : Location → Type 0} (d : Slot) (k : ℕ) (w : Walk) → (tablesOf s .file (d .0) KIND ≡ DIRECTORY → WalkFit P w) → WalkFit P (searched (view s .tree .file) Q who d k w)
   unfolding tablesOf
   searched-fit d k w f =
-      needAt-fit (isDirectory (view s .tree .file) d) _ k _ (λ t. needAt-fit (bitsAllow (view s .tree .file) who d SEARCH) _ k _ (λ _. needAt-fit (labelAllows (view s .tree .file) Q who d SEARCH) _ k w (λ _.
+      needAt-fit (isDirectory (view s .tree .file) d) _ k _ (λ t. needAt-fit (bitsAllow (view s .tree .file) who d EXECUTE) _ k _ (λ _. needAt-fit (labelAllows (view s .tree .file) Q who d EXECUTE) _ k w (λ _.
       f (eqb-true (view s .tree .file (d .0) KIND) DIRECTORY t))))
 
   lookup-fit : (j : ℕ) (at : Location) (n : Name) (k : ℕ) → Found j at → GoodName n → WalkFit (Found (suc j)) (lookup (view s .tree) Q who (at .slot) n k)
   unfolding lookup
-  lookup-fit j at n k f g = searched-fit (at .slot) k _ (λ kd. needAt-fit (ltb (direntOf (view s .tree .shown (at .slot .0)) n) DIRENTS) _ k _ (λ t.
-      reached _ (next kd (direntOf (view s .tree .shown (at .slot .0)) n) (ltb-true (direntOf (view s .tree .shown (at .slot .0)) n) DIRENTS t)
-      (first-passes (hasName (view s .tree .shown (at .slot .0)) n) DIRENTS (ltb-true (direntOf (view s .tree .shown (at .slot .0)) n) DIRENTS t)))))
+  lookup-fit j at n k f g = searched-fit (at .slot) k _ (λ kd. needAt-fit (isDirent (direntOf (view s .tree .shown (at .slot .0)) n)) _ k _ (λ t.
+      reached _ (next kd (direntOf (view s .tree .shown (at .slot .0)) n .0) (ltb-true (direntOf (view s .tree .shown (at .slot .0)) n .0) DIRENTS t)
+      (first-passes (hasName (view s .tree .shown (at .slot .0)) n) DIRENTS (ltb-true (direntOf (view s .tree .shown (at .slot .0)) n .0) DIRENTS t)))))
     where
       hd : at .slot .0 < SLOTS
       hd = found-small f
 
-      next : tablesOf s .file (at .slot .0) KIND ≡ DIRECTORY → (i : ℕ) → i < DIRENTS → hasName (view s .tree .shown (at .slot .0)) n i ≡ true → Found (suc j) (record { dir = at .slot; dirent = i; slot = slot (direntSlot (view s .tree .shown (at .slot .0)) i) })
+      next : tablesOf s .file (at .slot .0) KIND ≡ DIRECTORY → (i : ℕ) → i < DIRENTS → hasName (view s .tree .shown (at .slot .0)) n i ≡ true → Found (suc j) (record { dir = at .slot; dirent = entry i; slot = slot (direntSlot (view s .tree .shown (at .slot .0)) i) })
       next kd i hi t =
           let e : direntSlot (view s .tree .shown (at .slot .0)) i ≡ direntRow (tablesOf s .byte) (at .slot .0) i NAME = slot-at s h (at .slot) hd kd i in
           let used : direntRow (tablesOf s .byte) (at .slot .0) i NAME ≡ 0 → ⊥ = entry-used (at .slot) hd kd n i g hi t in

@@ -5,7 +5,7 @@ use Prim.Native.Nat.{ℕ, _+_, _-_, _*_, _≤_, _<_}
 use native.Mathlib.Omega.{arith}
 use native.Mathlib.Decide.{ℕ-discrete}
 use lib.Dec.{eqb}
-use Rattle.rules.specs.Layout.{SLOTS, BLOCK, DIRENTS, OPENS, PROCESSES, DESCRIPTORS, NAME}
+use Rattle.rules.specs.Layout.{SLOTS, BLOCK, DIRENTS, OPEN-FILES, PROCESSES, DESCRIPTORS, NAME}
 use Rattle.rules.specs.Layout.{KIND, LENGTH, LINKS, OFFSET, REFERENCES, DIRECTORY, WORD-MAX}
 use Rattle.rules.specs.Store.{up, plus}
 use Rattle.preservation.proofs.Sums.{sum, ind, sum-most}
@@ -61,12 +61,12 @@ module _ (x : ℕ) (m : Tables) (h : SoundBut x m) where
       by (yes e) = rw e (omega (arith, h .root-links))
       by (no n) = omega (arith, h .links s hs n, links-most (col (m .file) KIND) (direntRow (m .byte)) s)
 
-  pub references-most : (e : ℕ) → e < OPENS → m .opened e REFERENCES ≤ DESCRIPTORS * PROCESSES
+  pub references-most : (e : ℕ) → e < OPEN-FILES → m .openFiles e REFERENCES ≤ DESCRIPTORS * PROCESSES
   references-most e he = omega (arith, h .refs e he, holders-most (m .desc) e)
 
-  pub offsets-most : (e : ℕ) → e < OPENS → m .opened e OFFSET ≤ BLOCK
-  offsets-most e he = by (ℕ-discrete (m .opened e REFERENCES) 0)
+  pub offsets-most : (e : ℕ) → e < OPEN-FILES → m .openFiles e OFFSET ≤ BLOCK
+  offsets-most e he = by (ℕ-discrete (m .openFiles e REFERENCES) 0)
     where
-      by : Dec (m .opened e REFERENCES ≡ 0) → m .opened e OFFSET ≤ BLOCK
+      by : Dec (m .openFiles e REFERENCES ≡ 0) → m .openFiles e OFFSET ≤ BLOCK
       by (yes z) = omega (arith, h .open-files e he .offset-zero z)
       by (no n) = h .open-files e he .offset-most n

@@ -1,4 +1,12 @@
 // A stored call: the buffer's size, then the call as it is written down.
+ghost use mathlib.Core.Path.{_≡_};
+ghost use Prim.Native.Nat.{min};
+ghost use lib.Dec.{ltb};
+ghost use lib.ListN.{length};
+ghost use Rattle.rules.specs.Store.{store};
+ghost use Rattle.rules.specs.Calls.{callOf};
+ghost use Rattle.store.specs.Lent.{lent};
+ghost use Rattle.recorded.specs.Called.{calledOn, calledTables, requestIn, isCut, texts, pathLength, recordCalled};
 use crate::digest::digest;
 use crate::records::Sizes;
 use crate::records::Tables;
@@ -12,18 +20,10 @@ use tables::parts::after;
 use tables::parts::upto;
 use tables::words::byte;
 
-pub fn first(xs: &mut [u8], n: usize) -> &mut [u8] {
-    if n < xs.len() {
-        return &mut xs[0..n];
-    }
-    xs
-}
-
-fn first_words(xs: &mut [u32], n: usize) -> &mut [u32] {
-    if n < xs.len() {
-        return &mut xs[0..n];
-    }
-    xs
+fn least(a: usize, b: usize) -> usize
+    ensures { λ r. ⌜ r ≡ min a b ⌝ }
+{
+    if a < b { a } else { b }
 }
 
 fn print_number(n: u32) {
@@ -76,7 +76,9 @@ fn print_digest(h: u32) {
     io::write_all(1, b"\n");
 }
 
-fn request(call: &[u8]) -> Request {
+fn request(call: &[u8]) -> Request
+    ensures { λ r. ⌜ r ≡ requestIn (now (call .entry)) ⌝ }
+{
     Request {
         process: Pid(byte(call, 0)),
         call: byte(call, 1),
@@ -91,49 +93,57 @@ struct Served {
     tables: Tables,
 }
 
-// The call on tables of these sizes.
+// The call on tables of these sizes; what is past them stays.
 fn call_part(
     files: &mut [u32],
     contents: &mut [u8],
-    opens: &mut [u32],
+    open_files: &mut [u32],
     processes: &mut [u32],
     policy: &[u8],
     sizes: Sizes,
     c: Request,
     path: &[u8],
-    bytes: &[u8],
+    data: &[u8],
     buffer: &mut [u8],
-) -> Answer {
+) -> Answer
+    ensures { λ r. ⌜ lent r (now (buffer .exit)) (store (now (files .exit)) (now (contents .exit)) (now («open_files» .exit)) (now (processes .exit))) ≡ calledOn sizes (now (policy .entry)) (store (now (files .entry)) (now (contents .entry)) (now («open_files» .entry)) (now (processes .entry))) (callOf c (now (path .entry)) (now («data» .entry)) (now (buffer .entry))) ⌝ }
+{
+    let f = least(sizes.files, files.len());
+    let n = least(sizes.contents, contents.len());
+    let e = least(sizes.open_files, open_files.len());
+    let p = least(sizes.processes, processes.len());
     store::call::call(
-        first_words(files, sizes.files),
-        first(contents, sizes.contents),
-        first_words(opens, sizes.opens),
-        first_words(processes, sizes.processes),
+        &mut files[..f],
+        &mut contents[..n],
+        &mut open_files[..e],
+        &mut processes[..p],
         upto(policy, sizes.policy),
         c,
         path,
-        bytes,
+        data,
         buffer,
     )
 }
 
-fn serve(s: Tables, c: Request, path: &[u8], bytes: &[u8], buffer: &mut [u8]) -> Served {
+fn serve(s: Tables, c: Request, path: &[u8], data: &[u8], buffer: &mut [u8]) -> Served
+    ensures { λ r. ⌜ r .tables ≡ calledTables s (callOf c (now (path .entry)) (now («data» .entry)) (now (buffer .entry))) ⌝ }
+{
     let mut files = s.files;
     let mut contents = s.contents;
-    let mut opens = s.opens;
+    let mut open_files = s.open_files;
     let mut processes = s.processes;
     let policy = s.policy;
     let sizes = s.sizes;
     let a = call_part(
         &mut files,
         &mut contents,
-        &mut opens,
+        &mut open_files,
         &mut processes,
         &policy,
         sizes,
         c,
         path,
-        bytes,
+        data,
         buffer,
     );
     Served {
@@ -144,7 +154,7 @@ fn serve(s: Tables, c: Request, path: &[u8], bytes: &[u8], buffer: &mut [u8]) ->
             sizes: sizes,
             files: files,
             contents: contents,
-            opens: opens,
+            open_files: open_files,
             processes: processes,
             policy: policy,
         },
@@ -158,29 +168,51 @@ fn read_of<'a>(c: Request, buffer: &'a [u8]) -> &'a [u8] {
     upto(buffer, 0)
 }
 
-fn make(s: Tables, c: Request, path: &[u8], bytes: &[u8], buffer: &mut [u8]) -> Tables {
-    let t = serve(s, c, path, bytes, buffer);
+fn make(s: Tables, c: Request, path: &[u8], data: &[u8], buffer: &mut [u8]) -> Tables
+    ensures { λ r. ⌜ r ≡ calledTables s (callOf c (now (path .entry)) (now («data» .entry)) (now (buffer .entry))) ⌝ }
+{
+    let t = serve(s, c, path, data, buffer);
     print_answer(t.answer, read_of(c, buffer));
     print_digest(digest(t.tables, buffer));
     t.tables
 }
 
-pub fn call_record(s: Tables, record: &[u8]) -> Tables {
+// The record ends before the call does.
+fn is_cut(body: &[u8]) -> bool
+    ensures { λ r. ⌜ r ≡ isCut (now (body .entry)) ⌝ }
+{
+    let short = body.len() < 8;
+    if short {
+        return true;
+    }
+    is_path_cut(body)
+}
+
+fn is_path_cut(body: &[u8]) -> bool
+    ensures { λ r. ⌜ r ≡ ltb (length (texts (now (body .entry)))) (pathLength (now (body .entry))) ⌝ }
+{
+    let call = after(body, 2);
+    let length = byte(call, 5) as usize;
+    after(call, 6).len() < length
+}
+
+// A stored call: its line is written.
+pub(crate) fn call_record(s: Tables, body: &[u8]) -> Tables
+    ensures { λ r. ⌜ r ≡ recordCalled (now (body .entry)) s ⌝ }
+{
+    if is_cut(body) {
+        return broken(s);
+    }
     let mut buffer = [170u8; 1024];
-    let call = after(record, 2);
+    let call = after(body, 2);
     let length = byte(call, 5) as usize;
     let rest = after(call, 6);
-    if record.len() < 8 {
-        return broken(s);
-    }
-    if rest.len() < length {
-        return broken(s);
-    }
+    let n = least(short_at(body, 0), 1024);
     make(
         s,
         request(call),
         upto(rest, length),
         after(rest, length),
-        first(&mut buffer, short_at(record, 0)),
+        &mut buffer[..n],
     )
 }

@@ -4,8 +4,8 @@ mod calls;
 mod digest;
 mod records;
 
+ghost use Prim.Native.Nat.{_<_};
 use calls::call_record;
-use calls::first;
 use records::Tables;
 use records::broken;
 use records::empty;
@@ -32,9 +32,11 @@ fn head(bytes: &[u8; 65536], n: usize) -> &[u8] {
 }
 
 // Reads and takes a record, whose size is known.
-fn take_rest(s: Tables, kind: u8, size: usize) -> Tables {
+fn take_rest(s: Tables, kind: u8, size: usize) -> Tables
+    requires { ⌜ size < 65536 ⌝ }
+{
     let mut rest = io::large_buffer();
-    let n = io::read_full(0, first(&mut rest, size));
+    let n = io::read_full(0, &mut rest[..size]);
     take(s, kind, size, head(&rest, n))
 }
 
@@ -53,7 +55,9 @@ fn turn(s: Tables) -> Tables {
     take_rest(s, kind, size)
 }
 
-fn size_of(start: &[u8; 3]) -> usize {
+fn size_of(start: &[u8; 3]) -> usize
+    ensures { λ r. ⌜ r < 65536 ⌝ }
+{
     short_at(start, 1)
 }
 

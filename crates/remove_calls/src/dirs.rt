@@ -4,12 +4,13 @@ ghost use Rattle.rules.specs.Layout.{FILE};
 ghost use Rattle.rules.specs.Store.{tab};
 ghost use Rattle.rules.specs.Checks.{loses};
 use rules::decision::DirChange;
+use rules::ids::Dirent;
 use rules::ids::Slot;
 use tables::numbers::down_one;
 use tables::numbers::up_one;
 
 // A directory that loses the name in entry i.
-pub fn losing(files: &[u32], d: Slot, i: u32) -> DirChange
+pub fn losing(files: &[u32], d: Slot, i: Dirent) -> DirChange
     ensures { λ r. ⌜ r ≡ loses (tab FILE (now (files .entry))) d i ⌝ }
 {
     DirChange {

@@ -23,13 +23,14 @@ use rules::decision::Location;
 use rules::decision::Output;
 use rules::decision::Unnamed;
 use rules::decision::Walk;
+use rules::ids::Ofd;
 use rules::ids::Slot;
 use rules::refusal::Refusal;
 use rules::request::Subject;
 use rules::rights::Rights;
 use tables::files::is_plain;
 use tables::files::links;
-use tables::layout::OPENS;
+use tables::layout::OPEN_FILES;
 use tables::numbers::down_one;
 
 fn was_last_link(files: &[u32], s: Slot) -> bool
@@ -39,13 +40,13 @@ fn was_last_link(files: &[u32], s: Slot) -> bool
 }
 
 // The file goes with its name: no other name, and no open file.
-fn unnamed_goes(files: &[u32], opens: &[u32], s: Slot) -> bool
-    ensures { λ r. ⌜ r ≡ every (eqb (tab FILE (now (files .entry)) (s .0) LINKS - 1) 0 ∷ not (isOpen (tab OPEN (now (opens .entry))) (s .0)) ∷ []) ⌝ }
+fn unnamed_goes(files: &[u32], open_files: &[u32], s: Slot) -> bool
+    ensures { λ r. ⌜ r ≡ every (eqb (tab FILE (now (files .entry)) (s .0) LINKS - 1) 0 ∷ not (isOpen (tab OPEN (now («open_files» .entry))) s) ∷ []) ⌝ }
 {
     if !was_last_link(files, s) {
         return false;
     }
-    none_but(opens, OPENS, s.0)
+    none_but(open_files, Ofd(OPEN_FILES), s)
 }
 
 fn unnamed_freed(files: &[u32], s: Slot) -> Unnamed
@@ -61,30 +62,36 @@ fn unnamed_kept(files: &[u32], s: Slot) -> Unnamed
 }
 
 // The plain file in slot s loses a name.
-fn unname(files: &[u32], opens: &[u32], s: Slot) -> Unnamed
-    ensures { λ r. ⌜ r ≡ unnaming (tab FILE (now (files .entry))) (tab OPEN (now (opens .entry))) s ⌝ }
+fn unname(files: &[u32], open_files: &[u32], s: Slot) -> Unnamed
+    ensures { λ r. ⌜ r ≡ unnaming (tab FILE (now (files .entry))) (tab OPEN (now («open_files» .entry))) s ⌝ }
 {
-    if unnamed_goes(files, opens, s) {
+    if unnamed_goes(files, open_files, s) {
         return unnamed_freed(files, s);
     }
     unnamed_kept(files, s)
 }
 
-fn unlinked_at(files: &[u32], opens: &[u32], at: Location) -> Decision
-    ensures { λ r. ⌜ r ≡ unlinked (tab FILE (now (files .entry))) (tab OPEN (now (opens .entry))) at ⌝ }
+fn unlinked_at(files: &[u32], open_files: &[u32], at: Location) -> Decision
+    ensures { λ r. ⌜ r ≡ unlinked (tab FILE (now (files .entry))) (tab OPEN (now («open_files» .entry))) at ⌝ }
 {
     Decision::Granted(
         0,
         Output::Nothing,
         Effect::Unlinked(
             losing(files, at.dir, at.dirent),
-            unname(files, opens, at.slot),
+            unname(files, open_files, at.slot),
         ),
     )
 }
 
-fn unlink_at(files: &[u32], opens: &[u32], policy: &[u8], who: Subject, at: Location) -> Decision
-    ensures { λ r. ⌜ r ≡ unlinkAt (now (policy .entry)) (tab FILE (now (files .entry))) (tab OPEN (now (opens .entry))) who at ⌝ }
+fn unlink_at(
+    files: &[u32],
+    open_files: &[u32],
+    policy: &[u8],
+    who: Subject,
+    at: Location,
+) -> Decision
+    ensures { λ r. ⌜ r ≡ unlinkAt (now (policy .entry)) (tab FILE (now (files .entry))) (tab OPEN (now («open_files» .entry))) who at ⌝ }
 {
     if !is_plain(files, at.slot) {
         return Decision::Refused(Refusal::WrongKind, 0);
@@ -95,21 +102,21 @@ fn unlink_at(files: &[u32], opens: &[u32], policy: &[u8], who: Subject, at: Loca
     if !label_allows(files, policy, who, at.dir, Rights::WRITE) {
         return Decision::Refused(Refusal::LabelForbids, 0);
     }
-    unlinked_at(files, opens, at)
+    unlinked_at(files, open_files, at)
 }
 
 pub fn decide_unlink(
     files: &[u32],
     contents: &[u8],
-    opens: &[u32],
+    open_files: &[u32],
     policy: &[u8],
     who: Subject,
     path: &[u8],
 ) -> Decision
-    ensures { λ r. ⌜ r ≡ decideUnlink (now (policy .entry)) (tree (now (files .entry)) (now (contents .entry))) (tab OPEN (now (opens .entry))) who (now (path .entry)) ⌝ }
+    ensures { λ r. ⌜ r ≡ decideUnlink (now (policy .entry)) (tree (now (files .entry)) (now (contents .entry))) (tab OPEN (now («open_files» .entry))) who (now (path .entry)) ⌝ }
 {
     match walk_path(files, contents, policy, who, path) {
-        Walk::Reached(at) => unlink_at(files, opens, policy, who, at),
+        Walk::Reached(at) => unlink_at(files, open_files, policy, who, at),
         Walk::Stopped(r, k) => Decision::Refused(r, k),
     }
 }

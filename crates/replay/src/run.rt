@@ -26,14 +26,14 @@ fn stopped(calls: u32, next: usize, written: usize, reason: Reason) -> Replayed
 pub fn replay(
     files: &mut [u32],
     contents: &mut [u8],
-    opens: &mut [u32],
+    open_files: &mut [u32],
     processes: &mut [u32],
     policy: &[u8],
     script: &[u8],
     allowance: u32,
     output: &mut [u8],
 ) -> Replayed
-    ensures { λ r. ⌜ left r (now (output .exit)) (store (now (files .exit)) (now (contents .exit)) (now (opens .exit)) (now (processes .exit))) ≡ leftBy 0 0 (now (output .entry)) (replay allowance (now (policy .entry)) (now (script .entry)) (length (now (output .entry))) (store (now (files .entry)) (now (contents .entry)) (now (opens .entry)) (now (processes .entry)))) ⌝ }
+    ensures { λ r. ⌜ left r (now (output .exit)) (store (now (files .exit)) (now (contents .exit)) (now («open_files» .exit)) (now (processes .exit))) ≡ leftBy 0 0 (now (output .entry)) (replay allowance (now (policy .entry)) (now (script .entry)) (length (now (output .entry))) (store (now (files .entry)) (now (contents .entry)) (now («open_files» .entry)) (now (processes .entry)))) ⌝ }
 {
     let mut at: usize = 0;
     let mut written: usize = 0;
@@ -42,7 +42,7 @@ pub fn replay(
         let t = take_turn(
             files,
             contents,
-            opens,
+            open_files,
             processes,
             policy,
             after(script, at),

@@ -13,6 +13,7 @@ use resolution::directories::dirent_name;
 use rules::answer::Answer;
 use rules::decision::Output;
 use rules::decision::Record;
+use rules::ids::Dirent;
 use rules::ids::Slot;
 use rules::refusal::Refusal;
 use tables::files::bytes;
@@ -79,7 +80,7 @@ fn answer_named(value: u32, name: &[u8]) -> Answer
 }
 
 // The name of entry i of directory d.
-fn answer_listed(files: &[u32], contents: &[u8], value: u32, d: Slot, i: u32) -> Answer
+fn answer_listed(files: &[u32], contents: &[u8], value: u32, d: Slot, i: Dirent) -> Answer
     ensures { λ r. ⌜ r ≡ withName value (direntName (shownOf (now (files .entry)) (now (contents .entry)) (d .0)) i) ⌝ }
 {
     answer_named(value, dirent_name(shown(files, contents, d), i))
@@ -90,10 +91,11 @@ fn answer_fields(value: u32, r: Record) -> Answer
     ensures { λ a. ⌜ a ≡ withFields value (words r) ⌝ }
 {
     let name = [0u8; 16];
+    let bits = r.bits;
     let fields = [
         r.kind,
         r.owner,
-        r.bits,
+        bits.0,
         r.label,
         r.length,
         r.links,
@@ -122,13 +124,13 @@ fn read_into(contents: &[u8], buffer: &mut [u8], s: Slot, from: u32, n: u32)
 pub fn say(
     files: &[u32],
     contents: &[u8],
-    opens: &[u32],
+    open_files: &[u32],
     processes: &[u32],
     buffer: &mut [u8],
     value: u32,
     o: Output,
 ) -> Answer
-    ensures { λ r. ⌜ said r (now (buffer .exit)) ≡ saidOf (store (now (files .entry)) (now (contents .entry)) (now (opens .entry)) (now (processes .entry))) value o (now (buffer .entry)) ⌝ }
+    ensures { λ r. ⌜ said r (now (buffer .exit)) ≡ saidOf (store (now (files .entry)) (now (contents .entry)) (now («open_files» .entry)) (now (processes .entry))) value o (now (buffer .entry)) ⌝ }
 {
     match o {
         Output::Nothing => plain_answer(0, 0, value),

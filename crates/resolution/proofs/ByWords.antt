@@ -10,7 +10,7 @@ use lib.Seq.{getD-drop}
 use Rattle.rules.specs.Choice.{every}
 use Rattle.rules.specs.Scan.{first}
 use Rattle.rules.specs.Layout.{DIRENTS}
-use Rattle.rules.specs.Store.{tree, block, hidden, shownOf}
+use Rattle.rules.specs.Store.{tree, block, hidden, shownOf, entry}
 use Rattle.rules.specs.Paths.{Name, span, notSlash}
 use Rattle.rules.specs.Directories.{direntAt, hasName, direntOf}
 use Rattle.rules.specs.declared.request.Subject.{Subject}
@@ -72,7 +72,7 @@ module _ (D : List ℕ) (n : Name) (bd : Bytes D) (bn : Bytes n) where
       by false p b q = low-apart (direntAt D i) n (lowWord n) false refl p refl
 
   same-dirent : direntBy D (lowWord n) (highWord n) ≡ direntOf D n
-  same-dirent = ap (λ (t : ℕ → Bool). first t 0 DIRENTS) (fun-ext same-entry)
+  same-dirent = ap (λ (t : ℕ → Bool). entry (first t 0 DIRENTS)) (fun-ext same-entry)
 
 -- the k-th name is looked for in directory d
 pub by-words : (intent : Intent) (F C Q : List ℕ) (who : Subject) (d : Slot) (n : Name) (k : ℕ) → Bytes C → Bytes n

@@ -1,4 +1,4 @@
--- The walk one name at a time is the rules' walk: to a file, and to the place of a new name.
+-- The walk one name at a time is the rules' walk: to a file, and to the entry of a new name.
 use Prim.Native.Nat.{ℕ, suc, _+_, _-_, _≤_, _<_}
 use mathlib.Core.Path.{_≡_, refl, sym, _∙_}
 use mathlib.Core.Bool.{Bool, true, false, false≢true}
@@ -21,7 +21,7 @@ use Rattle.rules.specs.declared.decision.Walk.{Walk}
 use Rattle.rules.specs.declared.decision.Walk.the-variants.{Reached, Stopped}
 use Rattle.resolution.specs.declared.walk.Intent.{Intent}
 use Rattle.resolution.specs.declared.walk.Intent.the-variants.{Find, Create}
-use Rattle.resolution.specs.Walks.{placed, lookupFor, walkFor, placeOf, isLast}
+use Rattle.resolution.specs.Walks.{arrived, lookupFor, walkFor, entryOf, isLast}
 
 -- ---- what follows a walk
 
@@ -50,7 +50,7 @@ checked-on false b c r q s k w f = refl
 
 module _ (t : Tree) (Q : List ℕ) (who : Subject) where
   pub find-is : (d : Slot) (n : Name) (k : ℕ) → lookupFor Find t Q who d n k ≡ lookup t Q who d n k
-  unfolding lookupFor placed lookup
+  unfolding lookupFor arrived lookup
   find-is d n k = refl
 
   -- ---- to a file
@@ -60,22 +60,22 @@ module _ (t : Tree) (Q : List ℕ) (who : Subject) where
   find-walk [] at k n = find-is (at .slot) n k ∙ sym (on-end (lookup t Q who (at .slot) n k) _ (λ (to : Location). refl))
   find-walk (m ∷ ns) at k n = on-same (lookup t Q who (at .slot) n k) _ _ (λ (to : Location). find-walk ns to (k + 1) m)
 
-  -- ---- to the place of a new name
+  -- ---- to the entry of a new name
 
-  abbrev parentPlace : Location → ℕ → List Name → Walk
-  parentPlace at k ns = onReached (onReached (walk t Q who at k (parentNames ns)) (enterParent (t .file) Q who (k + length ns - 1))) (placeOf t (lastName ns))
+  abbrev parentEntry : Location → ℕ → List Name → Walk
+  parentEntry at k ns = onReached (onReached (walk t Q who at k (parentNames ns)) (enterParent (t .file) Q who (k + length ns - 1))) (entryOf t (lastName ns))
 
-  -- the three checks of the parent, and then the place
-  pub enter-place : (at : Location) (k : ℕ) (n : Name) → onReached (enterParent (t .file) Q who k at) (placeOf t n) ≡ lookupFor Create t Q who (at .slot) n k
-  unfolding enterParent lookupFor placed onReached
-  enter-place at k n = checked-on _ _ _ _ _ _ _ (Reached at) (placeOf t n)
+  -- the three checks of the parent, and then the entry
+  pub enter-entry : (at : Location) (k : ℕ) (n : Name) → onReached (enterParent (t .file) Q who k at) (entryOf t n) ≡ lookupFor Create t Q who (at .slot) n k
+  unfolding enterParent lookupFor arrived onReached
+  enter-entry at k n = checked-on _ _ _ _ _ _ _ (Reached at) (entryOf t n)
 
   module _ (m : Name) (ns : List Name) (at : Location) (k : ℕ) (n : Name) where
     create-next : walkFor Create t Q who (at .slot) k (n ∷ m ∷ ns) ≡ onReached (lookup t Q who (at .slot) n k) (λ (to : Location). walkFor Create t Q who (to .slot) (k + 1) (m ∷ ns))
     unfolding walkFor
     create-next = refl
 
-    parent-next : parentPlace at k (n ∷ m ∷ ns) ≡ onReached (lookup t Q who (at .slot) n k) (λ (to : Location). parentPlace to (k + 1) (m ∷ ns))
+    parent-next : parentEntry at k (n ∷ m ∷ ns) ≡ onReached (lookup t Q who (at .slot) n k) (λ (to : Location). parentEntry to (k + 1) (m ∷ ns))
     unfolding walk onReached
     parent-next =
         let a : suc (suc (length ns)) - 1 ≡ suc (length ns) = omega arith in
@@ -83,16 +83,16 @@ module _ (t : Tree) (Q : List ℕ) (who : Subject) where
         let d : k + suc (suc (length ns)) - 1 ≡ k + 1 + suc (length ns) - 1 = omega arith in
         simp (a, b, d) (go (lookup t Q who (at .slot) n k))
       where
-        go : (w : Walk) → onReached (onReached (onReached w (λ (to : Location). walk t Q who to (k + 1) (take (length ns) (m ∷ ns)))) (enterParent (t .file) Q who (k + 1 + suc (length ns) - 1))) (placeOf t (getD (m ∷ ns) (length ns) []))
-            ≡ onReached w (λ (to : Location). onReached (onReached (walk t Q who to (k + 1) (take (length ns) (m ∷ ns))) (enterParent (t .file) Q who (k + 1 + suc (length ns) - 1))) (placeOf t (getD (m ∷ ns) (length ns) [])))
+        go : (w : Walk) → onReached (onReached (onReached w (λ (to : Location). walk t Q who to (k + 1) (take (length ns) (m ∷ ns)))) (enterParent (t .file) Q who (k + 1 + suc (length ns) - 1))) (entryOf t (getD (m ∷ ns) (length ns) []))
+            ≡ onReached w (λ (to : Location). onReached (onReached (walk t Q who to (k + 1) (take (length ns) (m ∷ ns))) (enterParent (t .file) Q who (k + 1 + suc (length ns) - 1))) (entryOf t (getD (m ∷ ns) (length ns) [])))
         go (Reached x) = refl
         go (Stopped r j) = refl
 
-  create-last : (at : Location) (k : ℕ) (n : Name) → walkFor Create t Q who (at .slot) k (n ∷ []) ≡ parentPlace at k (n ∷ [])
+  create-last : (at : Location) (k : ℕ) (n : Name) → walkFor Create t Q who (at .slot) k (n ∷ []) ≡ parentEntry at k (n ∷ [])
   unfolding walkFor walk onReached
-  create-last at k n = let e : k + 1 - 1 ≡ k = omega arith in rw e (sym (enter-place at k n))
+  create-last at k n = let e : k + 1 - 1 ≡ k = omega arith in rw e (sym (enter-entry at k n))
 
-  pub create-walk : (ns : List Name) (at : Location) (k : ℕ) (n : Name) → walkFor Create t Q who (at .slot) k (n ∷ ns) ≡ parentPlace at k (n ∷ ns)
+  pub create-walk : (ns : List Name) (at : Location) (k : ℕ) (n : Name) → walkFor Create t Q who (at .slot) k (n ∷ ns) ≡ parentEntry at k (n ∷ ns)
   create-walk [] at k n = create-last at k n
   create-walk (m ∷ ns) at k n =
       create-next m ns at k n ∙ on-same (lookup t Q who (at .slot) n k) _ _ (λ (to : Location). create-walk ns to (k + 1) m) ∙ sym (parent-next m ns at k n)

@@ -8,12 +8,13 @@ use lib.ListN.{length, drop}
 use Rattle.rules.specs.Choice.{every, some}
 use Rattle.rules.specs.Scan.{first}
 use Rattle.rules.specs.Layout.{DIRENTS}
-use Rattle.rules.specs.Store.{Tree}
+use Rattle.rules.specs.Store.{Tree, entry}
 use Rattle.rules.specs.Paths.{Name, span, isSlash, names, lastName}
 use Rattle.rules.specs.Directories.{direntAt, direntOf}
 use Rattle.rules.specs.Walk.{searched, reached, entered, lookup, onReached, walkParent}
 use Rattle.rules.specs.declared.request.Subject.{Subject}
 use Rattle.rules.specs.declared.ids.Slot.{Slot}
+use Rattle.rules.specs.declared.ids.Dirent.{Dirent}
 use Rattle.rules.specs.declared.decision.Location.{Location}
 use Rattle.rules.specs.declared.decision.Walk.{Walk}
 use Rattle.tables.specs.NameWords.{lowWord, highWord}
@@ -21,13 +22,13 @@ use Rattle.resolution.specs.declared.walk.Intent.{Intent}
 use Rattle.resolution.specs.declared.walk.Intent.the-variants.{Find, Create}
 
 -- entry i of directory d, whose bytes are D: a name that is missing stops a walk for a file
-unfoldable pub placed : Intent → List ℕ → Slot → (k i : ℕ) → Walk
-placed Find D d k i = entered D d k i
-placed Create D d k i = reached D d i
+unfoldable pub arrived : Intent → List ℕ → Slot → (k : ℕ) → Dirent → Walk
+arrived Find D d k i = entered D d k i
+arrived Create D d k i = reached D d i
 
 -- the k-th name is looked for in directory d
 unfoldable pub lookupFor : Intent → Tree → List ℕ → Subject → Slot → Name → ℕ → Walk
-lookupFor intent t Q who d name k = searched (t .file) Q who d k (placed intent (t .shown (d .0)) d k (direntOf (t .shown (d .0)) name))
+lookupFor intent t Q who d name k = searched (t .file) Q who d k (arrived intent (t .shown (d .0)) d k (direntOf (t .shown (d .0)) name))
 
 -- along the names, of which the first is the k-th and is looked for in directory d; all but the last must be there
 unfoldable pub walkFor : Intent → Tree → List ℕ → Subject → Slot → ℕ → List Name → Walk
@@ -36,12 +37,12 @@ walkFor intent t Q who d k (n ∷ []) = lookupFor intent t Q who d n k
 walkFor intent t Q who d k (n ∷ m ∷ ns) = onReached (lookup t Q who d n k) (λ at. walkFor intent t Q who (at .slot) (k + 1) (m ∷ ns))
 
 -- where in the directory at a location the name stands; entry 16 where it is missing
-abbrev pub placeOf : Tree → Name → Location → Walk
-placeOf t name at = reached (t .shown (at .slot .0)) (at .slot) (direntOf (t .shown (at .slot .0)) name)
+abbrev pub entryOf : Tree → Name → Location → Walk
+entryOf t name at = reached (t .shown (at .slot .0)) (at .slot) (direntOf (t .shown (at .slot .0)) name)
 
--- into the parent, and to the place of the last name there
+-- into the parent, and to the entry of the last name there
 unfoldable pub walkNew : Tree → List ℕ → Subject → List ℕ → Walk
-walkNew t Q who path = onReached (walkParent t Q who path) (placeOf t (lastName (names path)))
+walkNew t Q who path = onReached (walkParent t Q who path) (entryOf t (lastName (names path)))
 
 -- ---- names by their words
 
@@ -49,14 +50,14 @@ walkNew t Q who path = onReached (walkParent t Q who path) (placeOf t (lastName 
 unfoldable pub hasWords : List ℕ → (low high i : ℕ) → Bool
 hasWords D low high i = every (eqb (lowWord (direntAt D i)) low ∷ eqb (highWord (direntAt D i)) high ∷ [])
 
-abbrev pub direntBy : List ℕ → (low high : ℕ) → ℕ
-direntBy D low high = first (hasWords D low high) 0 DIRENTS
+abbrev pub direntBy : List ℕ → (low high : ℕ) → Dirent
+direntBy D low high = entry (first (hasWords D low high) 0 DIRENTS)
 
-abbrev pub placedBy : Intent → Tree → Slot → (low high k : ℕ) → Walk
-placedBy intent t d low high k = placed intent (t .shown (d .0)) d k (direntBy (t .shown (d .0)) low high)
+abbrev pub arrivedBy : Intent → Tree → Slot → (low high k : ℕ) → Walk
+arrivedBy intent t d low high k = arrived intent (t .shown (d .0)) d k (direntBy (t .shown (d .0)) low high)
 
 unfoldable pub lookupBy : Intent → Tree → List ℕ → Subject → Slot → (low high k : ℕ) → Walk
-lookupBy intent t Q who d low high k = searched (t .file) Q who d k (placedBy intent t d low high k)
+lookupBy intent t Q who d low high k = searched (t .file) Q who d k (arrivedBy intent t d low high k)
 
 -- ---- how the code goes along a path
 

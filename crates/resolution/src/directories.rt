@@ -11,6 +11,7 @@ ghost use Rattle.rules.specs.Layout.{NAME, DIRENTS, DIRENT};
 ghost use Rattle.rules.specs.Directories.{direntAt, isEmpty, freeDirent, differsAt, difference, precedes, isBefore, isRanked, direntRanked, isPadding, direntName};
 ghost use Rattle.tables.specs.NameWords.{lowWord, highWord};
 ghost use Rattle.resolution.specs.Walks.{hasWords, direntBy};
+use rules::ids::Dirent;
 use tables::directories::dirent_at;
 use tables::directories::high_at;
 use tables::directories::is_empty;
@@ -25,12 +26,12 @@ use tables::parts::upto;
 use tables::words::byte;
 
 // The first eight bytes of entry i are those of the word.
-fn has_low(dir: &[u8], i: u32, low: u64) -> bool
-    requires { ⌜ i < DIRENTS ⌝ }
+fn has_low(dir: &[u8], i: Dirent, low: u64) -> bool
+    requires { ⌜ i .0 < DIRENTS ⌝ }
     requires { ⌜ DIRENTS * DIRENT ≤ length (now dir) ⌝ }
-    ensures { λ r. ⌜ r ≡ eqb (lowWord (direntAt (now (dir .entry)) i)) low ⌝ }
+    ensures { λ r. ⌜ r ≡ eqb (lowWord (direntAt (now (dir .entry)) (i .0))) low ⌝ }
 {
-    let at = DIRENT * (i as usize);
+    let at = DIRENT * (i.0 as usize);
     eight_of(
         dir[at],
         dir[at + 1],
@@ -45,12 +46,12 @@ fn has_low(dir: &[u8], i: u32, low: u64) -> bool
 }
 
 // The six after them.
-fn has_high(dir: &[u8], i: u32, high: u64) -> bool
-    requires { ⌜ i < DIRENTS ⌝ }
+fn has_high(dir: &[u8], i: Dirent, high: u64) -> bool
+    requires { ⌜ i .0 < DIRENTS ⌝ }
     requires { ⌜ DIRENTS * DIRENT ≤ length (now dir) ⌝ }
-    ensures { λ r. ⌜ r ≡ eqb (highWord (direntAt (now (dir .entry)) i)) high ⌝ }
+    ensures { λ r. ⌜ r ≡ eqb (highWord (direntAt (now (dir .entry)) (i .0))) high ⌝ }
 {
-    let at = DIRENT * (i as usize);
+    let at = DIRENT * (i.0 as usize);
     six_of(
         dir[at + 8],
         dir[at + 9],
@@ -63,37 +64,37 @@ fn has_high(dir: &[u8], i: u32, high: u64) -> bool
 }
 
 // The entries of a directory that is whole: no byte is tested against its end.
-fn dirent_in_whole(dir: &[u8], low: u64, high: u64) -> u32
+fn dirent_in_whole(dir: &[u8], low: u64, high: u64) -> Dirent
     requires { ⌜ DIRENTS * DIRENT ≤ length (now dir) ⌝ }
     ensures { λ r. ⌜ r ≡ direntBy (now (dir .entry)) low high ⌝ }
 {
     let mut i: u32 = 0;
     while i < DIRENTS {
-        if has_low(dir, i, low) {
-            if has_high(dir, i, high) {
-                return i;
+        if has_low(dir, Dirent(i), low) {
+            if has_high(dir, Dirent(i), high) {
+                return Dirent(i);
             }
         }
         i += 1;
     }
-    DIRENTS
+    Dirent(DIRENTS)
 }
 
-fn low_is(dir: &[u8], low: u64, i: u32) -> bool
-    ensures { λ r. ⌜ r ≡ eqb (lowWord (direntAt (now (dir .entry)) i)) low ⌝ }
+fn low_is(dir: &[u8], low: u64, i: Dirent) -> bool
+    ensures { λ r. ⌜ r ≡ eqb (lowWord (direntAt (now (dir .entry)) (i .0))) low ⌝ }
 {
     low_at(dir, i) == low
 }
 
-fn high_is(dir: &[u8], high: u64, i: u32) -> bool
-    ensures { λ r. ⌜ r ≡ eqb (highWord (direntAt (now (dir .entry)) i)) high ⌝ }
+fn high_is(dir: &[u8], high: u64, i: Dirent) -> bool
+    ensures { λ r. ⌜ r ≡ eqb (highWord (direntAt (now (dir .entry)) (i .0))) high ⌝ }
 {
     high_at(dir, i) == high
 }
 
 // Entry i has the name of these words.
-fn has_words(dir: &[u8], low: u64, high: u64, i: u32) -> bool
-    ensures { λ r. ⌜ r ≡ hasWords (now (dir .entry)) low high i ⌝ }
+fn has_words(dir: &[u8], low: u64, high: u64, i: Dirent) -> bool
+    ensures { λ r. ⌜ r ≡ hasWords (now (dir .entry)) low high (i .0) ⌝ }
 {
     if !low_is(dir, low, i) {
         return false;
@@ -101,21 +102,21 @@ fn has_words(dir: &[u8], low: u64, high: u64, i: u32) -> bool
     high_is(dir, high, i)
 }
 
-fn dirent_in_part(dir: &[u8], low: u64, high: u64) -> u32
+fn dirent_in_part(dir: &[u8], low: u64, high: u64) -> Dirent
     ensures { λ r. ⌜ r ≡ direntBy (now (dir .entry)) low high ⌝ }
 {
     let mut i: u32 = 0;
     while i < DIRENTS {
-        if has_words(dir, low, high, i) {
-            return i;
+        if has_words(dir, low, high, Dirent(i)) {
+            return Dirent(i);
         }
         i += 1;
     }
-    DIRENTS
+    Dirent(DIRENTS)
 }
 
 // The entry that has the name of these words, 16 where none has.
-pub fn dirent_by(dir: &[u8], low: u64, high: u64) -> u32
+pub fn dirent_by(dir: &[u8], low: u64, high: u64) -> Dirent
     ensures { λ r. ⌜ r ≡ direntBy (now (dir .entry)) low high ⌝ }
 {
     if (DIRENTS as usize) * DIRENT <= dir.len() {
@@ -125,17 +126,17 @@ pub fn dirent_by(dir: &[u8], low: u64, high: u64) -> u32
 }
 
 // The lowest free entry, 16 where there is none.
-pub fn free_dirent(dir: &[u8]) -> u32
+pub fn free_dirent(dir: &[u8]) -> Dirent
     ensures { λ r. ⌜ r ≡ freeDirent (now (dir .entry)) ⌝ }
 {
     let mut i: u32 = 0;
     while i < DIRENTS {
-        if is_empty(dir, i) {
-            return i;
+        if is_empty(dir, Dirent(i)) {
+            return Dirent(i);
         }
         i += 1;
     }
-    DIRENTS
+    Dirent(DIRENTS)
 }
 
 fn differs_at(a: &[u8], b: &[u8], k: usize) -> bool
@@ -181,21 +182,21 @@ fn precedes_name(a: &[u8], b: &[u8]) -> bool
     precedes_at(a, b, difference_of(a, b))
 }
 
-fn is_used(dir: &[u8], i: u32) -> bool
-    ensures { λ r. ⌜ r ≡ not (isEmpty (now (dir .entry)) i) ⌝ }
+fn is_used(dir: &[u8], i: Dirent) -> bool
+    ensures { λ r. ⌜ r ≡ not (isEmpty (now (dir .entry)) (i .0)) ⌝ }
 {
     !is_empty(dir, i)
 }
 
-fn precedes_dirent(dir: &[u8], j: u32, i: u32) -> bool
-    ensures { λ r. ⌜ r ≡ precedes (direntAt (now (dir .entry)) j) (direntAt (now (dir .entry)) i) ⌝ }
+fn precedes_dirent(dir: &[u8], j: Dirent, i: Dirent) -> bool
+    ensures { λ r. ⌜ r ≡ precedes (direntAt (now (dir .entry)) (j .0)) (direntAt (now (dir .entry)) (i .0)) ⌝ }
 {
     precedes_name(dirent_at(dir, j), dirent_at(dir, i))
 }
 
 // Entry j has a name that comes before that of entry i.
-fn is_before(dir: &[u8], i: u32, j: u32) -> bool
-    ensures { λ r. ⌜ r ≡ isBefore (now (dir .entry)) i j ⌝ }
+fn is_before(dir: &[u8], i: Dirent, j: Dirent) -> bool
+    ensures { λ r. ⌜ r ≡ isBefore (now (dir .entry)) (i .0) (j .0) ⌝ }
 {
     if !is_used(dir, j) {
         return false;
@@ -204,13 +205,13 @@ fn is_before(dir: &[u8], i: u32, j: u32) -> bool
 }
 
 // How many names come before that of entry i.
-fn rank_of(dir: &[u8], i: u32) -> u32
-    ensures { λ r. ⌜ r ≡ count (isBefore (now (dir .entry)) i) 0 DIRENTS ⌝ }
+fn rank_of(dir: &[u8], i: Dirent) -> u32
+    ensures { λ r. ⌜ r ≡ count (isBefore (now (dir .entry)) (i .0)) 0 DIRENTS ⌝ }
 {
     let mut n: u32 = 0;
     let mut j: u32 = 0;
     while j < DIRENTS {
-        if is_before(dir, i, j) {
+        if is_before(dir, i, Dirent(j)) {
             n += 1;
         }
         j += 1;
@@ -218,14 +219,14 @@ fn rank_of(dir: &[u8], i: u32) -> u32
     n
 }
 
-fn has_rank(dir: &[u8], k: u32, i: u32) -> bool
-    ensures { λ r. ⌜ r ≡ eqb (count (isBefore (now (dir .entry)) i) 0 DIRENTS) k ⌝ }
+fn has_rank(dir: &[u8], k: u32, i: Dirent) -> bool
+    ensures { λ r. ⌜ r ≡ eqb (count (isBefore (now (dir .entry)) (i .0)) 0 DIRENTS) k ⌝ }
 {
     rank_of(dir, i) == k
 }
 
-fn is_ranked(dir: &[u8], k: u32, i: u32) -> bool
-    ensures { λ r. ⌜ r ≡ isRanked (now (dir .entry)) k i ⌝ }
+fn is_ranked(dir: &[u8], k: u32, i: Dirent) -> bool
+    ensures { λ r. ⌜ r ≡ isRanked (now (dir .entry)) k (i .0) ⌝ }
 {
     if !is_used(dir, i) {
         return false;
@@ -234,17 +235,17 @@ fn is_ranked(dir: &[u8], k: u32, i: u32) -> bool
 }
 
 // The entry of the k-th name in byte order, 16 where there are not so many.
-pub fn dirent_ranked(dir: &[u8], k: u32) -> u32
+pub fn dirent_ranked(dir: &[u8], k: u32) -> Dirent
     ensures { λ r. ⌜ r ≡ direntRanked (now (dir .entry)) k ⌝ }
 {
     let mut i: u32 = 0;
     while i < DIRENTS {
-        if is_ranked(dir, k, i) {
-            return i;
+        if is_ranked(dir, k, Dirent(i)) {
+            return Dirent(i);
         }
         i += 1;
     }
-    DIRENTS
+    Dirent(DIRENTS)
 }
 
 fn name_length(name: &[u8]) -> usize
@@ -261,7 +262,7 @@ fn name_length(name: &[u8]) -> usize
 }
 
 // The name of entry i, without its padding.
-pub fn dirent_name(dir: &[u8], i: u32) -> &[u8]
+pub fn dirent_name(dir: &[u8], i: Dirent) -> &[u8]
     ensures { λ r. ⌜ now r ≡ direntName (now (dir .entry)) i ⌝ }
 {
     let name = dirent_at(dir, i);

@@ -2,10 +2,11 @@
 ghost use mathlib.Core.Path.{_≡_};
 ghost use Rattle.rules.specs.Layout.{FILE};
 ghost use Rattle.rules.specs.Store.{tab};
-ghost use Rattle.rules.specs.Rights.{stands, covers, bitsGrant, owns, labelGrants};
+ghost use Rattle.rules.specs.Rights.{stands, covers, rightsIn, bitsGrant, owns, labelGrants};
 ghost use Rattle.rules.specs.Walk.{bitsAllow, labelAllows};
 use rules::ids::Slot;
 use rules::request::Subject;
+use rules::rights::Bits;
 use rules::rights::Rights;
 
 fn stands_in(held: u32, want: u32) -> bool
@@ -18,19 +19,26 @@ fn stands_in(held: u32, want: u32) -> bool
     true
 }
 
-fn covers_all(held: u32, want: u32) -> bool
+fn covers_all(held: Rights, want: Rights) -> bool
     ensures { λ r. ⌜ r ≡ covers held want ⌝ }
 {
-    if !stands_in(held / 4, want / 4) {
+    if !stands_in(held.0 / 4, want.0 / 4) {
         return false;
     }
-    if !stands_in(held / 2, want / 2) {
+    if !stands_in(held.0 / 2, want.0 / 2) {
         return false;
     }
-    stands_in(held, want)
+    stands_in(held.0, want.0)
 }
 
-fn bits_grant(who: Subject, owner: u32, bits: u32, want: Rights) -> bool
+// The rights that the bits give to everyone are enough.
+fn bits_cover(bits: Bits, want: Rights) -> bool
+    ensures { λ r. ⌜ r ≡ covers (rightsIn bits) want ⌝ }
+{
+    covers_all(Rights(bits.0), want)
+}
+
+fn bits_grant(who: Subject, owner: u32, bits: Bits, want: Rights) -> bool
     ensures { λ r. ⌜ r ≡ bitsGrant who owner bits want ⌝ }
 {
     let root = who.user == 0;
@@ -41,7 +49,7 @@ fn bits_grant(who: Subject, owner: u32, bits: u32, want: Rights) -> bool
     if own {
         return true;
     }
-    covers_all(bits, want.0)
+    bits_cover(bits, want)
 }
 
 // The subject is user 0 or the owner.
@@ -58,7 +66,7 @@ pub fn is_owner(who: Subject, owner: u32) -> bool
 fn label_grants(policy: &[u8], who: Subject, label: u32, want: Rights) -> bool
     ensures { λ r. ⌜ r ≡ labelGrants (now (policy .entry)) who label want ⌝ }
 {
-    covers_all(tables::policy::rights(policy, who.label, label), want.0)
+    covers_all(tables::policy::rights(policy, who.label, label), want)
 }
 
 // The bits of slot s grant the rights.

@@ -5,7 +5,7 @@ ghost use lib.ListN.{drop, length};
 ghost use Rattle.rules.specs.Store.{tree};
 ghost use Rattle.rules.specs.Paths.{firstNames};
 ghost use Rattle.rules.specs.Walk.{reached, entered, walkPath, ROOT};
-ghost use Rattle.resolution.specs.Walks.{here, isLast, placed, direntBy, placedBy, lookupBy, walkFor, walkNew, firstNumber, NameStarts};
+ghost use Rattle.resolution.specs.Walks.{here, isLast, arrived, direntBy, arrivedBy, lookupBy, walkFor, walkNew, firstNumber, NameStarts};
 use crate::directories::dirent_by;
 use crate::path_names::read_name;
 use crate::paths::ByteClass;
@@ -14,11 +14,12 @@ use crate::rights::bits_allow;
 use crate::rights::label_allows;
 use rules::decision::Location;
 use rules::decision::Walk;
+use rules::ids::Dirent;
 use rules::ids::Slot;
 use rules::refusal::Refusal;
 use rules::request::Subject;
 use rules::rights::Rights;
-use tables::layout::DIRENTS;
+use tables::ids::is_dirent;
 use tables::layout::NAMES;
 
 // What a path is walked for: the file that it names, or a new name in the parent, which may be there or not.
@@ -28,29 +29,28 @@ pub enum Intent {
 }
 
 // Entry i of directory d, whose bytes are `dir`.
-fn enter_dirent(dir: &[u8], d: Slot, k: u32, i: u32) -> Walk
+fn enter_dirent(dir: &[u8], d: Slot, k: u32, i: Dirent) -> Walk
     ensures { λ r. ⌜ r ≡ entered (now (dir .entry)) d k i ⌝ }
 {
-    let there = i < DIRENTS;
-    if !there {
+    if !is_dirent(i) {
         return Walk::Stopped(Refusal::NameMissing, k);
     }
     reach_dirent(dir, d, i)
 }
 
-fn reach_dirent(dir: &[u8], d: Slot, i: u32) -> Walk
+fn reach_dirent(dir: &[u8], d: Slot, i: Dirent) -> Walk
     ensures { λ r. ⌜ r ≡ reached (now (dir .entry)) d i ⌝ }
 {
     Walk::Reached(Location {
         dir: d,
         dirent: i,
-        slot: Slot(tables::directories::dirent_slot(dir, i)),
+        slot: tables::directories::dirent_slot(dir, i),
     })
 }
 
 // A name that is missing stops a walk for a file.
-fn place_at(dir: &[u8], d: Slot, k: u32, intent: Intent, i: u32) -> Walk
-    ensures { λ r. ⌜ r ≡ placed intent (now (dir .entry)) d k i ⌝ }
+fn arrive_at(dir: &[u8], d: Slot, k: u32, intent: Intent, i: Dirent) -> Walk
+    ensures { λ r. ⌜ r ≡ arrived intent (now (dir .entry)) d k i ⌝ }
 {
     match intent {
         Intent::Find => enter_dirent(dir, d, k, i),
@@ -58,13 +58,13 @@ fn place_at(dir: &[u8], d: Slot, k: u32, intent: Intent, i: u32) -> Walk
     }
 }
 
-fn place_in(dir: &[u8], d: Slot, low: u64, high: u64, k: u32, intent: Intent) -> Walk
-    ensures { λ r. ⌜ r ≡ placed intent (now (dir .entry)) d k (direntBy (now (dir .entry)) low high) ⌝ }
+fn arrive_in(dir: &[u8], d: Slot, low: u64, high: u64, k: u32, intent: Intent) -> Walk
+    ensures { λ r. ⌜ r ≡ arrived intent (now (dir .entry)) d k (direntBy (now (dir .entry)) low high) ⌝ }
 {
-    place_at(dir, d, k, intent, dirent_by(dir, low, high))
+    arrive_at(dir, d, k, intent, dirent_by(dir, low, high))
 }
 
-fn place(
+fn arrive(
     files: &[u32],
     contents: &[u8],
     d: Slot,
@@ -73,10 +73,10 @@ fn place(
     k: u32,
     intent: Intent,
 ) -> Walk
-    ensures { λ r. ⌜ r ≡ placedBy intent (tree (now (files .entry)) (now (contents .entry))) d low high k ⌝ }
+    ensures { λ r. ⌜ r ≡ arrivedBy intent (tree (now (files .entry)) (now (contents .entry))) d low high k ⌝ }
 {
     let dir = tables::files::shown(files, contents, d);
-    place_in(dir, d, low, high, k, intent)
+    arrive_in(dir, d, low, high, k, intent)
 }
 
 // The k-th name, by its words, is looked for in directory d.
@@ -94,15 +94,15 @@ fn look_up(
     ensures { λ r. ⌜ r ≡ lookupBy intent (tree (now (files .entry)) (now (contents .entry))) (now (policy .entry)) who d low high k ⌝ }
 {
     if !tables::files::is_directory(files, d) {
-        return Walk::Stopped(Refusal::NotDirectory, k);
+        return Walk::Stopped(Refusal::NotADirectory, k);
     }
-    if !bits_allow(files, who, d, Rights::SEARCH) {
+    if !bits_allow(files, who, d, Rights::EXECUTE) {
         return Walk::Stopped(Refusal::BitsForbid, k);
     }
-    if !label_allows(files, policy, who, d, Rights::SEARCH) {
+    if !label_allows(files, policy, who, d, Rights::EXECUTE) {
         return Walk::Stopped(Refusal::LabelForbids, k);
     }
-    place(files, contents, d, low, high, k, intent)
+    arrive(files, contents, d, low, high, k, intent)
 }
 
 fn root() -> Location
@@ -110,7 +110,7 @@ fn root() -> Location
 {
     Location {
         dir: Slot(0),
-        dirent: 0,
+        dirent: Dirent(0),
         slot: Slot(0),
     }
 }

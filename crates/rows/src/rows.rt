@@ -1,4 +1,4 @@
-// Whole rows of the tables, and places that several calls write.
+// Whole rows of the tables, and words that several calls write.
 ghost use mathlib.Core.Path.{_≡_};
 ghost use mathlib.Core.List.{List, [], _∷_};
 ghost use Prim.Native.Nat.{ℕ, _+_, _*_, _%_};
@@ -7,10 +7,12 @@ ghost use lib.Seq.{sets};
 ghost use Rattle.rules.specs.Layout.{FILE, LENGTH, VERSION, BLOCK, DIRENT, NAME, OPEN, PROCESS, OWN};
 ghost use Rattle.rules.specs.Store.{store, puts, clearTo, applyAll};
 ghost use Rattle.rules.specs.Directories.{padded, dirent};
-ghost use Rattle.rules.specs.Effects.{words};
+ghost use Rattle.rules.specs.Effects.{words, descWord};
 use rules::decision::DirChange;
 use rules::decision::Record;
+use rules::ids::Dirent;
 use rules::ids::Fd;
+use rules::ids::Ofd;
 use rules::ids::Pid;
 use rules::ids::Slot;
 use rules::rights::OpenMode;
@@ -32,6 +34,7 @@ use tables::layout::PROCESS;
 use tables::layout::REFERENCES;
 use tables::layout::SLOT;
 use tables::layout::VERSION;
+use tables::numbers::up_one;
 use tables::words::byte;
 use tables::words::put;
 use tables::words::put_byte;
@@ -45,9 +48,10 @@ pub fn put_record(files: &mut [u32], s: Slot, r: Record)
     ensures { λ _. ⌜ now (files .exit) ≡ puts FILE (now (files .entry)) (s .0) 0 (words r) ⌝ }
 {
     let at = FILE * (s.0 as usize);
+    let bits = r.bits;
     put(files, at + KIND, r.kind);
     put(files, at + OWNER, r.owner);
-    put(files, at + BITS, r.bits);
+    put(files, at + BITS, bits.0);
     put(files, at + LABEL, r.label);
     put(files, at + LENGTH, r.length);
     put(files, at + LINKS, r.links);
@@ -73,18 +77,18 @@ pub fn put_directory(files: &mut [u32], d: DirChange)
 }
 
 // An open file at offset 0 that one descriptor holds.
-pub fn put_open(opens: &mut [u32], e: u32, s: Slot, mode: OpenMode)
-    ensures { λ _. ⌜ now (opens .exit) ≡ puts OPEN (now (opens .entry)) e 0 (s .0 ∷ mode .0 ∷ 0 ∷ 1 ∷ []) ⌝ }
+pub fn put_open(open_files: &mut [u32], e: Ofd, s: Slot, mode: OpenMode)
+    ensures { λ _. ⌜ now («open_files» .exit) ≡ puts OPEN (now («open_files» .entry)) (e .0) 0 (s .0 ∷ mode .0 ∷ 0 ∷ 1 ∷ []) ⌝ }
 {
-    let at = OPEN * (e as usize);
-    put(opens, at + SLOT, s.0);
-    put(opens, at + MODE, mode.0);
-    put(opens, at + OFFSET, 0);
-    put(opens, at + REFERENCES, 1);
+    let at = OPEN * (e.0 as usize);
+    put(open_files, at + SLOT, s.0);
+    put(open_files, at + MODE, mode.0);
+    put(open_files, at + OFFSET, 0);
+    put(open_files, at + REFERENCES, 1);
 }
 
-// What a descriptor holds.
-pub fn put_descriptor(processes: &mut [u32], p: Pid, i: Fd, x: u32)
+// The word of a descriptor.
+fn put_descriptor(processes: &mut [u32], p: Pid, i: Fd, x: u32)
     ensures { λ _. ⌜ now (processes .exit) ≡ set (now (processes .entry)) (PROCESS * (p .0) + (OWN + (i .0))) x ⌝ }
 {
     put(
@@ -94,11 +98,25 @@ pub fn put_descriptor(processes: &mut [u32], p: Pid, i: Fd, x: u32)
     );
 }
 
-// The name into entry i of directory d, padded to 14 bytes with 0.
-fn put_name(contents: &mut [u8], d: Slot, i: u32, name: &[u8])
-    ensures { λ _. ⌜ now (contents .exit) ≡ sets (now (contents .entry)) (BLOCK * (d .0) + DIRENT * i) (padded NAME (now (name .entry))) ⌝ }
+// A descriptor holds open file e.
+pub fn put_held(processes: &mut [u32], p: Pid, i: Fd, e: Ofd)
+    ensures { λ _. ⌜ now (processes .exit) ≡ set (now (processes .entry)) (PROCESS * (p .0) + (OWN + (i .0))) (descWord e) ⌝ }
 {
-    let at = BLOCK * (d.0 as usize) + DIRENT * (i as usize);
+    put_descriptor(processes, p, i, up_one(e.0));
+}
+
+// A descriptor holds nothing.
+pub fn put_empty(processes: &mut [u32], p: Pid, i: Fd)
+    ensures { λ _. ⌜ now (processes .exit) ≡ set (now (processes .entry)) (PROCESS * (p .0) + (OWN + (i .0))) 0 ⌝ }
+{
+    put_descriptor(processes, p, i, 0);
+}
+
+// The name into entry i of directory d, padded to 14 bytes with 0.
+fn put_name(contents: &mut [u8], d: Slot, i: Dirent, name: &[u8])
+    ensures { λ _. ⌜ now (contents .exit) ≡ sets (now (contents .entry)) (BLOCK * (d .0) + DIRENT * (i .0)) (padded NAME (now (name .entry))) ⌝ }
+{
+    let at = BLOCK * (d.0 as usize) + DIRENT * (i.0 as usize);
     let mut k = 0;
     while k < NAME {
         put_byte(contents, at + k, byte(name, k));
@@ -114,10 +132,10 @@ fn slot_byte(s: Slot) -> u8
 }
 
 // Entry i of directory d: the name, the slot, 0.
-pub fn put_dirent(contents: &mut [u8], d: Slot, i: u32, name: &[u8], s: Slot)
-    ensures { λ _. ⌜ now (contents .exit) ≡ sets (now (contents .entry)) (BLOCK * (d .0) + DIRENT * i) (dirent (now (name .entry)) s) ⌝ }
+pub fn put_dirent(contents: &mut [u8], d: Slot, i: Dirent, name: &[u8], s: Slot)
+    ensures { λ _. ⌜ now (contents .exit) ≡ sets (now (contents .entry)) (BLOCK * (d .0) + DIRENT * (i .0)) (dirent (now (name .entry)) s) ⌝ }
 {
-    let at = BLOCK * (d.0 as usize) + DIRENT * (i as usize);
+    let at = BLOCK * (d.0 as usize) + DIRENT * (i.0 as usize);
     put_name(contents, d, i, name);
     put_byte(contents, at + NAME, slot_byte(s));
     put_byte(contents, at + (NAME + 1), 0);

@@ -6,7 +6,7 @@ use mathlib.Core.Bool.{true}
 use mathlib.Core.List.{List, [], _∷_, _++_}
 use lib.ListN.{take, set, replicate}
 use Rattle.rules.specs.Computing.{computing}
-use Rattle.rules.specs.Layout.{FILE, KIND, VERSION, PLAIN, DOMAIN, WORD-MAX, SLASH}
+use Rattle.rules.specs.Layout.{FILE, KIND, VERSION, PLAIN, PROCESS-LABEL, WORD-MAX, SLASH}
 use Rattle.rules.specs.Store.{Store, store, tab, procOf, block}
 use Rattle.rules.specs.Sound.{policySound, sizesSound}
 use Rattle.rules.specs.Calls.{Call}
@@ -24,7 +24,7 @@ console-policy = refl
 -- ---- calls, with a buffer of 16 bytes
 
 abbrev call : (process call fd number : ℕ) (path : List ℕ) → Call
-call p n i number path = record { process = record { 0 = p }; call = n; fd = record { 0 = i }; number = number; path = path; bytes = []; buffer = replicate 16 255 }
+call p n i number path = record { process = record { 0 = p }; call = n; fd = record { 0 = i }; number = number; path = path; «data» = []; buffer = replicate 16 255 }
 
 abbrev opens : (process : ℕ) (path : List ℕ) (mode : ℕ) → Call
 opens p path mode = call p 1 0 mode path
@@ -111,17 +111,17 @@ freed-slot-keeps-its-bytes : fareBytes (after (unlinks 1 FARES-NOW ∷ [])) ≡ 
 unfolding computing afterFrom
 freed-slot-keeps-its-bytes = refl
 
--- ---- cutting
+-- ---- truncating
 
 -- "Leaving old bytes past a cut"
-bytes-left-past-a-cut : fareBytes (after (opens 0 FARES-NOW 10 ∷ [])) ≡ 0 ∷ 0 ∷ 0 ∷ 0 ∷ 0 ∷ []
+bytes-left-past-a-truncation : fareBytes (after (opens 0 FARES-NOW 10 ∷ [])) ≡ 0 ∷ 0 ∷ 0 ∷ 0 ∷ 0 ∷ []
 unfolding computing afterFrom
-bytes-left-past-a-cut = refl
+bytes-left-past-a-truncation = refl
 
 -- "Cutting a file before finding that no descriptor is free"
-cut-before-a-descriptor-is-found : fareBytes (after (replicate 8 (opens 0 FARES-NOW 1) ++ opens 0 FARES-NOW 10 ∷ [])) ≡ 50 ∷ 46 ∷ 52 ∷ 48 ∷ 10 ∷ []
+truncated-before-a-descriptor-is-found : fareBytes (after (replicate 8 (opens 0 FARES-NOW 1) ++ opens 0 FARES-NOW 10 ∷ [])) ≡ 50 ∷ 46 ∷ 52 ∷ 48 ∷ 10 ∷ []
 unfolding computing afterFrom
-cut-before-a-descriptor-is-found = refl
+truncated-before-a-descriptor-is-found = refl
 
 -- ---- fork
 
@@ -131,7 +131,7 @@ unfolding computing afterFrom
 offset-copied-at-fork = refl
 
 -- "same user, label and entries"
-child-label-0 : procOf (after (forks 2 ∷ []) .processes) 3 DOMAIN ≡ 2
+child-label-0 : procOf (after (forks 2 ∷ []) .processes) 3 PROCESS-LABEL ≡ 2
 unfolding computing afterFrom
 child-label-0 = refl
 
@@ -144,7 +144,7 @@ highest-free-slot = refl
 
 -- "a stamp of 4,294,967,295 is followed by 0"
 worn : Store
-worn = store (set (console .files) (FILE * 1 + VERSION) WORD-MAX) (console .contents) (console .opens) (console .processes)
+worn = store (set (console .files) (FILE * 1 + VERSION) WORD-MAX) (console .contents) (console .openFiles) (console .processes)
 
 version-saturates : tab FILE (afterFrom worn (creates 1 FARES-X ∷ []) .files) 1 VERSION ≡ 0
 unfolding computing afterFrom worn

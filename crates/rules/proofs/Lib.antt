@@ -2,5 +2,6 @@
 pub mod Choices
 pub mod Scans
 pub mod Lists
+pub mod Ranges
 pub mod Written
 pub mod Guards

@@ -13,9 +13,10 @@ use Rattle.rules.specs.Choice.{every, some, implies}
 use Rattle.rules.specs.Layout.{PATH, NUMBER-MAX, SLASH}
 use Rattle.rules.specs.Store.{zeros}
 use Rattle.rules.specs.Calls.{Call, operationOf}
+use Rattle.rules.specs.declared.refusal.Refusal.the-variants.{Malformed}
 use Rattle.rules.specs.declared.request.Operation.{Operation}
 use Rattle.rules.specs.declared.request.Operation.the-variants as op
-use Rattle.rules.specs.Written.{BYTE, Bytes, Written, written, Parts, uses, partsOf, numberIf, textIf, capped, normalBy, normal, textsFit, canKeep, layout, encode, Kept, NotWritten, numbersFit, accepted, parsed, decode}
+use Rattle.rules.specs.Written.{BYTE, Bytes, Written, written, Parts, uses, partsOf, numberIf, textIf, capped, normalBy, normal, textsFit, canKeep, layout, encode, keep, Keeps, Refuses, Kept, NotWritten, numbersFit, accepted, parsed, decode}
 use Rattle.rules.specs.Computing.{computing}
 
 -- ---- lists of tests
@@ -76,7 +77,7 @@ unfolding numbersFit textsFit normalBy
 normal-same u w h ns ts =
     let n = both _ _ ns in
     let t = both _ _ ts in
-    rw (capped-same (w .number) h, number-same (u .fd) (w .fd .0) (n .0), number-same (u .number) (w .number) (n .1), text-same (u .path) (w .path) (t .0), text-same (u .bytes) (w .bytes) (t .1))
+    rw (capped-same (w .number) h, number-same (u .fd) (w .fd .0) (n .0), number-same (u .number) (w .number) (n .1), text-same (u .path) (w .path) (t .0), text-same (u .«data») (w .«data») (t .1))
 
 -- ---- the bytes of a number
 
@@ -91,8 +92,8 @@ high-byte low high h = omega arith
 
 -- ---- there and back
 
-parsed-back : (w : Written) → parsed (w .process .0) (w .call) (w .fd .0) (w .number % BYTE) (w .number / BYTE) (length (w .path)) (w .path ++ w .bytes) ≡ w
-parsed-back w = rw (number-back (w .number), take-append-seam (w .path) (w .bytes), drop-append-seam (w .path) (w .bytes))
+parsed-back : (w : Written) → parsed (w .process .0) (w .call) (w .fd .0) (w .number % BYTE) (w .number / BYTE) (length (w .path)) (w .path ++ w .«data») ≡ w
+parsed-back w = rw (number-back (w .number), take-append-seam (w .path) (w .«data»), drop-append-seam (w .path) (w .«data»))
 
 accepted-same : (full : Bool) (v w : Written) → v ≡ w → full ≡ true → numbersFit (partsOf w) w ≡ true → textsFit (partsOf w) w ≡ true → accepted full v ≡ Kept w
 unfolding accepted every
@@ -148,7 +149,7 @@ path-most op.Exit = refl
 path-most op.Execute = refl
 path-most op.Unknown = refl
 
-layout-bytes : (w : Written) → w .process .0 < BYTE → w .call < BYTE → w .fd .0 < BYTE → w .number ≤ NUMBER-MAX → length (w .path) ≤ PATH → Bytes (w .path) → Bytes (w .bytes) → Bytes (layout w)
+layout-bytes : (w : Written) → w .process .0 < BYTE → w .call < BYTE → w .fd .0 < BYTE → w .number ≤ NUMBER-MAX → length (w .path) ≤ PATH → Bytes (w .path) → Bytes (w .«data») → Bytes (layout w)
 unfolding layout
 layout-bytes w p c f n l hp hb zero = p
 layout-bytes w p c f n l hp hb (suc zero) = c
@@ -156,10 +157,10 @@ layout-bytes w p c f n l hp hb (suc (suc zero)) = f
 layout-bytes w p c f n l hp hb (suc (suc (suc zero))) = omega arith
 layout-bytes w p c f n l hp hb (suc (suc (suc (suc zero)))) = omega arith
 layout-bytes w p c f n l hp hb (suc (suc (suc (suc (suc zero))))) = omega arith
-layout-bytes w p c f n l hp hb (suc (suc (suc (suc (suc (suc i)))))) = bytes-append (w .path) (w .bytes) hp hb i
+layout-bytes w p c f n l hp hb (suc (suc (suc (suc (suc (suc i)))))) = bytes-append (w .path) (w .«data») hp hb i
 
 -- A call that can be kept is written in bytes.
-pub encode-bytes : (w : Written) → w .process .0 < BYTE → w .call < BYTE → w .fd .0 < BYTE → Bytes (w .path) → Bytes (w .bytes) → canKeep w ≡ true → Bytes (encode w)
+pub encode-bytes : (w : Written) → w .process .0 < BYTE → w .call < BYTE → w .fd .0 < BYTE → Bytes (w .path) → Bytes (w .«data») → canKeep w ≡ true → Bytes (encode w)
 unfolding normalBy textsFit
 encode-bytes w p c f hp hb k =
     let u = partsOf w in
@@ -169,7 +170,7 @@ encode-bytes w p c f hp hb k =
     (omega (arith, number-most (u .number) (capped (w .number)), capped-most (w .number)))
     (omega (arith, leb-true (length (normal w .path)) (u .path) (fits .0), leb-true (u .path) PATH (path-most (operationOf (w .call)))))
     (text-if (u .path) (w .path) hp)
-    (text-if (u .bytes) (w .bytes) hb)
+    (text-if (u .«data») (w .«data») hb)
 
 -- ---- what `decode` accepts
 
@@ -223,7 +224,7 @@ exact (process ∷ call ∷ fd ∷ low ∷ high ∷ n ∷ rest) h w e = read-wri
 -- ---- some calls as they are written, by computation
 
 asked : (process call fd number : ℕ) (path bytes buffer : List ℕ) → Call
-asked process call fd number path bytes buffer = record { process = record { 0 = process }; call = call; fd = record { 0 = fd }; number = number; path = path; bytes = bytes; buffer = buffer }
+asked process call fd number path bytes buffer = record { process = record { 0 = process }; call = call; fd = record { 0 = fd }; number = number; path = path; «data» = bytes; buffer = buffer }
 
 -- process 2 opens "/a", mode 1: the descriptor, the bytes and the buffer are not used
 open-written : encode (written (asked 2 1 5 1 (SLASH ∷ 97 ∷ []) (9 ∷ []) (zeros 16))) ≡ 2 ∷ 1 ∷ 0 ∷ 1 ∷ 0 ∷ 2 ∷ SLASH ∷ 97 ∷ []
@@ -257,3 +258,12 @@ longest-kept = refl
 longer-not-kept : some (kept 1 65 0 ∷ kept 6 65 0 ∷ kept 6 0 65 ∷ kept 12 0 513 ∷ kept 99 65 0 ∷ kept 99 0 513 ∷ []) ≡ false
 unfolding computing kept asked
 longer-not-kept = refl
+
+-- a call that is kept, and one byte too many
+shortest-kept : keep (written (asked 2 10 3 0 [] [] [])) ≡ Keeps (2 ∷ 10 ∷ 3 ∷ 0 ∷ 0 ∷ 0 ∷ [])
+unfolding computing asked
+shortest-kept = refl
+
+longer-refused : keep (written (asked 2 12 3 0 [] (zeros 513) [])) ≡ Refuses Malformed
+unfolding computing asked
+longer-refused = refl

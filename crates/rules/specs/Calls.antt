@@ -13,7 +13,7 @@ use Rattle.rules.specs.declared.request.Request.{Request}
 use Rattle.rules.specs.declared.request.Operation.{Operation}
 use Rattle.rules.specs.declared.request.Operation.the-variants as op
 
--- "its numbers, paths and bytes with the reader's buffer as lent". The number is a mode, bits, an index or a position; `bytes` are a write's
+-- "its numbers, paths and bytes with the reader's buffer as lent". The number is a mode, bits, an index or a position; `data` is a write's
 -- bytes or a second path. A read's size is the buffer's. Parts that a call does not use are not looked at.
 pub record Call : Type 0 where
   pub process : Pid
@@ -21,12 +21,12 @@ pub record Call : Type 0 where
   pub fd : Fd
   pub number : ℕ
   pub path : List ℕ
-  pub bytes : List ℕ
+  pub «data» : List ℕ
   pub buffer : List ℕ
 
 -- a call as it is lent: its numbers, and its path, bytes and buffer beside them
-abbrev pub callOf : Request → (path bytes buffer : List ℕ) → Call
-callOf c path bytes buffer = record { process = c .process; call = c .call; fd = c .fd; number = c .number; path = path; bytes = bytes; buffer = buffer }
+abbrev pub callOf : Request → (path «data» buffer : List ℕ) → Call
+callOf c path «data» buffer = record { process = c .process; call = c .call; fd = c .fd; number = c .number; path = path; «data» = «data»; buffer = buffer }
 
 -- the calls by their numbers
 unfoldable pub operationOf : ℕ → Operation
@@ -63,7 +63,7 @@ pathBelowRoot p = every (pathOk p ∷ not (isRoot p) ∷ [])
 unfoldable pub newFileOk : ℕ → List ℕ → Bool
 newFileOk n p = every (bitsKnown n ∷ pathBelowRoot p ∷ [])
 
-unfoldable pub formOk : Operation → (number : ℕ) (path bytes : List ℕ) → Bool
+unfoldable pub formOk : Operation → (number : ℕ) (path «data» : List ℕ) → Bool
 formOk op.Open n p b = every (modeKnown (modeOf n) ∷ pathOk p ∷ [])
 formOk op.Create n p b = newFileOk n p
 formOk op.MakeDirectory n p b = newFileOk n p
@@ -84,4 +84,4 @@ formOk op.Execute n p b = pathOk p
 formOk op.Unknown n p b = false
 
 abbrev pub wellFormed : Call → Bool
-wellFormed c = formOk (operation c) (c .number) (c .path) (c .bytes)
+wellFormed c = formOk (operation c) (c .number) (c .path) (c .«data»)

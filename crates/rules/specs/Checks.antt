@@ -6,14 +6,16 @@ use mathlib.Core.List.{List, [], _∷_}
 use lib.Dec.{eqb, ltb}
 use Rattle.rules.specs.Choice.{every}
 use Rattle.rules.specs.Scan.{first}
-use Rattle.rules.specs.Layout.{SLOTS, OPENS, PROCESSES, DESCRIPTORS, KIND, LENGTH, LINKS, VERSION, FREE, SLOT, REFERENCES, USED, DIRENTS}
-use Rattle.rules.specs.Store.{Tree, Table, slot, up}
+use Rattle.rules.specs.Layout.{SLOTS, OPEN-FILES, PROCESSES, DESCRIPTORS, KIND, LENGTH, LINKS, VERSION, FREE, SLOT, REFERENCES, USED, DIRENTS}
+use Rattle.rules.specs.Store.{Tree, Table, slot, pidOf, isPid, fdOf, ofdOf, isDirent, bitsAt, up}
 use Rattle.rules.specs.Paths.{Name}
 use Rattle.rules.specs.Directories.{direntOf}
 use Rattle.rules.specs.Sound.{isOpen, openBut}
 use Rattle.rules.specs.declared.ids.Slot.{Slot}
 use Rattle.rules.specs.declared.ids.Pid.{Pid}
 use Rattle.rules.specs.declared.ids.Fd.{Fd}
+use Rattle.rules.specs.declared.ids.Ofd.{Ofd}
+use Rattle.rules.specs.declared.ids.Dirent.{Dirent}
 use Rattle.rules.specs.declared.refusal.Refusal.{Refusal}
 use Rattle.rules.specs.declared.decision.Location.{Location}
 use Rattle.rules.specs.declared.decision.Walk.{Walk}
@@ -48,83 +50,83 @@ after (Stopped r k) f = Refused r k
 
 -- "a process number over 7 is 2"
 unfoldable pub inUse : Table → Pid → Bool
-inUse proc p = every (ltb (p .0) PROCESSES ∷ eqb (proc (p .0) USED) 1 ∷ [])
+inUse proc p = every (isPid p ∷ eqb (proc (p .0) USED) 1 ∷ [])
 
 -- "descriptor not held"; a descriptor over 7 holds nothing
 unfoldable pub held : Table → Pid → Fd → Bool
 held desc p i = not (eqb (desc (p .0) (i .0)) 0)
 
 -- the open file that a descriptor holds
-abbrev pub ofdHeld : Table → Pid → Fd → ℕ
-ofdHeld desc p i = desc (p .0) (i .0) - 1
+abbrev pub ofdHeld : Table → Pid → Fd → Ofd
+ofdHeld desc p i = ofdOf (desc (p .0) (i .0) - 1)
 
 abbrev pub nameAbsent : Tree → Slot → Name → Bool
-nameAbsent t d name = not (ltb (direntOf (t .shown (d .0)) name) DIRENTS)
+nameAbsent t d name = not (isDirent (direntOf (t .shown (d .0)) name))
 
 -- ---- "always the lowest free"; the number past the last where none is
 
 unfoldable pub slotFree : Table → ℕ → Bool
 slotFree file s = eqb (file s KIND) FREE
 
-abbrev pub freeSlot : Table → ℕ
-freeSlot file = first (slotFree file) 0 SLOTS
+abbrev pub freeSlot : Table → Slot
+freeSlot file = slot (first (slotFree file) 0 SLOTS)
 
 unfoldable pub ofdFree : Table → ℕ → Bool
-ofdFree opened e = eqb (opened e REFERENCES) 0
+ofdFree openFiles e = eqb (openFiles e REFERENCES) 0
 
-abbrev pub freeOfd : Table → ℕ
-freeOfd opened = first (ofdFree opened) 0 OPENS
+abbrev pub freeOfd : Table → Ofd
+freeOfd openFiles = ofdOf (first (ofdFree openFiles) 0 OPEN-FILES)
 
 unfoldable pub fdFree : Table → Pid → ℕ → Bool
 fdFree desc p i = eqb (desc (p .0) i) 0
 
-abbrev pub freeFd : Table → Pid → ℕ
-freeFd desc p = first (fdFree desc p) 0 DESCRIPTORS
+abbrev pub freeFd : Table → Pid → Fd
+freeFd desc p = fdOf (first (fdFree desc p) 0 DESCRIPTORS)
 
 unfoldable pub pidFree : Table → ℕ → Bool
 pidFree proc p = eqb (proc p USED) 0
 
-abbrev pub freePid : Table → ℕ
-freePid proc = first (pidFree proc) 0 PROCESSES
+abbrev pub freePid : Table → Pid
+freePid proc = pidOf (first (pidFree proc) 0 PROCESSES)
 
--- ---- a directory gains or loses a name: its length, and its stamp goes up by one
+-- ---- a directory gains or loses a name: its length, and its version goes up by one
 
-abbrev pub gains : Table → Slot → ℕ → DirChange
+abbrev pub gains : Table → Slot → Dirent → DirChange
 gains file d i = record { dir = d; dirent = i; length = up (file (d .0) LENGTH); version = up (file (d .0) VERSION) }
 
-abbrev pub loses : Table → Slot → ℕ → DirChange
+abbrev pub loses : Table → Slot → Dirent → DirChange
 loses file d i = record { dir = d; dirent = i; length = file (d .0) LENGTH - 1; version = up (file (d .0) VERSION) }
 
 -- ---- "A plain file with no name and no open entry is freed at once, and so is a removed directory"
 
--- the record of a freed slot: its stamp goes up by one
+-- the record of a freed slot: its version goes up by one
 abbrev pub freed : Table → Slot → Record
-freed file s = record { kind = FREE; owner = 0; bits = 0; label = 0; length = 0; links = 0; version = up (file (s .0) VERSION) }
+freed file s = record { kind = FREE; owner = 0; bits = bitsAt 0; label = 0; length = 0; links = 0; version = up (file (s .0) VERSION) }
 
 -- the plain file in slot s loses a name
-unfoldable pub unnaming : (file opened : Table) → Slot → Unnamed
-unnaming file opened s =
-    cond (every (eqb (file (s .0) LINKS - 1) 0 ∷ not (isOpen opened (s .0)) ∷ [])) (unnamed.Freed s (freed file s))
+unfoldable pub unnaming : (file openFiles : Table) → Slot → Unnamed
+unnaming file openFiles s =
+    cond (every (eqb (file (s .0) LINKS - 1) 0 ∷ not (isOpen openFiles s) ∷ [])) (unnamed.Freed s (freed file s))
     (unnamed.Kept s (file (s .0) LINKS - 1))
 
 -- open file e on slot s goes: the file goes with it if it has no name and no other open file
-unfoldable pub closing : (file opened : Table) → ℕ → Slot → Release
-closing file opened e s =
-    cond (every (eqb (file (s .0) LINKS) 0 ∷ not (openBut opened e (s .0)) ∷ [])) (release.Freed e s (freed file s))
+unfoldable pub closing : (file openFiles : Table) → Ofd → Slot → Release
+closing file openFiles e s =
+    cond (every (eqb (file (s .0) LINKS) 0 ∷ not (openBut openFiles e s) ∷ [])) (release.Freed e s (freed file s))
     (release.Gone e)
 
 -- open file e loses a reference
-unfoldable pub dropping : (file opened : Table) → ℕ → Release
-dropping file opened e = cond (ltb 1 (opened e REFERENCES)) (release.Kept e (opened e REFERENCES - 1)) (closing file opened e (slot (opened e SLOT)))
+unfoldable pub dropping : (file openFiles : Table) → Ofd → Release
+dropping file openFiles e = cond (ltb 1 (openFiles (e .0) REFERENCES)) (release.Kept e (openFiles (e .0) REFERENCES - 1)) (closing file openFiles e (slot (openFiles (e .0) SLOT)))
 
 -- a descriptor is emptied
-unfoldable pub releasing : (file opened desc : Table) → Pid → Fd → Release
-releasing file opened desc p i = cond (held desc p i) (dropping file opened (ofdHeld desc p i)) release.Nothing
+unfoldable pub releasing : (file openFiles desc : Table) → Pid → Fd → Release
+releasing file openFiles desc p i = cond (held desc p i) (dropping file openFiles (ofdHeld desc p i)) release.Nothing
 
 -- ---- a child shares its parent's open file
 
-abbrev pub sharing : Table → ℕ → Share
-sharing opened e = share.Held e (up (opened e REFERENCES))
+abbrev pub sharing : Table → Ofd → Share
+sharing openFiles e = share.Held e (up (openFiles (e .0) REFERENCES))
 
-unfoldable pub shareOf : (opened desc : Table) → Pid → Fd → Share
-shareOf opened desc p i = cond (held desc p i) (sharing opened (ofdHeld desc p i)) share.Nothing
+unfoldable pub shareOf : (openFiles desc : Table) → Pid → Fd → Share
+shareOf openFiles desc p i = cond (held desc p i) (sharing openFiles (ofdHeld desc p i)) share.Nothing

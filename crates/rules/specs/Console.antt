@@ -2,7 +2,7 @@
 use Prim.Native.Nat.{ℕ, zero, suc, _-_, _*_}
 use mathlib.Core.List.{List, [], _∷_, _++_}
 use lib.ListN.{length, replicate}
-use Rattle.rules.specs.Layout.{SLOTS, BLOCK, FILE, OPEN, OPENS, PROCESS, PROCESSES, LABELS, RIGHTS, NONE}
+use Rattle.rules.specs.Layout.{SLOTS, BLOCK, FILE, OPEN, OPEN-FILES, PROCESS, PROCESSES, LABELS, RIGHTS, NONE}
 use Rattle.rules.specs.Store.{Store, store, zeros, slot}
 use Rattle.rules.specs.Paths.{Name}
 use Rattle.rules.specs.Directories.{dirent}
@@ -44,7 +44,7 @@ abbrev pub consoleProcesses : List ℕ
 consoleProcesses = filled (PROCESSES * PROCESS) (filled PROCESS (1 ∷ 0 ∷ 0 ∷ []) ++ filled PROCESS (1 ∷ 10 ∷ 1 ∷ []) ++ filled PROCESS (1 ∷ 20 ∷ 2 ∷ []))
 
 unfoldable pub consoleWith : (key : List ℕ) → Store
-consoleWith key = store consoleFiles (consoleContents key) (zeros (OPENS * OPEN)) consoleProcesses
+consoleWith key = store consoleFiles (consoleContents key) (zeros (OPEN-FILES * OPEN)) consoleProcesses
 
 unfoldable pub console : Store
 console = consoleWith (1 ∷ 2 ∷ 3 ∷ 4 ∷ [])

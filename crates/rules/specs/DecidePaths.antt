@@ -4,8 +4,8 @@ use mathlib.Core.Bool.{Bool, true, false, cond, not}
 use mathlib.Core.List.{List, [], _∷_}
 use lib.Dec.{eqb, ltb}
 use Rattle.rules.specs.Choice.{every}
-use Rattle.rules.specs.Layout.{SLOTS, OPENS, DESCRIPTORS, DIRENTS, OWNER, BITS, LABEL, LENGTH, LINKS, VERSION, PLAIN, DIRECTORY}
-use Rattle.rules.specs.Store.{Table, Tree, slot, recordOf, up}
+use Rattle.rules.specs.Layout.{SLOTS, OPEN-FILES, DESCRIPTORS, DIRENTS, OWNER, BITS, LABEL, LENGTH, LINKS, VERSION, PLAIN, DIRECTORY}
+use Rattle.rules.specs.Store.{Table, Tree, slot, isSlot, isFd, isOfd, isDirent, bitsAt, recordOf, up}
 use Rattle.rules.specs.Rights.{READ, WRITE, EXECUTE, owns, moved, modeOf, modeRights}
 use Rattle.rules.specs.Paths.{Name, names, lastName}
 use Rattle.rules.specs.Directories.{freeDirent, direntRanked}
@@ -13,12 +13,18 @@ use Rattle.rules.specs.Walk.{isDirectory, isPlain, bitsAllow, labelAllow
 use Rattle.rules.specs.Checks.{need, granted, after, nameAbsent, freeSlot, freeOfd, freeFd, gains, loses, freed, unnaming}
 use Rattle.rules.specs.declared.ids.Slot.{Slot}
 use Rattle.rules.specs.declared.ids.Pid.{Pid}
+use Rattle.rules.specs.declared.ids.Fd.{Fd}
+use Rattle.rules.specs.declared.ids.Ofd.{Ofd}
+use Rattle.rules.specs.declared.ids.Dirent.{Dirent}
 use Rattle.rules.specs.declared.rights.Rights.{Rights}
+use Rattle.rules.specs.declared.rights.Bits.{Bits}
+use Rattle.rules.specs.declared.rights.BitsNumber.{BitsNumber}
+use Rattle.rules.specs.declared.rights.BitsNumber.the-variants as bitsNumber
 use Rattle.rules.specs.declared.rights.OpenMode.{OpenMode}
 use Rattle.rules.specs.declared.rights.ModeNumber.{ModeNumber}
 use Rattle.rules.specs.declared.rights.ModeNumber.the-variants.{Keep, Truncate, OutOfRange}
 use Rattle.rules.specs.declared.request.Subject.{Subject}
-use Rattle.rules.specs.declared.refusal.Refusal.the-variants.{Malformed, WrongKind, BitsForbid, LabelForbids, NameThere, NotEmpty, NoRoom}
+use Rattle.rules.specs.declared.refusal.Refusal.the-variants.{Malformed, WrongKind, BitsForbid, LabelForbids, NameThere, NotEmpty, TableFull}
 use Rattle.rules.specs.declared.decision.Location.{Location}
 use Rattle.rules.specs.declared.decision.Record.{Record}
 use Rattle.rules.specs.declared.decision.NewOpen.{NewOpen}
@@ -36,81 +42,82 @@ allowed file Q who s want d =
 
 -- ---- 1. Open: "Walk; plain file (8); rights (9, 10); free descriptor and entry (13). Cutting comes last"
 
--- the file cut to empty: its stamp goes up by one
+-- the file truncated: its version goes up by one
 abbrev pub truncated : Table → Slot → Record
 truncated file s = record {
   kind = PLAIN;
   owner = file (s .0) OWNER;
-  bits = file (s .0) BITS;
+  bits = bitsAt (file (s .0) BITS);
   label = file (s .0) LABEL;
   length = 0;
   links = file (s .0) LINKS;
   version = up (file (s .0) VERSION);
 }
 
-abbrev pub newOpen : Slot → OpenMode → (fd e : ℕ) → NewOpen
-newOpen s m i e = record { fd = record { 0 = i }; ofd = e; slot = s; mode = m }
+abbrev pub newOpen : Slot → OpenMode → Fd → Ofd → NewOpen
+newOpen s m i e = record { fd = i; ofd = e; slot = s; mode = m }
 
--- an empty file is not cut
-unfoldable pub opening : Table → Slot → OpenMode → (cut : Bool) → (fd e : ℕ) → Effect
-opening file s m cut i e =
-    cond (every (cut ∷ ltb 0 (file (s .0) LENGTH) ∷ [])) (effect.Truncated (newOpen s m i e) (truncated file s))
+-- an empty file is not truncated
+unfoldable pub opening : Table → Slot → OpenMode → (truncating : Bool) → Fd → Ofd → Effect
+opening file s m truncating i e =
+    cond (every (truncating ∷ ltb 0 (file (s .0) LENGTH) ∷ [])) (effect.Truncated (newOpen s m i e) (truncated file s))
     (effect.Opened (newOpen s m i e))
 
-abbrev pub opened : Table → Slot → OpenMode → (cut : Bool) → (fd e : ℕ) → Decision
-opened file s m cut i e = granted i (opening file s m cut i e)
+abbrev pub opened : Table → Slot → OpenMode → (truncating : Bool) → Fd → Ofd → Decision
+opened file s m truncating i e = granted (i .0) (opening file s m truncating i e)
 
-unfoldable pub openRoom : Table → Slot → OpenMode → (cut : Bool) → (fd e : ℕ) → Decision
-openRoom file s m cut i e = need (ltb i DESCRIPTORS) NoRoom (need (ltb e OPENS) NoRoom (opened file s m cut i e))
+unfoldable pub openRoom : Table → Slot → OpenMode → (truncating : Bool) → Fd → Ofd → Decision
+openRoom file s m truncating i e = need (isFd i) TableFull (need (isOfd e) TableFull (opened file s m truncating i e))
 
-unfoldable pub openFile : List ℕ → (file opens desc : Table) → Pid → Subject → OpenMode → (cut : Bool) → Slot → Decision
-openFile Q file opens desc p who m cut s =
+unfoldable pub openFile : List ℕ → (file openFiles desc : Table) → Pid → Subject → OpenMode → (truncating : Bool) → Slot → Decision
+openFile Q file openFiles desc p who m truncating s =
     need (isPlain file s) WrongKind
     (allowed file Q who s (modeRights m)
-    (openRoom file s m cut (freeFd desc p) (freeOfd opens)))
+    (openRoom file s m truncating (freeFd desc p) (freeOfd openFiles)))
 
-unfoldable pub openMode : List ℕ → (file opens desc : Table) → Pid → Subject → ModeNumber → Slot → Decision
-openMode Q file opens desc p who (Keep m) s = openFile Q file opens desc p who m false s
-openMode Q file opens desc p who (Truncate m) s = openFile Q file opens desc p who m true s
-openMode Q file opens desc p who OutOfRange s = Refused Malformed 0
+unfoldable pub openMode : List ℕ → (file openFiles desc : Table) → Pid → Subject → ModeNumber → Slot → Decision
+openMode Q file openFiles desc p who (Keep m) s = openFile Q file openFiles desc p who m false s
+openMode Q file openFiles desc p who (Truncate m) s = openFile Q file openFiles desc p who m true s
+openMode Q file openFiles desc p who OutOfRange s = Refused Malformed 0
 
-unfoldable pub decideOpen : List ℕ → Tree → (opens desc : Table) → Pid → Subject → ℕ → List ℕ → Decision
-decideOpen Q t opens desc p who n path = after (walkPath t Q who path) (λ at. openMode Q (t .file) opens desc p who (modeOf n) (at .slot))
+unfoldable pub decideOpen : List ℕ → Tree → (openFiles desc : Table) → Pid → Subject → ℕ → List ℕ → Decision
+decideOpen Q t openFiles desc p who n path = after (walkPath t Q who path) (λ at. openMode Q (t .file) openFiles desc p who (modeOf n) (at .slot))
 
 -- ---- 2. Create, 3. Make directory: "Walk to the parent with its three checks; name there (11); write on the parent (9, 10); free slot and
 -- place (13). Owner is the caller's user, bits as given, label the parent's. Value: the slot"
 
-abbrev pub newRecord : Table → Subject → (kind bits : ℕ) → (d s : Slot) → Record
+abbrev pub newRecord : Table → Subject → (kind : ℕ) → Bits → (d s : Slot) → Record
 newRecord file who kind bits d s = record { kind = kind; owner = who .user; bits = bits; label = file (d .0) LABEL; length = 0; links = 1; version = file (s .0) VERSION }
 
-abbrev pub created : Table → Subject → (kind bits : ℕ) → Slot → (s i : ℕ) → Decision
-created file who kind bits d s i = granted s (effect.Created (gains file d i) (slot s) (newRecord file who kind bits d (slot s)))
+abbrev pub created : Table → Subject → (kind : ℕ) → Bits → (d s : Slot) → Dirent → Decision
+created file who kind bits d s i = granted (s .0) (effect.Created (gains file d i) s (newRecord file who kind bits d s))
 
-unfoldable pub createRoom : Table → Subject → (kind bits : ℕ) → Slot → (s i : ℕ) → Decision
-createRoom file who kind bits d s i = need (ltb s SLOTS) NoRoom (need (ltb i DIRENTS) NoRoom (created file who kind bits d s i))
+unfoldable pub createRoom : Table → Subject → (kind : ℕ) → Bits → (d s : Slot) → Dirent → Decision
+createRoom file who kind bits d s i = need (isSlot s) TableFull (need (isDirent i) TableFull (created file who kind bits d s i))
 
-unfoldable pub createIn : List ℕ → Tree → Subject → (kind bits : ℕ) → Name → Slot → Decision
+unfoldable pub createIn : List ℕ → Tree → Subject → (kind : ℕ) → Bits → Name → Slot → Decision
 createIn Q t who kind bits name d =
     need (nameAbsent t d name) NameThere
     (allowed (t .file) Q who d WRITE
     (createRoom (t .file) who kind bits d (freeSlot (t .file)) (freeDirent (t .shown (d .0)))))
 
-unfoldable pub decideCreate : List ℕ → Tree → Subject → (kind bits : ℕ) → List ℕ → Decision
-decideCreate Q t who kind bits path = after (walkParent t Q who path) (λ at. createIn Q t who kind bits (lastName (names path)) (at .slot))
+unfoldable pub decideCreate : List ℕ → Tree → Subject → (kind : ℕ) → BitsNumber → List ℕ → Decision
+decideCreate Q t who kind bitsNumber.OutOfRange path = Refused Malformed 0
+decideCreate Q t who kind (bitsNumber.Valid bits) path = after (walkParent t Q who path) (λ at. createIn Q t who kind bits (lastName (names path)) (at .slot))
 
 -- ---- 4. Unlink: "walk; plain (8); write on the parent (9, 10)"
 
-abbrev pub unlinked : (file opens : Table) → Location → Decision
-unlinked file opens at = granted 0 (effect.Unlinked (loses file (at .dir) (at .dirent)) (unnaming file opens (at .slot)))
+abbrev pub unlinked : (file openFiles : Table) → Location → Decision
+unlinked file openFiles at = granted 0 (effect.Unlinked (loses file (at .dir) (at .dirent)) (unnaming file openFiles (at .slot)))
 
-unfoldable pub unlinkAt : List ℕ → (file opens : Table) → Subject → Location → Decision
-unlinkAt Q file opens who at =
+unfoldable pub unlinkAt : List ℕ → (file openFiles : Table) → Subject → Location → Decision
+unlinkAt Q file openFiles who at =
     need (isPlain file (at .slot)) WrongKind
     (allowed file Q who (at .dir) WRITE
-    (unlinked file opens at))
+    (unlinked file openFiles at))
 
-unfoldable pub decideUnlink : List ℕ → Tree → (opens : Table) → Subject → List ℕ → Decision
-decideUnlink Q t opens who path = after (walkPath t Q who path) (unlinkAt Q (t .file) opens who)
+unfoldable pub decideUnlink : List ℕ → Tree → (openFiles : Table) → Subject → List ℕ → Decision
+decideUnlink Q t openFiles who path = after (walkPath t Q who path) (unlinkAt Q (t .file) openFiles who)
 
 -- ---- 5. Remove directory: "walk; directory (8); write on the parent (9, 10); empty (12)"
 
@@ -131,11 +138,11 @@ decideRemove Q t who path = after (walkPath t Q who path) (removeAt Q (t .file) 
 
 -- ---- 6. Link: "walk the old; plain (8); the new as in create, but only a place is needed. Value 0"
 
-abbrev pub linked : Table → (old d : Slot) → ℕ → Decision
+abbrev pub linked : Table → (old d : Slot) → Dirent → Decision
 linked file old d i = granted 0 (effect.Linked (gains file d i) old (up (file (old .0) LINKS)))
 
-unfoldable pub linkRoom : Table → (old d : Slot) → ℕ → Decision
-linkRoom file old d i = need (ltb i DIRENTS) NoRoom (linked file old d i)
+unfoldable pub linkRoom : Table → (old d : Slot) → Dirent → Decision
+linkRoom file old d i = need (isDirent i) TableFull (linked file old d i)
 
 unfoldable pub linkIn : List ℕ → Tree → Subject → Slot → Name → Slot → Decision
 linkIn Q t who old name d =
@@ -154,8 +161,8 @@ decideLink Q t who old new = after (walkPath t Q who old) (λ at. linkTo Q t who
 
 -- ---- 7. List: "walk; directory (8); read (9, 10). The k-th name in byte order, from 0, with value 1, or value 0 past the end"
 
-unfoldable pub listEntry : Slot → ℕ → Decision
-listEntry d i = cond (ltb i DIRENTS) (Granted 1 (output.Name d i) effect.Nothing) (granted 0 effect.Nothing)
+unfoldable pub listEntry : Slot → Dirent → Decision
+listEntry d i = cond (isDirent i) (Granted 1 (output.Name d i) effect.Nothing) (granted 0 effect.Nothing)
 
 unfoldable pub listAt : List ℕ → Tree → Subject → ℕ → Slot → Decision
 listAt Q t who k d =
@@ -168,14 +175,15 @@ decideList Q t who k path = after (walkPath t Q who path) (λ at. listAt Q t who
 
 -- ---- 8. Change bits: "walk; owner or user 0 (9); label write (10)"
 
-unfoldable pub changeBitsAt : List ℕ → Table → Subject → ℕ → Slot → Decision
+unfoldable pub changeBitsAt : List ℕ → Table → Subject → Bits → Slot → Decision
 changeBitsAt Q file who bits s =
     need (owns who (file (s .0) OWNER)) BitsForbid
     (need (labelAllows file Q who s WRITE) LabelForbids
-    (granted 0 (effect.BitsChanged s (record { 0 = bits }))))
+    (granted 0 (effect.BitsChanged s bits)))
 
-unfoldable pub decideChangeBits : List ℕ → Tree → Subject → ℕ → List ℕ → Decision
-decideChangeBits Q t who bits path = after (walkPath t Q who path) (λ at. changeBitsAt Q (t .file) who bits (at .slot))
+unfoldable pub decideChangeBits : List ℕ → Tree → Subject → BitsNumber → List ℕ → Decision
+decideChangeBits Q t who bitsNumber.OutOfRange path = Refused Malformed 0
+decideChangeBits Q t who (bitsNumber.Valid bits) path = after (walkPath t Q who path) (λ at. changeBitsAt Q (t .file) who bits (at .slot))
 
 -- ---- 9. Stat: "walk. Kind, owner, bits, label, length, names, stamp"
 

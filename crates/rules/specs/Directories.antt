@@ -8,8 +8,10 @@ use lib.ListN.{getD, take, drop}
 use Rattle.rules.specs.Choice.{every}
 use Rattle.rules.specs.Scan.{count, first}
 use Rattle.rules.specs.Layout.{NAME, DIRENT, DIRENTS}
+use Rattle.rules.specs.Store.{entry}
 use Rattle.rules.specs.Paths.{Name, sameName}
 use Rattle.rules.specs.declared.ids.Slot.{Slot}
+use Rattle.rules.specs.declared.ids.Dirent.{Dirent}
 
 -- entry i from its first byte on
 abbrev pub direntAt : List ℕ → ℕ → List ℕ
@@ -26,12 +28,12 @@ unfoldable pub hasName : List ℕ → Name → ℕ → Bool
 hasName D name i = sameName (direntAt D i) name
 
 -- the entry that has the name, 16 where none has
-abbrev pub direntOf : List ℕ → Name → ℕ
-direntOf D name = first (hasName D name) 0 DIRENTS
+abbrev pub direntOf : List ℕ → Name → Dirent
+direntOf D name = entry (first (hasName D name) 0 DIRENTS)
 
 -- the lowest free entry, 16 where there is none
-abbrev pub freeDirent : List ℕ → ℕ
-freeDirent D = first (isEmpty D) 0 DIRENTS
+abbrev pub freeDirent : List ℕ → Dirent
+freeDirent D = entry (first (isEmpty D) 0 DIRENTS)
 
 -- ---- "The k-th name in byte order, from 0"
 
@@ -55,15 +57,15 @@ unfoldable pub isRanked : List ℕ → ℕ → ℕ → Bool
 isRanked D k i = every (not (isEmpty D i) ∷ eqb (count (isBefore D i) 0 DIRENTS) k ∷ [])
 
 -- the entry of the k-th name, 16 where there are not so many
-abbrev pub direntRanked : List ℕ → ℕ → ℕ
-direntRanked D k = first (isRanked D k) 0 DIRENTS
+abbrev pub direntRanked : List ℕ → ℕ → Dirent
+direntRanked D k = entry (first (isRanked D k) 0 DIRENTS)
 
 unfoldable pub isPadding : Name → ℕ → Bool
 isPadding n k = eqb (getD n k 0) 0
 
 -- the name of entry i, without its padding
-unfoldable pub direntName : List ℕ → ℕ → Name
-direntName D i = take (first (isPadding (direntAt D i)) 0 NAME) (direntAt D i)
+unfoldable pub direntName : List ℕ → Dirent → Name
+direntName D i = take (first (isPadding (direntAt D (i .0))) 0 NAME) (direntAt D (i .0))
 
 -- ---- an entry as it is written
 

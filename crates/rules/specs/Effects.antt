@@ -3,8 +3,8 @@
 use Prim.Native.Nat.{ℕ, _+_, _*_}
 use mathlib.Core.List.{List, [], _∷_, _++_}
 use Rattle.rules.specs.Scan.{repeat}
-use Rattle.rules.specs.Layout.{DIRENT, DESCRIPTORS, BITS, LENGTH, LINKS, VERSION, OFFSET, REFERENCES, DOMAIN}
-use Rattle.rules.specs.Store.{Store, View, view, up, zeros, Change, fileWord, fileTo, clearTo, bytesTo, openWord, openTo, openZero, descTo, procWord, procTo, procZero, applyAll}
+use Rattle.rules.specs.Layout.{DIRENT, DESCRIPTORS, BITS, LENGTH, LINKS, VERSION, OFFSET, REFERENCES, PROCESS-LABEL}
+use Rattle.rules.specs.Store.{Store, View, view, fdOf, up, zeros, Change, fileWord, fileTo, clearTo, bytesTo, openWord, openTo, openZero, descTo, procWord, procTo, procZero, applyAll}
 use Rattle.rules.specs.Paths.{Name, names, lastName}
 use Rattle.rules.specs.Directories.{dirent}
 use Rattle.rules.specs.Calls.{Call}
@@ -12,6 +12,7 @@ use Rattle.rules.specs.Checks.{releasing, shareOf}
 use Rattle.rules.specs.declared.ids.Slot.{Slot}
 use Rattle.rules.specs.declared.ids.Pid.{Pid}
 use Rattle.rules.specs.declared.ids.Fd.{Fd}
+use Rattle.rules.specs.declared.ids.Ofd.{Ofd}
 use Rattle.rules.specs.declared.decision.Record.{Record}
 use Rattle.rules.specs.declared.decision.DirChange.{DirChange}
 use Rattle.rules.specs.declared.decision.NewOpen.{NewOpen}
@@ -26,7 +27,7 @@ use Rattle.rules.specs.declared.decision.Effect.{Effect}
 use Rattle.rules.specs.declared.decision.Effect.the-variants as effect
 
 abbrev pub words : Record → List ℕ
-words r = r .kind ∷ r .owner ∷ r .bits ∷ r .label ∷ r .length ∷ r .links ∷ r .version ∷ []
+words r = r .kind ∷ r .owner ∷ r .bits .0 ∷ r .label ∷ r .length ∷ r .links ∷ r .version ∷ []
 
 -- ---- names
 
@@ -35,10 +36,10 @@ abbrev pub dirWords : DirChange → List Change
 dirWords d = fileWord (d .dir .0) LENGTH (d .length) ∷ fileWord (d .dir .0) VERSION (d .version) ∷ []
 
 unfoldable pub nameChanges : Name → Slot → DirChange → List Change
-nameChanges name s d = bytesTo (d .dir .0) (DIRENT * d .dirent) (dirent name s) ∷ dirWords d
+nameChanges name s d = bytesTo (d .dir .0) (DIRENT * d .dirent .0) (dirent name s) ∷ dirWords d
 
 unfoldable pub unnameChanges : DirChange → List Change
-unnameChanges d = bytesTo (d .dir .0) (DIRENT * d .dirent) (zeros DIRENT) ∷ dirWords d
+unnameChanges d = bytesTo (d .dir .0) (DIRENT * d .dirent .0) (zeros DIRENT) ∷ dirWords d
 
 unfoldable pub createChanges : Name → DirChange → Slot → Record → List Change
 createChanges name d s r = fileTo (s .0) (words r) ∷ nameChanges name s d
@@ -59,11 +60,11 @@ removeChanges d s r = unnameChanges d ++ (clearTo (s .0) (words r) ∷ [])
 -- ---- open files
 
 -- the word of a descriptor that holds open file e
-abbrev pub descWord : ℕ → ℕ
-descWord e = up e
+abbrev pub descWord : Ofd → ℕ
+descWord e = up (e .0)
 
 unfoldable pub openChanges : Pid → NewOpen → List Change
-openChanges p n = openTo (n .ofd) (n .slot .0 ∷ n .mode .0 ∷ 0 ∷ 1 ∷ []) ∷ descTo (p .0) (n .fd .0) (descWord (n .ofd)) ∷ []
+openChanges p n = openTo (n .ofd .0) (n .slot .0 ∷ n .mode .0 ∷ 0 ∷ 1 ∷ []) ∷ descTo (p .0) (n .fd .0) (descWord (n .ofd)) ∷ []
 
 -- "Cutting comes last"
 unfoldable pub truncateChanges : Pid → NewOpen → Record → List Change
@@ -71,43 +72,40 @@ truncateChanges p n r = openChanges p n ++ (clearTo (n .slot .0) (words r) ∷ [
 
 unfoldable pub releaseChanges : Release → List Change
 releaseChanges release.Nothing = []
-releaseChanges (release.Kept e refs) = openWord e REFERENCES refs ∷ []
-releaseChanges (release.Gone e) = openZero e ∷ []
-releaseChanges (release.Freed e s r) = openZero e ∷ clearTo (s .0) (words r) ∷ []
+releaseChanges (release.Kept e refs) = openWord (e .0) REFERENCES refs ∷ []
+releaseChanges (release.Gone e) = openZero (e .0) ∷ []
+releaseChanges (release.Freed e s r) = openZero (e .0) ∷ clearTo (s .0) (words r) ∷ []
 
 unfoldable pub closeChanges : Pid → Fd → Release → List Change
 closeChanges p i r = descTo (p .0) (i .0) 0 ∷ releaseChanges r
 
 unfoldable pub storeChanges : List ℕ → Placement → List Change
-storeChanges bytes w =
+storeChanges «data» w =
     bytesTo (w .slot .0) (w .end) (zeros (w .gap))
-    ∷ bytesTo (w .slot .0) (w .at) bytes
+    ∷ bytesTo (w .slot .0) (w .at) «data»
     ∷ fileWord (w .slot .0) LENGTH (w .length)
     ∷ fileWord (w .slot .0) VERSION (w .version)
-    ∷ openWord (w .ofd) OFFSET (w .offset)
+    ∷ openWord (w .ofd .0) OFFSET (w .offset)
     ∷ []
 
-unfoldable pub duplicateChanges : Pid → Fd → (e refs : ℕ) → List Change
-duplicateChanges p i e refs = descTo (p .0) (i .0) (descWord e) ∷ openWord e REFERENCES refs ∷ []
+unfoldable pub duplicateChanges : Pid → Fd → Ofd → (refs : ℕ) → List Change
+duplicateChanges p i e refs = descTo (p .0) (i .0) (descWord e) ∷ openWord (e .0) REFERENCES refs ∷ []
 
 -- ---- fork and exit, one descriptor at a time
 
 -- the child's descriptor i is what its parent's is
 unfoldable pub shareChanges : (child : Pid) → Fd → Share → List Change
 shareChanges q i share.Nothing = descTo (q .0) (i .0) 0 ∷ []
-shareChanges q i (share.Held e refs) = descTo (q .0) (i .0) (descWord e) ∷ openWord e REFERENCES refs ∷ []
-
-abbrev pub fdOf : ℕ → Fd
-fdOf i = record { 0 = i }
+shareChanges q i (share.Held e refs) = descTo (q .0) (i .0) (descWord e) ∷ openWord (e .0) REFERENCES refs ∷ []
 
 unfoldable pub shared : (parent child : Pid) → ℕ → Store → Store
-shared p q i t = applyAll (shareChanges q (fdOf i) (shareOf (view t .opened) (view t .desc) p (fdOf i))) t
+shared p q i t = applyAll (shareChanges q (fdOf i) (shareOf (view t .openFiles) (view t .desc) p (fdOf i))) t
 
 unfoldable pub sharedAll : (parent child : Pid) → Store → Store
 sharedAll p q t = repeat (shared p q) 0 DESCRIPTORS t
 
 unfoldable pub released : Pid → ℕ → Store → Store
-released p i t = applyAll (closeChanges p (fdOf i) (releasing (view t .tree .file) (view t .opened) (view t .desc) p (fdOf i))) t
+released p i t = applyAll (closeChanges p (fdOf i) (releasing (view t .tree .file) (view t .openFiles) (view t .desc) p (fdOf i))) t
 
 unfoldable pub releasedAll : Pid → Store → Store
 releasedAll p t = repeat (released p) 0 DESCRIPTORS t
@@ -124,12 +122,12 @@ carryOut c (effect.Truncated n r) t = applyAll (truncateChanges (c .process) n r
 carryOut c (effect.Created d s r) t = applyAll (createChanges (lastName (names (c .path))) d s r) t
 carryOut c (effect.Unlinked d u) t = applyAll (unlinkChanges d u) t
 carryOut c (effect.Removed d s r) t = applyAll (removeChanges d s r) t
-carryOut c (effect.Linked d s links) t = applyAll (linkChanges (lastName (names (c .bytes))) d s links) t
+carryOut c (effect.Linked d s links) t = applyAll (linkChanges (lastName (names (c .«data»))) d s links) t
 carryOut c (effect.BitsChanged s bits) t = applyAll (fileWord (s .0) BITS (bits .0) ∷ []) t
 carryOut c (effect.Closed i r) t = applyAll (closeChanges (c .process) i r) t
-carryOut c (effect.Stored w) t = applyAll (storeChanges (c .bytes) w) t
-carryOut c (effect.Moved e offset) t = applyAll (openWord e OFFSET offset ∷ []) t
+carryOut c (effect.Stored w) t = applyAll (storeChanges (c .«data») w) t
+carryOut c (effect.Moved e offset) t = applyAll (openWord (e .0) OFFSET offset ∷ []) t
 carryOut c (effect.Duplicated i e refs) t = applyAll (duplicateChanges (c .process) i e refs) t
 carryOut c (effect.Forked q user label) t = applyAll (forkChanges q user label) (sharedAll (c .process) q t)
 carryOut c effect.Exited t = applyAll (procZero (c .process .0) ∷ []) (releasedAll (c .process) t)
-carryOut c (effect.Relabelled label) t = applyAll (procWord (c .process .0) DOMAIN label ∷ []) t
+carryOut c (effect.Relabelled label) t = applyAll (procWord (c .process .0) PROCESS-LABEL label ∷ []) t

@@ -18,8 +18,8 @@ abbrev pub DIRENT : ℕ
 DIRENT = 16
 
 -- open files (the paper's open entries)
-abbrev pub OPENS : ℕ
-OPENS = 32
+abbrev pub OPEN-FILES : ℕ
+OPEN-FILES = 32
 
 abbrev pub PROCESSES : ℕ
 PROCESSES = 8
@@ -111,8 +111,8 @@ abbrev pub USER : ℕ
 USER = 1
 
 -- a process's label
-abbrev pub DOMAIN : ℕ
-DOMAIN = 2
+abbrev pub PROCESS-LABEL : ℕ
+PROCESS-LABEL = 2
 
 -- ---- the policy: rights, then transitions
 
@@ -130,6 +130,10 @@ KIND-MAX = 2
 
 abbrev pub USER-MAX : ℕ
 USER-MAX = 65535
+
+-- rights: of the policy, and those that bits are made of
+abbrev pub RIGHTS-MAX : ℕ
+RIGHTS-MAX = 7
 
 abbrev pub BITS-MAX : ℕ
 BITS-MAX = 7

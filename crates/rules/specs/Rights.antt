@@ -5,7 +5,7 @@ use mathlib.Core.List.{List, [], _∷_}
 use lib.Dec.{eqb, ltb, leb}
 use lib.ListN.{getD}
 use Rattle.rules.specs.Choice.{every, some, implies}
-use Rattle.rules.specs.Layout.{LABELS, RIGHTS, NONE, BITS-MAX, MODE-MAX}
+use Rattle.rules.specs.Layout.{LABELS, RIGHTS, NONE, RIGHTS-MAX, BITS-MAX, MODE-MAX}
 use Rattle.rules.specs.declared.rights.Rights.{Rights}
 use Rattle.rules.specs.declared.rights.RightsNumber.{RightsNumber}
 use Rattle.rules.specs.declared.rights.RightsNumber.the-variants as rights
@@ -28,24 +28,31 @@ WRITE = record { 0 = 2 }
 abbrev pub READ-WRITE : Rights
 READ-WRITE = record { 0 = 6 }
 
-abbrev pub SEARCH : Rights
-SEARCH = record { 0 = 1 }
-
+-- of a plain file, execute it; of a directory, search it
 abbrev pub EXECUTE : Rights
 EXECUTE = record { 0 = 1 }
 
-abbrev pub rightsKnown : ℕ → Bool
-rightsKnown n = leb n BITS-MAX
-
+-- a set of rights, 0 to 7
 unfoldable pub rightsOf : ℕ → RightsNumber
-rightsOf n = cond (rightsKnown n) (rights.Valid (record { 0 = n })) rights.OutOfRange
+rightsOf n = cond (leb n RIGHTS-MAX) (rights.Valid (record { 0 = n })) rights.OutOfRange
+
+unfoldable pub rightsValid : RightsNumber → Bool
+rightsValid (rights.Valid r) = true
+rightsValid rights.OutOfRange = false
+
+abbrev pub rightsKnown : ℕ → Bool
+rightsKnown n = rightsValid (rightsOf n)
 
 -- permission bits, 0 to 7
-abbrev pub bitsKnown : ℕ → Bool
-bitsKnown n = leb n BITS-MAX
-
 unfoldable pub bitsOf : ℕ → BitsNumber
-bitsOf n = cond (bitsKnown n) (bits.Valid (record { 0 = n })) bits.OutOfRange
+bitsOf n = cond (leb n BITS-MAX) (bits.Valid (record { 0 = n })) bits.OutOfRange
+
+unfoldable pub bitsValid : BitsNumber → Bool
+bitsValid (bits.Valid b) = true
+bitsValid bits.OutOfRange = false
+
+abbrev pub bitsKnown : ℕ → Bool
+bitsKnown n = bitsValid (bitsOf n)
 
 -- ---- "mode 1 read, 2 write, 3 both, 4 append, plus 8 to cut to empty (not with 1)"
 
@@ -76,19 +83,25 @@ modeKnown (Keep m) = true
 modeKnown (Truncate m) = true
 modeKnown OutOfRange = false
 
+-- the mode of an open file: "1 to 4; the 8 of a cutting open is not kept"
+unfoldable pub modeKept : ModeNumber → Bool
+modeKept (Keep m) = true
+modeKept (Truncate m) = false
+modeKept OutOfRange = false
+
 -- the rights that an open asks: "write for append too"
 unfoldable pub modeRights : OpenMode → Rights
 modeRights m = cond (eqb (m .0) (MODE-READ .0)) READ (cond (eqb (m .0) (MODE-BOTH .0)) READ-WRITE WRITE)
 
 -- a file is open for reading in modes 1 and 3, for writing in all but 1
-unfoldable pub reads : ℕ → Bool
-reads mode = some (eqb mode (MODE-READ .0) ∷ eqb mode (MODE-BOTH .0) ∷ [])
+unfoldable pub reads : OpenMode → Bool
+reads m = some (eqb (m .0) (MODE-READ .0) ∷ eqb (m .0) (MODE-BOTH .0) ∷ [])
 
-unfoldable pub writes : ℕ → Bool
-writes mode = cond (eqb mode (MODE-READ .0)) false true
+unfoldable pub writes : OpenMode → Bool
+writes m = cond (eqb (m .0) (MODE-READ .0)) false true
 
-unfoldable pub appends : ℕ → Bool
-appends mode = eqb mode (MODE-APPEND .0)
+unfoldable pub appends : OpenMode → Bool
+appends m = eqb (m .0) (MODE-APPEND .0)
 
 -- ---- who may
 
@@ -97,24 +110,28 @@ unfoldable pub stands : ℕ → ℕ → Bool
 stands held want = implies (eqb (want % 2) 1) (eqb (held % 2) 1)
 
 -- all wanted rights, each its own bit, stand in those held: right 4, right 2, right 1
-unfoldable pub covers : ℕ → ℕ → Bool
-covers held want = every (stands (held / 4) (want / 4) ∷ stands (held / 2) (want / 2) ∷ stands held want ∷ [])
+unfoldable pub covers : Rights → Rights → Bool
+covers held want = every (stands (held .0 / 4) (want .0 / 4) ∷ stands (held .0 / 2) (want .0 / 2) ∷ stands (held .0) (want .0) ∷ [])
+
+-- the rights that the bits give to everyone
+abbrev pub rightsIn : Bits → Rights
+rightsIn b = record { 0 = b .0 }
 
 -- "The bits grant a right to user 0, to the owner, or if all wanted rights stand in the bits"
-unfoldable pub bitsGrant : Subject → (owner bits : ℕ) → Rights → Bool
-bitsGrant who owner b want = some (eqb (who .user) 0 ∷ eqb (who .user) owner ∷ covers b (want .0) ∷ [])
+unfoldable pub bitsGrant : Subject → (owner : ℕ) → Bits → Rights → Bool
+bitsGrant who owner b want = some (eqb (who .user) 0 ∷ eqb (who .user) owner ∷ covers (rightsIn b) want ∷ [])
 
 -- "owner or user 0"
 unfoldable pub owns : Subject → (owner : ℕ) → Bool
 owns who owner = some (eqb (who .user) 0 ∷ eqb (who .user) owner ∷ [])
 
 -- the policy's rights of process label l over file label m
-unfoldable pub policyRights : List ℕ → ℕ → ℕ → ℕ
-policyRights Q l m = getD Q (LABELS * l + m) 0
+unfoldable pub policyRights : List ℕ → ℕ → ℕ → Rights
+policyRights Q l m = record { 0 = getD Q (LABELS * l + m) 0 }
 
 -- "The labels grant it if the policy row holds all wanted rights; this binds user 0 too"
 unfoldable pub labelGrants : List ℕ → Subject → (label : ℕ) → Rights → Bool
-labelGrants Q who label want = covers (policyRights Q (who .label) label) (want .0)
+labelGrants Q who label want = covers (policyRights Q (who .label) label) want
 
 -- the transition from process label l by program label m: a label, or 255 for none
 unfoldable pub transition : List ℕ → ℕ → ℕ → ℕ

@@ -6,25 +6,28 @@ use lib.Dec.{eqb, ltb, leb}
 use lib.ListN.{length, getD, drop}
 use Rattle.rules.specs.Choice.{every, some, implies}
 use Rattle.rules.specs.Scan.{all, any, count, total, first}
-use Rattle.rules.specs.Layout.{SLOTS, BLOCK, DIRENT, DIRENTS, NAME, NAMES, OPENS, PROCESSES, DESCRIPTORS, FILE, OPEN, PROCESS, RIGHTS, NONE, SLASH}
-use Rattle.rules.specs.Layout.{KIND, OWNER, BITS, LABEL, LENGTH, LINKS, VERSION, FREE, PLAIN, DIRECTORY, SLOT, MODE, OFFSET, REFERENCES, USED, USER, DOMAIN}
-use Rattle.rules.specs.Layout.{KIND-MAX, USER-MAX, BITS-MAX, LABEL-MAX, MODE-MAX, WORD-MAX}
-use Rattle.rules.specs.Store.{Store, Table, Tree, View, view, slot}
+use Rattle.rules.specs.Layout.{SLOTS, BLOCK, DIRENT, DIRENTS, NAME, NAMES, OPEN-FILES, PROCESSES, DESCRIPTORS, FILE, OPEN, PROCESS, RIGHTS, NONE, SLASH}
+use Rattle.rules.specs.Layout.{KIND, OWNER, BITS, LABEL, LENGTH, LINKS, VERSION, FREE, PLAIN, DIRECTORY, SLOT, MODE, OFFSET, REFERENCES, USED, USER, PROCESS-LABEL}
+use Rattle.rules.specs.Layout.{KIND-MAX, USER-MAX, LABEL-MAX, WORD-MAX}
+use Rattle.rules.specs.Store.{Store, Table, Tree, View, view, slot, ofdOf}
+use Rattle.rules.specs.Rights.{rightsKnown, bitsKnown, modeOf, modeKept}
 use Rattle.rules.specs.Paths.{Name, isDots, sameName}
 use Rattle.rules.specs.Directories.{direntAt, direntSlot, isEmpty, isPadding}
 use Rattle.rules.specs.Walk.{isDirectory, isPlain}
+use Rattle.rules.specs.declared.ids.Slot.{Slot}
+use Rattle.rules.specs.declared.ids.Ofd.{Ofd}
 
 -- ---- sizes: "Lent tables of another size are 1"
 
 unfoldable pub sizesSound : Store → Bool
 sizesSound s =
     every (eqb (length (s .files)) (SLOTS * FILE) ∷ eqb (length (s .contents)) (SLOTS * BLOCK)
-    ∷ eqb (length (s .opens)) (OPENS * OPEN) ∷ eqb (length (s .processes)) (PROCESSES * PROCESS) ∷ [])
+    ∷ eqb (length (s .openFiles)) (OPEN-FILES * OPEN) ∷ eqb (length (s .processes)) (PROCESSES * PROCESS) ∷ [])
 
 -- ---- the policy: rights 0 to 7; transitions to a label, or 255
 
 unfoldable pub rightSound : List ℕ → ℕ → Bool
-rightSound Q i = leb (getD Q i 0) BITS-MAX
+rightSound Q i = rightsKnown (getD Q i 0)
 
 unfoldable pub transitionSound : List ℕ → ℕ → Bool
 transitionSound Q i = some (leb (getD Q i 0) LABEL-MAX ∷ eqb (getD Q i 0) NONE ∷ [])
@@ -40,7 +43,7 @@ recordFree t s =
 
 unfoldable pub recordSound : Tree → ℕ → Bool
 recordSound t s =
-    every (leb (t .file s KIND) KIND-MAX ∷ leb (t .file s OWNER) USER-MAX ∷ leb (t .file s BITS) BITS-MAX ∷ leb (t .file s LABEL) LABEL-MAX
+    every (leb (t .file s KIND) KIND-MAX ∷ leb (t .file s OWNER) USER-MAX ∷ bitsKnown (t .file s BITS) ∷ leb (t .file s LABEL) LABEL-MAX
     ∷ leb (t .file s VERSION) WORD-MAX ∷ implies (eqb (t .file s KIND) FREE) (recordFree t s) ∷ [])
 
 -- ---- a directory's entries
@@ -121,21 +124,21 @@ directorySound t d =
 -- ---- open files
 
 -- open file e, another than x, is on slot s
-unfoldable pub isOn : Table → ℕ → ℕ → ℕ → Bool
-isOn opened x s e = every (not (eqb e x) ∷ not (eqb (opened e REFERENCES) 0) ∷ eqb (opened e SLOT) s ∷ [])
+unfoldable pub isOn : Table → Ofd → Slot → ℕ → Bool
+isOn openFiles x s e = every (not (eqb e (x .0)) ∷ not (eqb (openFiles e REFERENCES) 0) ∷ eqb (openFiles e SLOT) (s .0) ∷ [])
 
 -- slot s is open, but for open file x
-unfoldable pub openBut : Table → ℕ → ℕ → Bool
-openBut opened x s = any (isOn opened x s) 0 OPENS
+unfoldable pub openBut : Table → Ofd → Slot → Bool
+openBut openFiles x s = any (isOn openFiles x s) 0 OPEN-FILES
 
 -- slot s is open: there is no open file 32
-abbrev pub isOpen : Table → ℕ → Bool
-isOpen opened s = openBut opened OPENS s
+abbrev pub isOpen : Table → Slot → Bool
+isOpen openFiles s = openBut openFiles (ofdOf OPEN-FILES) s
 
 -- "a plain file's length at most 512"; "each plain file named or open"; "A plain file's bytes past its length are 0"
 unfoldable pub plainSound : View → ℕ → Bool
 plainSound v s =
-    every (leb (v .tree .file s LENGTH) BLOCK ∷ some (ltb 0 (v .tree .file s LINKS) ∷ isOpen (v .opened) s ∷ []) ∷ allZero (v .tree .shown s) ∷ [])
+    every (leb (v .tree .file s LENGTH) BLOCK ∷ some (ltb 0 (v .tree .file s LINKS) ∷ isOpen (v .openFiles) (slot s) ∷ []) ∷ allZero (v .tree .shown s) ∷ [])
 
 -- what is owed by kind; a free slot's bytes are 0
 unfoldable pub kindSound : View → ℕ → Bool
@@ -158,34 +161,34 @@ holders desc e = total (holdersIn desc e) 0 PROCESSES
 
 -- a free open file is all zero
 unfoldable pub openFree : Table → ℕ → Bool
-openFree opened e = every (eqb (opened e SLOT) 0 ∷ eqb (opened e MODE) 0 ∷ eqb (opened e OFFSET) 0 ∷ [])
+openFree openFiles e = every (eqb (openFiles e SLOT) 0 ∷ eqb (openFiles e MODE) 0 ∷ eqb (openFiles e OFFSET) 0 ∷ [])
 
 -- "open entries only on plain files", the mode and the position in range
 unfoldable pub openUsed : View → ℕ → Bool
 openUsed v e =
-    every (ltb (v .opened e SLOT) SLOTS ∷ isPlain (v .tree .file) (slot (v .opened e SLOT)) ∷ leb 1 (v .opened e MODE) ∷ leb (v .opened e MODE) MODE-MAX
-    ∷ leb (v .opened e OFFSET) BLOCK ∷ [])
+    every (ltb (v .openFiles e SLOT) SLOTS ∷ isPlain (v .tree .file) (slot (v .openFiles e SLOT)) ∷ modeKept (modeOf (v .openFiles e MODE))
+    ∷ leb (v .openFiles e OFFSET) BLOCK ∷ [])
 
 -- "references equal to the descriptors counted, at least 1"
 unfoldable pub openSound : View → ℕ → Bool
 openSound v e =
-    every (eqb (v .opened e REFERENCES) (holders (v .desc) e) ∷ cond (eqb (v .opened e REFERENCES) 0) (openFree (v .opened) e) (openUsed v e) ∷ [])
+    every (eqb (v .openFiles e REFERENCES) (holders (v .desc) e) ∷ cond (eqb (v .openFiles e REFERENCES) 0) (openFree (v .openFiles) e) (openUsed v e) ∷ [])
 
 -- ---- processes
 
--- a descriptor names an open entry or nothing
+-- a descriptor names an open file or nothing
 unfoldable pub descSound : Table → ℕ → ℕ → Bool
-descSound desc p i = leb (desc p i) OPENS
+descSound desc p i = leb (desc p i) OPEN-FILES
 
 unfoldable pub descFree : Table → ℕ → ℕ → Bool
 descFree desc p i = eqb (desc p i) 0
 
 unfoldable pub procFree : View → ℕ → Bool
-procFree v p = every (eqb (v .proc p USER) 0 ∷ eqb (v .proc p DOMAIN) 0 ∷ all (descFree (v .desc) p) 0 DESCRIPTORS ∷ [])
+procFree v p = every (eqb (v .proc p USER) 0 ∷ eqb (v .proc p PROCESS-LABEL) 0 ∷ all (descFree (v .desc) p) 0 DESCRIPTORS ∷ [])
 
 unfoldable pub procUsed : View → ℕ → Bool
 procUsed v p =
-    every (eqb (v .proc p USED) 1 ∷ leb (v .proc p USER) USER-MAX ∷ leb (v .proc p DOMAIN) LABEL-MAX ∷ all (descSound (v .desc) p) 0 DESCRIPTORS ∷ [])
+    every (eqb (v .proc p USED) 1 ∷ leb (v .proc p USER) USER-MAX ∷ leb (v .proc p PROCESS-LABEL) LABEL-MAX ∷ all (descSound (v .desc) p) 0 DESCRIPTORS ∷ [])
 
 unfoldable pub procSound : View → ℕ → Bool
 procSound v p = cond (eqb (v .proc p USED) 0) (procFree v p) (procUsed v p)
@@ -194,7 +197,7 @@ procSound v p = cond (eqb (v .proc p USED) 0) (procFree v p) (procUsed v p)
 
 unfoldable pub tablesSound : View → Bool
 tablesSound v =
-    every (isDirectory (v .tree .file) (slot 0) ∷ all (slotSound v) 0 SLOTS ∷ all (openSound v) 0 OPENS ∷ all (procSound v) 0 PROCESSES ∷ [])
+    every (isDirectory (v .tree .file) (slot 0) ∷ all (slotSound v) 0 SLOTS ∷ all (openSound v) 0 OPEN-FILES ∷ all (procSound v) 0 PROCESSES ∷ [])
 
 unfoldable pub storeSound : Store → Bool
 storeSound s = cond (sizesSound s) (tablesSound (view s)) false

@@ -5,24 +5,65 @@ use mathlib.Core.List.{List, [], _∷_, _++_}
 use lib.Dec.{eqb, ltb}
 use lib.ListN.{length, getD, take, drop, set, replicate}
 use lib.Seq.{sets}
-use Rattle.rules.specs.Layout.{BLOCK, FILE, KIND, OWNER, BITS, LABEL, LENGTH, LINKS, VERSION, PLAIN, OPEN, PROCESS, OWN, USER, DOMAIN, DESCRIPTORS}
+use Rattle.rules.specs.Layout.{SLOTS, OPEN-FILES, PROCESSES, DIRENTS, BLOCK, FILE, KIND, OWNER, BITS, LABEL, LENGTH, LINKS, VERSION, PLAIN, OPEN, PROCESS, OWN, USER, PROCESS-LABEL, DESCRIPTORS}
 use Rattle.rules.specs.declared.decision.Record.{Record}
 use Rattle.rules.specs.declared.ids.Slot.{Slot}
 use Rattle.rules.specs.declared.ids.Pid.{Pid}
+use Rattle.rules.specs.declared.ids.Fd.{Fd}
+use Rattle.rules.specs.declared.ids.Ofd.{Ofd}
+use Rattle.rules.specs.declared.ids.Dirent.{Dirent}
+use Rattle.rules.specs.declared.rights.Bits.{Bits}
+use Rattle.rules.specs.declared.rights.OpenMode.{OpenMode}
 use Rattle.rules.specs.declared.request.Subject.{Subject}
 
 -- "Files", "Contents", "Open entries", "Processes". No call changes the policy, so it stands beside the store.
 pub record Store : Type 0 where
   pub files : List ℕ
   pub contents : List ℕ
-  pub opens : List ℕ
+  pub openFiles : List ℕ
   pub processes : List ℕ
 
 abbrev pub store : (F C E P : List ℕ) → Store
-store F C E P = record { files = F; contents = C; opens = E; processes = P }
+store F C E P = record { files = F; contents = C; openFiles = E; processes = P }
+
+-- numbers as what they number, and whether there is such a one
 
 abbrev pub slot : ℕ → Slot
 slot n = record { 0 = n }
+
+abbrev pub isSlot : Slot → Bool
+isSlot s = ltb (s .0) SLOTS
+
+abbrev pub pidOf : ℕ → Pid
+pidOf n = record { 0 = n }
+
+abbrev pub isPid : Pid → Bool
+isPid p = ltb (p .0) PROCESSES
+
+abbrev pub fdOf : ℕ → Fd
+fdOf n = record { 0 = n }
+
+abbrev pub isFd : Fd → Bool
+isFd i = ltb (i .0) DESCRIPTORS
+
+abbrev pub ofdOf : ℕ → Ofd
+ofdOf n = record { 0 = n }
+
+abbrev pub isOfd : Ofd → Bool
+isOfd e = ltb (e .0) OPEN-FILES
+
+abbrev pub entry : ℕ → Dirent
+entry n = record { 0 = n }
+
+abbrev pub isDirent : Dirent → Bool
+isDirent i = ltb (i .0) DIRENTS
+
+-- bits and a mode as they stand in a table
+abbrev pub bitsAt : ℕ → Bits
+bitsAt n = record { 0 = n }
+
+abbrev pub modeAt : ℕ → OpenMode
+modeAt n = record { 0 = n }
 
 -- ---- the view: the tables as functions of a row and a named column, and of each slot the bytes that are not a plain file's own
 
@@ -38,7 +79,7 @@ pub record Tree : Type 0 where
 -- Only the answer of a read looks at a plain file's bytes: every rule takes the view.
 pub record View : Type 0 where
   pub tree : Tree
-  pub opened : Table
+  pub openFiles : Table
   pub proc : Table
   pub desc : Table
 
@@ -70,17 +111,17 @@ abbrev pub tree : (F C : List ℕ) → Tree
 tree F C = record { file = tab FILE F; shown = shownOf F C }
 
 abbrev pub view : Store → View
-view s = record { tree = tree (s .files) (s .contents); opened = tab OPEN (s .opens); proc = procOf (s .processes); desc = descOf (s .processes) }
+view s = record { tree = tree (s .files) (s .contents); openFiles = tab OPEN (s .openFiles); proc = procOf (s .processes); desc = descOf (s .processes) }
 
 -- who asks: process p
 abbrev pub subjectOf : Table → Pid → Subject
-subjectOf proc p = record { user = proc (p .0) USER; label = proc (p .0) DOMAIN }
+subjectOf proc p = record { user = proc (p .0) USER; label = proc (p .0) PROCESS-LABEL }
 
 abbrev pub recordOf : Table → Slot → Record
 recordOf file s = record {
   kind = file (s .0) KIND;
   owner = file (s .0) OWNER;
-  bits = file (s .0) BITS;
+  bits = bitsAt (file (s .0) BITS);
   label = file (s .0) LABEL;
   length = file (s .0) LENGTH;
   links = file (s .0) LINKS;
@@ -122,17 +163,17 @@ pub data Change : Type 0 where
   procZero : ℕ → Change  -- a process, all zero
 
 abbrev pub change : Change → Store → Store
-change (fileWord s k x) t = store (set (t .files) (FILE * s + k) x) (t .contents) (t .opens) (t .processes)
-change (fileTo s ws) t = store (puts FILE (t .files) s 0 ws) (t .contents) (t .opens) (t .processes)
-change (clearTo s ws) t = store (puts FILE (t .files) s 0 ws) (sets (t .contents) (BLOCK * s + 0) (zeros BLOCK)) (t .opens) (t .processes)
-change (bytesTo s at bs) t = store (t .files) (sets (t .contents) (BLOCK * s + at) bs) (t .opens) (t .processes)
-change (openWord e k x) t = store (t .files) (t .contents) (set (t .opens) (OPEN * e + k) x) (t .processes)
-change (openTo e ws) t = store (t .files) (t .contents) (puts OPEN (t .opens) e 0 ws) (t .processes)
-change (openZero e) t = store (t .files) (t .contents) (sets (t .opens) (OPEN * e + 0) (zeros OPEN)) (t .processes)
-change (descTo p i x) t = store (t .files) (t .contents) (t .opens) (set (t .processes) (PROCESS * p + (OWN + i)) x)
-change (procWord p k x) t = store (t .files) (t .contents) (t .opens) (set (t .processes) (PROCESS * p + k) x)
-change (procTo p ws) t = store (t .files) (t .contents) (t .opens) (puts PROCESS (t .processes) p 0 ws)
-change (procZero p) t = store (t .files) (t .contents) (t .opens) (sets (t .processes) (PROCESS * p + 0) (zeros PROCESS))
+change (fileWord s k x) t = store (set (t .files) (FILE * s + k) x) (t .contents) (t .openFiles) (t .processes)
+change (fileTo s ws) t = store (puts FILE (t .files) s 0 ws) (t .contents) (t .openFiles) (t .processes)
+change (clearTo s ws) t = store (puts FILE (t .files) s 0 ws) (sets (t .contents) (BLOCK * s + 0) (zeros BLOCK)) (t .openFiles) (t .processes)
+change (bytesTo s at bs) t = store (t .files) (sets (t .contents) (BLOCK * s + at) bs) (t .openFiles) (t .processes)
+change (openWord e k x) t = store (t .files) (t .contents) (set (t .openFiles) (OPEN * e + k) x) (t .processes)
+change (openTo e ws) t = store (t .files) (t .contents) (puts OPEN (t .openFiles) e 0 ws) (t .processes)
+change (openZero e) t = store (t .files) (t .contents) (sets (t .openFiles) (OPEN * e + 0) (zeros OPEN)) (t .processes)
+change (descTo p i x) t = store (t .files) (t .contents) (t .openFiles) (set (t .processes) (PROCESS * p + (OWN + i)) x)
+change (procWord p k x) t = store (t .files) (t .contents) (t .openFiles) (set (t .processes) (PROCESS * p + k) x)
+change (procTo p ws) t = store (t .files) (t .contents) (t .openFiles) (puts PROCESS (t .processes) p 0 ws)
+change (procZero p) t = store (t .files) (t .contents) (t .openFiles) (sets (t .processes) (PROCESS * p + 0) (zeros PROCESS))
 
 unfoldable pub applyAll : List Change → Store → Store
 applyAll [] t = t

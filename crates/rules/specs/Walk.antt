@@ -5,15 +5,16 @@ use mathlib.Core.List.{List, [], _∷_}
 use lib.Dec.{eqb, ltb}
 use lib.ListN.{length}
 use Rattle.rules.specs.Layout.{KIND, OWNER, BITS, LABEL, DIRECTORY, PLAIN, DIRENTS}
-use Rattle.rules.specs.Store.{Table, Tree, slot}
-use Rattle.rules.specs.Rights.{SEARCH, bitsGrant, labelGrants}
+use Rattle.rules.specs.Store.{Table, Tree, slot, entry, isDirent, bitsAt}
+use Rattle.rules.specs.Rights.{EXECUTE, bitsGrant, labelGrants}
 use Rattle.rules.specs.Paths.{Name, names, parentNames}
 use Rattle.rules.specs.Directories.{direntOf, direntSlot}
 use Rattle.rules.specs.declared.ids.Slot.{Slot}
+use Rattle.rules.specs.declared.ids.Dirent.{Dirent}
 use Rattle.rules.specs.declared.rights.Rights.{Rights}
 use Rattle.rules.specs.declared.request.Subject.{Subject}
 use Rattle.rules.specs.declared.refusal.Refusal.{Refusal}
-use Rattle.rules.specs.declared.refusal.Refusal.the-variants.{NameMissing, NotDirectory, BitsForbid, LabelForbids}
+use Rattle.rules.specs.declared.refusal.Refusal.the-variants.{NameMissing, NotADirectory, BitsForbid, LabelForbids}
 use Rattle.rules.specs.declared.decision.Location.{Location}
 use Rattle.rules.specs.declared.decision.Walk.{Walk}
 use Rattle.rules.specs.declared.decision.Walk.the-variants.{Reached, Stopped}
@@ -26,7 +27,7 @@ isPlain file s = eqb (file (s .0) KIND) PLAIN
 
 -- the subject has the rights over slot s, by its bits and by its label
 abbrev pub bitsAllow : Table → Subject → Slot → Rights → Bool
-bitsAllow file who s want = bitsGrant who (file (s .0) OWNER) (file (s .0) BITS) want
+bitsAllow file who s want = bitsGrant who (file (s .0) OWNER) (bitsAt (file (s .0) BITS)) want
 
 abbrev pub labelAllows : Table → List ℕ → Subject → Slot → Rights → Bool
 labelAllows file Q who s want = labelGrants Q who (file (s .0) LABEL) want
@@ -43,17 +44,17 @@ onReached (Stopped r k) f = Stopped r k
 -- "the directory at hand must be a directory (7), searchable by bits (9), by label (10)", and then what follows
 abbrev pub searched : Table → List ℕ → Subject → Slot → ℕ → Walk → Walk
 searched file Q who d k rest =
-    needAt (isDirectory file d) NotDirectory k
-    (needAt (bitsAllow file who d SEARCH) BitsForbid k
-    (needAt (labelAllows file Q who d SEARCH) LabelForbids k rest))
+    needAt (isDirectory file d) NotADirectory k
+    (needAt (bitsAllow file who d EXECUTE) BitsForbid k
+    (needAt (labelAllows file Q who d EXECUTE) LabelForbids k rest))
 
 -- entry i of directory d, whose bytes are D
-abbrev pub reached : List ℕ → Slot → ℕ → Walk
-reached D d i = Reached (record { dir = d; dirent = i; slot = slot (direntSlot D i) })
+abbrev pub reached : List ℕ → Slot → Dirent → Walk
+reached D d i = Reached (record { dir = d; dirent = i; slot = slot (direntSlot D (i .0)) })
 
 -- "and hold the name (6)"
-abbrev pub entered : List ℕ → Slot → ℕ → ℕ → Walk
-entered D d k i = needAt (ltb i DIRENTS) NameMissing k (reached D d i)
+abbrev pub entered : List ℕ → Slot → ℕ → Dirent → Walk
+entered D d k i = needAt (isDirent i) NameMissing k (reached D d i)
 
 abbrev pub found : Tree → Slot → Name → ℕ → Walk
 found t d name k = entered (t .shown (d .0)) d k (direntOf (t .shown (d .0)) name)
@@ -68,7 +69,7 @@ walk t Q who at k [] = Reached at
 walk t Q who at k (n ∷ ns) = onReached (lookup t Q who (at .slot) n k) (λ next. walk t Q who next (k + 1) ns)
 
 abbrev pub ROOT : Location
-ROOT = record { dir = slot 0; dirent = 0; slot = slot 0 }
+ROOT = record { dir = slot 0; dirent = entry 0; slot = slot 0 }
 
 abbrev pub walkPath : Tree → List ℕ → Subject → List ℕ → Walk
 walkPath t Q who path = walk t Q who ROOT 1 (names path)

@@ -9,6 +9,8 @@ use Rattle.rules.specs.Layout.{BLOCK, PATH, NUMBER-MAX}
 use Rattle.rules.specs.Calls.{Call, operationOf}
 use Rattle.rules.specs.declared.ids.Pid.{Pid}
 use Rattle.rules.specs.declared.ids.Fd.{Fd}
+use Rattle.rules.specs.declared.refusal.Refusal.{Refusal}
+use Rattle.rules.specs.declared.refusal.Refusal.the-variants.{Malformed}
 use Rattle.rules.specs.declared.request.Operation.{Operation}
 use Rattle.rules.specs.declared.request.Operation.the-variants as op
 
@@ -28,21 +30,21 @@ pub record Written : Type 0 where
   pub fd : Fd
   pub number : ℕ
   pub path : List ℕ
-  pub bytes : List ℕ
+  pub «data» : List ℕ
 
 -- the call whose number is the "size of the buffer to read into"
-abbrev pub READ : ℕ
-READ = 11
+abbrev pub CALL-READ : ℕ
+CALL-READ = 11
 
 -- "its number, that is mode, bits, index, position or size of the buffer to read into"
 unfoldable pub numberOf : Call → ℕ
-numberOf c = cond (eqb (c .call) READ) (length (c .buffer)) (c .number)
+numberOf c = cond (eqb (c .call) CALL-READ) (length (c .buffer)) (c .number)
 
 abbrev pub written : Call → Written
-written c = record { process = c .process; call = c .call; fd = c .fd; number = numberOf c; path = c .path; bytes = c .bytes }
+written c = record { process = c .process; call = c .call; fd = c .fd; number = numberOf c; path = c .path; «data» = c .«data» }
 
 abbrev pub served : Written → (buffer : List ℕ) → Call
-served w buffer = record { process = w .process; call = w .call; fd = w .fd; number = w .number; path = w .path; bytes = w .bytes; buffer = buffer }
+served w buffer = record { process = w .process; call = w .call; fd = w .fd; number = w .number; path = w .path; «data» = w .«data»; buffer = buffer }
 
 -- ---- which parts a call uses
 
@@ -51,10 +53,10 @@ pub record Parts : Type 0 where
   pub fd : Bool
   pub number : Bool
   pub path : ℕ
-  pub bytes : ℕ
+  pub «data» : ℕ
 
-abbrev pub parts : (fd number : Bool) (path bytes : ℕ) → Parts
-parts fd number path bytes = record { fd = fd; number = number; path = path; bytes = bytes }
+abbrev pub parts : (fd number : Bool) (path «data» : ℕ) → Parts
+parts fd number path «data» = record { fd = fd; number = number; path = path; «data» = «data» }
 
 -- "paths of at most 64 bytes and data of at most 512": a second path is a path. Of an unknown call nothing is unused, its last text is data
 unfoldable pub uses : Operation → Parts
@@ -100,7 +102,7 @@ normalBy u w = record {
   fd = record { 0 = numberIf (u .fd) (w .fd .0) };
   number = numberIf (u .number) (capped (w .number));
   path = textIf (u .path) (w .path);
-  bytes = textIf (u .bytes) (w .bytes);
+  «data» = textIf (u .«data») (w .«data»);
 }
 
 abbrev pub normal : Written → Written
@@ -110,7 +112,7 @@ normal w = normalBy (partsOf w) w
 
 -- no text is longer than a kept call's; one that is unused is empty
 unfoldable pub textsFit : Parts → Written → Bool
-textsFit u w = every (leb (length (w .path)) (u .path) ∷ leb (length (w .bytes)) (u .bytes) ∷ [])
+textsFit u w = every (leb (length (w .path)) (u .path) ∷ leb (length (w .«data»)) (u .«data») ∷ [])
 
 -- "A call kept for later holds paths of at most 64 bytes and data of at most 512". What is unused does not count
 abbrev pub canKeep : Written → Bool
@@ -120,10 +122,19 @@ canKeep w = textsFit (partsOf w) (normal w)
 
 -- "process, call and descriptor (1 byte each); its number (2 bytes, little end first); the path's length (1 byte), the path; then .."
 unfoldable pub layout : Written → List ℕ
-layout w = w .process .0 ∷ w .call ∷ w .fd .0 ∷ w .number % BYTE ∷ w .number / BYTE ∷ length (w .path) ∷ (w .path ++ w .bytes)
+layout w = w .process .0 ∷ w .call ∷ w .fd .0 ∷ w .number % BYTE ∷ w .number / BYTE ∷ length (w .path) ∷ (w .path ++ w .«data»)
 
 abbrev pub encode : Written → List ℕ
 encode w = layout (normal w)
+
+-- what keeping a call gives: the bytes that are kept, or a refusal
+pub data Keeping : Type 0 where
+  Keeps : List ℕ → Keeping
+  Refuses : Refusal → Keeping
+
+-- "keeping a longer one is 3"
+unfoldable pub keep : Written → Keeping
+keep w = cond (canKeep w) (Keeps (encode w)) (Refuses Malformed)
 
 pub data Decoded : Type 0 where
   Kept : Written → Decoded
@@ -139,7 +150,7 @@ accepted full w = cond (every (full ∷ numbersFit (partsOf w) w ∷ textsFit (p
 
 -- n is the path's length, and `rest` what stands after it
 abbrev pub parsed : (process call fd low high n : ℕ) (rest : List ℕ) → Written
-parsed process call fd low high n rest = record { process = record { 0 = process }; call = call; fd = record { 0 = fd }; number = low + high * BYTE; path = take n rest; bytes = drop n rest }
+parsed process call fd low high n rest = record { process = record { 0 = process }; call = call; fd = record { 0 = fd }; number = low + high * BYTE; path = take n rest; «data» = drop n rest }
 
 unfoldable pub decode : List ℕ → Decoded
 decode [] = NotWritten

@@ -1,5 +1,7 @@
 // How a call is decided: refused, or granted with every number that will be written.
+use crate::ids::Dirent;
 use crate::ids::Fd;
+use crate::ids::Ofd;
 use crate::ids::Pid;
 use crate::ids::Slot;
 use crate::refusal::Refusal;
@@ -9,46 +11,47 @@ use crate::rights::OpenMode;
 // Where a walk came to: a slot, and the directory and directory entry that name it.
 pub struct Location {
     pub dir: Slot,
-    pub dirent: u32,
+    pub dirent: Dirent,
     pub slot: Slot,
 }
 
-// A walk reaches a location, or stops with a refusal at a name of the path, counted from 1.
+// A walk reaches a location, or stops with a refusal at a name of the path, counted from 1: the paper's stop number.
 pub enum Walk {
     Reached(Location),
     Stopped(Refusal, u32),
 }
 
-// A file's record.
+// A file's record, in the order of its columns. Its links are the paper's names, its version the paper's stamp.
 pub struct Record {
     pub kind: u32,
     pub owner: u32,
-    pub bits: u32,
+    pub bits: Bits,
     pub label: u32,
     pub length: u32,
     pub links: u32,
     pub version: u32,
 }
 
-// A directory entry that is written or cleared, with the directory's new length and version.
+// A directory entry (the paper's place) that is written or cleared, with the directory's new length and version.
 pub struct DirChange {
     pub dir: Slot,
-    pub dirent: u32,
+    pub dirent: Dirent,
     pub length: u32,
     pub version: u32,
 }
 
-// A new open file, and the descriptor that holds it. An open file (POSIX: open file description) goes by its number, `ofd`.
+// A new open file (the paper's open entry), and the descriptor that holds it.
 pub struct NewOpen {
     pub fd: Fd,
-    pub ofd: u32,
+    pub ofd: Ofd,
     pub slot: Slot,
     pub mode: OpenMode,
 }
 
-// Bytes to be written at `at`: the file's end and the gap behind it, and its length, version and offset afterwards.
+// Bytes to be written at `at`: the file's end and the gap behind it, and its length, version (the paper's stamp) and offset (the paper's
+// position) afterwards.
 pub struct Placement {
-    pub ofd: u32,
+    pub ofd: Ofd,
     pub slot: Slot,
     pub end: u32,
     pub gap: u32,
@@ -58,37 +61,37 @@ pub struct Placement {
     pub offset: u32,
 }
 
-// What becomes of a plain file that loses a name.
+// What becomes of a plain file that loses a name: it keeps its slot, with its links afterwards; or the slot is freed, with its record afterwards.
 pub enum Unnamed {
     Kept(Slot, u32),
     Freed(Slot, Record),
 }
 
 // What becomes of the open file of a descriptor that is emptied: nothing was held; references remain; the open file
-// goes; its file goes with it.
+// goes; its file goes with it, with its record afterwards.
 pub enum Release {
     Nothing,
-    Kept(u32, u32),
-    Gone(u32),
-    Freed(u32, Slot, Record),
+    Kept(Ofd, u32),
+    Gone(Ofd),
+    Freed(Ofd, Slot, Record),
 }
 
 // What a child gets of one of its parent's descriptors: nothing; or the open file, with its references afterwards.
 pub enum Share {
     Nothing,
-    Held(u32, u32),
+    Held(Ofd, u32),
 }
 
 // What a granted call answers beside its value: nothing; the name of a directory entry; a file's record; bytes of a slot,
 // from where and how many.
 pub enum Output {
     Nothing,
-    Name(Slot, u32),
+    Name(Slot, Dirent),
     Fields(Record),
     Bytes(Slot, u32, u32),
 }
 
-// What a granted call does.
+// What a granted call does. `Truncated`: the paper's cut; `Moved`: a new offset (the paper's position); `Relabelled`: the label after execute.
 pub enum Effect {
     Nothing,
     Opened(NewOpen),
@@ -100,8 +103,8 @@ pub enum Effect {
     BitsChanged(Slot, Bits),
     Closed(Fd, Release),
     Stored(Placement),
-    Moved(u32, u32),
-    Duplicated(Fd, u32, u32),
+    Moved(Ofd, u32),
+    Duplicated(Fd, Ofd, u32),
     Forked(Pid, u32, u32),
     Exited,
     Relabelled(u32),

@@ -13,7 +13,7 @@ use lib.Seq.{length-take-le, take-all}
 use Rattle.rules.specs.Choice.{every}
 use Rattle.rules.specs.Layout.{BLOCK, PROCESSES, DESCRIPTORS, PATH, MODE}
 use Rattle.rules.specs.Rights.{writes}
-use Rattle.rules.specs.Store.{Store, Table, view, descOf}
+use Rattle.rules.specs.Store.{Store, Table, pidOf, fdOf, modeAt, view, descOf}
 use Rattle.rules.specs.Paths.{shapeOk, pathOk}
 use Rattle.rules.specs.Calls.{Call, operationOf, formOk, pathBelowRoot}
 use Rattle.rules.specs.Written.{Written}
@@ -22,7 +22,8 @@ use Rattle.rules.specs.Decide.{decideClose, decideRead, decideWrite, writeOpen,
 use Rattle.rules.specs.Step.{replyTo, storeAfter, outcomeOf, act, step}
 use Rattle.rules.specs.declared.ids.Pid.{Pid}
 use Rattle.rules.specs.declared.ids.Fd.{Fd}
-use Rattle.rules.specs.declared.refusal.Refusal.the-variants.{NoProcess, Malformed, NotHeld, NotOpenFor, TooLong}
+use Rattle.rules.specs.declared.ids.Ofd.{Ofd}
+use Rattle.rules.specs.declared.refusal.Refusal.the-variants.{NoProcess, Malformed, NotHeld, WrongDirection, TooLong}
 use Rattle.rules.specs.declared.request.Operation.{Operation}
 use Rattle.rules.specs.declared.request.Operation.the-variants as op
 use Rattle.rules.specs.declared.decision.Decision.{Decision}
@@ -49,11 +50,11 @@ capped n = go (decLe n BYTE-MAX)
 module _ (Q : List ℕ) (s : Store) where
   -- ---- the process
 
-  no-process : (p : ℕ) → BYTE-MAX ≤ p → inUse (view s .proc) (record { 0 = p }) ≡ false
+  no-process : (p : ℕ) → BYTE-MAX ≤ p → inUse (view s .proc) (pidOf p) ≡ false
   unfolding inUse every
   no-process p h = rw (le-ltb p PROCESSES (omega arith))
 
-  process-same : (p p′ n : ℕ) (i : Fd) (k : ℕ) (path bytes buffer : List ℕ) → Capped p p′ → act Q s (asks (record { 0 = p }) n i k path bytes buffer) ≡ act Q s (asks (record { 0 = p′ }) n i k path bytes buffer)
+  process-same : (p p′ n : ℕ) (i : Fd) (k : ℕ) (path bytes buffer : List ℕ) → Capped p p′ → act Q s (asks (pidOf p) n i k path bytes buffer) ≡ act Q s (asks (pidOf p′) n i k path bytes buffer)
   unfolding act decide need outcomeOf replyTo storeAfter
   process-same p p′ n i k path bytes buffer stays = refl
   process-same p p′ n i k path bytes buffer (over h g) = rw (no-process _ h, no-process _ g)
@@ -74,13 +75,13 @@ module _ (Q : List ℕ) (s : Store) where
 
   -- ---- the descriptor
 
-  not-held : (p : Pid) (i : ℕ) → BYTE-MAX ≤ i → held (view s .desc) p (record { 0 = i }) ≡ false
+  not-held : (p : Pid) (i : ℕ) → BYTE-MAX ≤ i → held (view s .desc) p (fdOf i) ≡ false
   unfolding held descOf
   not-held p i h = rw (le-ltb i DESCRIPTORS (omega arith))
 
   module _ (p : Pid) (n : ℕ) (k : ℕ) (path bytes buffer : List ℕ) (i i′ : ℕ) (h : BYTE-MAX ≤ i) (g : BYTE-MAX ≤ i′) where
     abbrev by : ℕ → Call
-    by j = asks p n (record { 0 = j }) k path bytes buffer
+    by j = asks p n (fdOf j) k path bytes buffer
 
     own-same : (o : Operation) → decideOwn Q (view s) (by i) o ≡ decideOwn Q (view s) (by i′) o
     unfolding decideOwn decideClose decideRead decideWrite decideSeek decideDuplicate need
@@ -105,9 +106,9 @@ module _ (Q : List ℕ) (s : Store) where
 
     by-same : act Q s (by i) ≡ act Q s (by i′)
     unfolding act decide
-    by-same = rw (own-same (operationOf n)) (outcome-same s p n n (record { 0 = i }) (record { 0 = i′ }) k path bytes bytes buffer _ (inr refl))
+    by-same = rw (own-same (operationOf n)) (outcome-same s p n n (fdOf i) (fdOf i′) k path bytes bytes buffer _ (inr refl))
 
-  fd-same : (p : Pid) (n i i′ k : ℕ) (path bytes buffer : List ℕ) → Capped i i′ → act Q s (asks p n (record { 0 = i }) k path bytes buffer) ≡ act Q s (asks p n (record { 0 = i′ }) k path bytes buffer)
+  fd-same : (p : Pid) (n i i′ k : ℕ) (path bytes buffer : List ℕ) → Capped i i′ → act Q s (asks p n (fdOf i) k path bytes buffer) ≡ act Q s (asks p n (fdOf i′) k path bytes buffer)
   fd-same p n i i′ k path bytes buffer stays = refl
   fd-same p n i i′ k path bytes buffer (over h g) = by-same p n k path bytes buffer _ _ h g
 
@@ -126,19 +127,19 @@ module _ (Q : List ℕ) (s : Store) where
       go true = refl
       go false = refl
 
-  too-long : (file opened : Table) (e at n : ℕ) → BLOCK < n → writeFile file opened e at n ≡ Refused TooLong 0
+  too-long : (file openFiles : Table) (e : Ofd) (at n : ℕ) → BLOCK < n → writeFile file openFiles e at n ≡ Refused TooLong 0
   unfolding writeFile need
-  too-long file opened e at n h = rw (lt-leb (at + n) BLOCK (omega arith))
+  too-long file openFiles e at n h = rw (lt-leb (at + n) BLOCK (omega arith))
 
   -- what becomes of a write of too much
   unwritten : Pid → Fd → Decision
-  unwritten p i = need (held (view s .desc) p i) NotHeld (need (writes (view s .opened (ofdHeld (view s .desc) p i) MODE)) NotOpenFor (Refused TooLong 0))
+  unwritten p i = need (held (view s .desc) p i) NotHeld (need (writes (modeAt (view s .openFiles (ofdHeld (view s .desc) p i .0) MODE))) WrongDirection (Refused TooLong 0))
 
   unwritten-quiet : (p : Pid) (i : Fd) → Quiet (unwritten p i)
   unfolding unwritten
   unwritten-quiet p i = quiet-need _ _ _ (quiet-need _ _ _ tt)
 
-  write-refused : (p : Pid) (i : Fd) (n : ℕ) → BLOCK < n → decideWrite (view s .tree .file) (view s .opened) (view s .desc) p i n ≡ unwritten p i
+  write-refused : (p : Pid) (i : Fd) (n : ℕ) → BLOCK < n → decideWrite (view s .tree .file) (view s .openFiles) (view s .desc) p i n ≡ unwritten p i
   unfolding unwritten decideWrite writeOpen writeSome
   write-refused p i n h = rw (ne-eqb n 0 (λ e. omega arith), too-long _ _ _ _ n h)
 

@@ -83,7 +83,7 @@ normal-exact u w h e =
     let p = every-split (numbersFit u w) _ e in
     let n = every-split (implies (not (u .fd)) (eqb (w .fd .0) 0)) _ (p .0) in
     let t = every-split (implies (eqb (u .path) 0) (eqb (length (w .path)) 0)) _ (every-split (textsUsed u w) [] (p .1) .0) in
-    rw (le-leb (w .number) NUMBER-MAX h, number-used (u .fd) (w .fd .0) (n .0), number-used (u .number) (w .number) (every-split _ [] (n .1) .0), text-used (u .path) (w .path) (t .0), text-used (u .bytes) (w .bytes) (every-split _ [] (t .1) .0))
+    rw (le-leb (w .number) NUMBER-MAX h, number-used (u .fd) (w .fd .0) (n .0), number-used (u .number) (w .number) (every-split _ [] (n .1) .0), text-used (u .path) (w .path) (t .0), text-used (u .«data») (w .«data») (every-split _ [] (t .1) .0))
 
 -- ---- a block, and a script
 
@@ -105,7 +105,7 @@ block-exact S e =
     let same : normal (blockOf S) ≡ blockOf S = normal-exact (partsOf (blockOf S)) (blockOf S) (a .1) (every-split (partsOk (partsOf (blockOf S)) (blockOf S)) [] (b .1) .0) in
     let w = blockOf S in
     ap (λ w. printedBlock w ++ afterBlock S) same
-    ∙ joined (lineFor line.Proc (decimal (w .process .0))) (lineFor line.Call (decimal (w .call))) (lineFor line.Fd (decimal (w .fd .0))) (lineFor line.Arg (decimal (w .number))) (lineFor line.Path (w .path)) (lineFor line.Data (hexOf (w .bytes))) (afterBlock S)
+    ∙ joined (lineFor line.Proc (decimal (w .process .0))) (lineFor line.Call (decimal (w .call))) (lineFor line.Fd (decimal (w .fd .0))) (lineFor line.Arg (decimal (w .number))) (lineFor line.Path (w .path)) (lineFor line.Data (hexOf (w .«data»))) (afterBlock S)
     (number-exact line.Proc S (λ x. x) (proc .0) .0)
     (number-exact line.Call (fromCall S) (λ x. x) (call .0) .0)
     (number-exact line.Fd (fromFd S) (λ x. x) (fd .0) .0)

@@ -67,7 +67,7 @@ record Printable (w : Written) : Type 0 where
   fd : w .fd .0 ≤ NUMBER-MAX
   number : w .number ≤ NUMBER-MAX
   path : Pass notNewline (w .path)
-  bytes : Bytes (w .bytes)
+  bytes : Bytes (w .«data»)
   used : partsOk (partsOf w) w ≡ true
 
 record BlockReads (S : List ℕ) (w : Written) (R : List ℕ) : Type 0 where
@@ -83,12 +83,12 @@ block-reads S w h e =
     let f = line-more line.Fd (fromFd S) (decimal (w .fd .0)) _ (decimal-pass _ (h .fd)) (c .after) in
     let a = line-more line.Arg (fromArg S) (decimal (w .number)) _ (decimal-pass _ (h .number)) (f .after) in
     let t = line-more line.Path (fromPath S) (w .path) _ (h .path) (a .after) in
-    let d = line-reads line.Data (fromData S) (hexOf (w .bytes)) [] (hexOf-pass _ (h .bytes)) (t .after) in
+    let d = line-reads line.Data (fromData S) (hexOf (w .«data»)) [] (hexOf-pass _ (h .bytes)) (t .after) in
     let texts : blockOf S ≡ w =
-    rw (p .text, c .text, f .text, a .text, t .text, d .text, decimal-back (w .process .0) (h .process), decimal-back (w .call) (h .call), decimal-back (w .fd .0) (h .fd), decimal-back (w .number) (h .number), hexOf-back (w .bytes) (h .bytes)) in
+    rw (p .text, c .text, f .text, a .text, t .text, d .text, decimal-back (w .process .0) (h .process), decimal-back (w .call) (h .call), decimal-back (w .fd .0) (h .fd), decimal-back (w .number) (h .number), hexOf-back (w .«data») (h .bytes)) in
     let used : partsOk (partsOf (blockOf S)) (blockOf S) ≡ true = ap (λ v. partsOk (partsOf v) v) texts ∙ h .used in
     record {
-      ok = rw (used, p .ok, p .text, c .ok, c .text, f .ok, f .text, a .ok, a .text, t .ok, d .ok, d .text, decimal-ok (w .process .0) (h .process), decimal-ok (w .call) (h .call), decimal-ok (w .fd .0) (h .fd), decimal-ok (w .number) (h .number), hexOf-ok (w .bytes));
+      ok = rw (used, p .ok, p .text, c .ok, c .text, f .ok, f .text, a .ok, a .text, t .ok, d .ok, d .text, decimal-ok (w .process .0) (h .process), decimal-ok (w .call) (h .call), decimal-ok (w .fd .0) (h .fd), decimal-ok (w .number) (h .number), hexOf-ok (w .«data»));
       block = texts;
       after = d .after;
     }
@@ -124,7 +124,7 @@ printable w s =
     let fd = number-if (u .fd) (w .fd .0) NUMBER-MAX (s .fd) in
     let number = number-if (u .number) (capped (w .number)) NUMBER-MAX (capped-most (w .number)) in
     let path = text-if (Pass notNewline) (u .path) (w .path) tt (path-pass (w .path) (s .path)) in
-    let bytes = text-if Bytes (u .bytes) (w .bytes) (λ i. omega arith) (s .bytes) in
+    let bytes = text-if Bytes (u .«data») (w .«data») (λ i. omega arith) (s .bytes) in
     record {
       process = s .process;
       call = s .call;

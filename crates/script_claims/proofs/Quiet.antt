@@ -4,7 +4,7 @@ use mathlib.Core.Path.{_≡_, refl}
 use mathlib.Core.Bool.{Bool, true, false, cond}
 use mathlib.Core.Logic.{_⊎_, inl, inr}
 use mathlib.Core.List.{List}
-use Rattle.rules.specs.Store.{Store, View, Table}
+use Rattle.rules.specs.Store.{Store, Tree, View, Table}
 use Rattle.rules.specs.Calls.{Call}
 use Rattle.rules.specs.Checks.{need, after}
 use Rattle.rules.specs.DecidePaths.{opening, openRoom, openFile, openMode, decideOpen, createRoom, createIn, decideCreate, unlinkAt, decideUnlink, removeAt, decideRemove, listEntry, listAt, decideList, changeBitsAt, decideChangeBits, decideStat, executeAt, decideExecute}
@@ -15,6 +15,8 @@ use Rattle.rules.specs.declared.ids.Pid.{Pid}
 use Rattle.rules.specs.declared.ids.Fd.{Fd}
 use Rattle.rules.specs.declared.ids.Slot.{Slot}
 use Rattle.rules.specs.declared.request.Subject.{Subject}
+use Rattle.rules.specs.declared.rights.BitsNumber.{BitsNumber}
+use Rattle.rules.specs.declared.rights.BitsNumber.the-variants as bitsNumber
 use Rattle.rules.specs.declared.rights.ModeNumber.{ModeNumber}
 use Rattle.rules.specs.declared.rights.ModeNumber.the-variants.{Keep, Truncate, OutOfRange}
 use Rattle.rules.specs.declared.refusal.Refusal.{Refusal}
@@ -29,7 +31,7 @@ use Rattle.rules.specs.declared.decision.Decision.{Decision}
 use Rattle.rules.specs.declared.decision.Decision.the-variants.{Refused, Granted}
 
 abbrev pub asks : Pid → ℕ → Fd → ℕ → (path bytes buffer : List ℕ) → Call
-asks p n i k path bytes buffer = record { process = p; call = n; fd = i; number = k; path = path; bytes = bytes; buffer = buffer }
+asks p n i k path bytes buffer = record { process = p; call = n; fd = i; number = k; path = path; «data» = bytes; buffer = buffer }
 
 abbrev pub QuietEffect : Effect → Type 0
 QuietEffect effect.Nothing = Unit {0}
@@ -129,23 +131,33 @@ quiet-either false e e′ h g = g
 
 ruleset quiet = (quiet-need, quiet-after, quiet-cond, quiet-either, tt)
 
-quiet-mode : (Q : List ℕ) (file opens desc : Table) (p : Pid) (who : Subject) (m : ModeNumber) (s : Slot) → Quiet (openMode Q file opens desc p who m s)
+quiet-mode : (Q : List ℕ) (file openFiles desc : Table) (p : Pid) (who : Subject) (m : ModeNumber) (s : Slot) → Quiet (openMode Q file openFiles desc p who m s)
 unfolding openMode openFile openRoom opening
-quiet-mode Q file opens desc p who (Keep m) s = search quiet depth 9
-quiet-mode Q file opens desc p who (Truncate m) s = search quiet depth 9
-quiet-mode Q file opens desc p who OutOfRange s = tt
+quiet-mode Q file openFiles desc p who (Keep m) s = search quiet depth 9
+quiet-mode Q file openFiles desc p who (Truncate m) s = search quiet depth 9
+quiet-mode Q file openFiles desc p who OutOfRange s = tt
+
+quiet-create : (Q : List ℕ) (t : Tree) (who : Subject) (kind : ℕ) (n : BitsNumber) (path : List ℕ) → Quiet (decideCreate Q t who kind n path)
+unfolding decideCreate createIn createRoom
+quiet-create Q t who kind bitsNumber.OutOfRange path = tt
+quiet-create Q t who kind (bitsNumber.Valid bits) path = search quiet depth 9
+
+quiet-bits : (Q : List ℕ) (t : Tree) (who : Subject) (n : BitsNumber) (path : List ℕ) → Quiet (decideChangeBits Q t who n path)
+unfolding decideChangeBits changeBitsAt
+quiet-bits Q t who bitsNumber.OutOfRange path = tt
+quiet-bits Q t who (bitsNumber.Valid bits) path = search quiet depth 9
 
 module _ (Q : List ℕ) (v : View) (c : Call) where
   pub quiet-own : (o : Operation) → Plain o → Quiet (decideOwn Q v c o)
-  unfolding decideOwn decideOpen decideCreate createIn createRoom decideUnlink unlinkAt decideRemove removeAt decideList listAt listEntry decideChangeBits changeBitsAt decideStat decideClose decideRead readOpen decideSeek decideDuplicate duplicateTo forkTo decideExecute executeAt
+  unfolding decideOwn decideOpen decideUnlink unlinkAt decideRemove removeAt decideList listAt listEntry decideStat decideClose decideRead readOpen decideSeek decideDuplicate duplicateTo forkTo decideExecute executeAt
   quiet-own op.Open h = search (quiet, quiet-mode)
-  quiet-own op.Create h = search quiet depth 9
-  quiet-own op.MakeDirectory h = search quiet depth 9
+  quiet-own op.Create h = quiet-create Q _ _ _ _ _
+  quiet-own op.MakeDirectory h = quiet-create Q _ _ _ _ _
   quiet-own op.Unlink h = search quiet depth 9
   quiet-own op.RemoveDirectory h = search quiet depth 9
   quiet-own op.Link h = absurd h
   quiet-own op.List h = search quiet depth 9
-  quiet-own op.ChangeBits h = search quiet depth 9
+  quiet-own op.ChangeBits h = quiet-bits Q _ _ _ _
   quiet-own op.Stat h = search quiet depth 9
   quiet-own op.Close h = search quiet depth 9
   quiet-own op.Read h = search quiet depth 9

@@ -66,7 +66,7 @@ whole w = record {
   fd = w .fd;
   number = w .number;
   path = w .path;
-  bytes = w .bytes;
+  «data» = w .«data»;
   buffer = zeros (roomFor w);
 }
 

@@ -106,9 +106,9 @@ not-not : (b : Bool) → not (not b) ≡ b
 not-not true = refl
 not-not false = refl
 
-parts-same : (u : Parts) (w : Written) → partsUsed (record { fd = u .fd; number = u .number; path = not (eqb (u .path) 0); bytes = not (eqb (u .bytes) 0) }) (record { process = w .process .0; call = w .call; fd = w .fd .0; number = w .number }) (length (w .path)) (length (w .bytes)) ≡ partsOk u w
+parts-same : (u : Parts) (w : Written) → partsUsed (record { fd = u .fd; number = u .number; path = not (eqb (u .path) 0); «data» = not (eqb (u .«data») 0) }) (record { process = w .process .0; call = w .call; fd = w .fd .0; number = w .number }) (length (w .path)) (length (w .«data»)) ≡ partsOk u w
 unfolding partsUsed numbersUsed lengthsUsed partsOk numbersFit textsUsed
-parts-same u w = rw (not-not (eqb (u .path) 0), not-not (eqb (u .bytes) 0))
+parts-same u w = rw (not-not (eqb (u .path) 0), not-not (eqb (u .«data») 0))
 
 -- ---- a block
 

@@ -29,21 +29,21 @@ numbersRead S = record { process = numberRead line.Proc S; call = numberRead lin
 
 -- the call with these numbers
 abbrev pub numbered : Numbers → (path bytes : List ℕ) → Written
-numbered n path bytes = record { process = record { 0 = n .process }; call = n .call; fd = record { 0 = n .fd }; number = n .number; path = path; bytes = bytes }
+numbered n path bytes = record { process = record { 0 = n .process }; call = n .call; fd = record { 0 = n .fd }; number = n .number; path = path; «data» = bytes }
 
 unfoldable pub numbersOk : Numbers → Bool
 numbersOk n = every (leb (n .process) NUMBER-MAX ∷ leb (n .call) NUMBER-MAX ∷ leb (n .fd) NUMBER-MAX ∷ leb (n .number) NUMBER-MAX ∷ [])
 
 -- which parts a call uses
 abbrev pub usedBy : Operation → Used
-usedBy o = record { fd = uses o .fd; number = uses o .number; path = not (eqb (uses o .path) 0); bytes = not (eqb (uses o .bytes) 0) }
+usedBy o = record { fd = uses o .fd; number = uses o .number; path = not (eqb (uses o .path) 0); «data» = not (eqb (uses o .«data») 0) }
 
 -- parts that are unused are 0 or empty; p and b are the lengths of the texts
 unfoldable pub numbersUsed : Used → Numbers → Bool
 numbersUsed u n = every (implies (not (u .fd)) (eqb (n .fd) 0) ∷ implies (not (u .number)) (eqb (n .number) 0) ∷ [])
 
 unfoldable pub lengthsUsed : Used → ℕ → ℕ → Bool
-lengthsUsed u p b = every (implies (not (u .path)) (eqb p 0) ∷ implies (not (u .bytes)) (eqb b 0) ∷ [])
+lengthsUsed u p b = every (implies (not (u .path)) (eqb p 0) ∷ implies (not (u .«data»)) (eqb b 0) ∷ [])
 
 unfoldable pub partsUsed : Used → Numbers → ℕ → ℕ → Bool
 partsUsed u n p b = every (numbersUsed u n ∷ lengthsUsed u p b ∷ [])

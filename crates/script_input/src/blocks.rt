@@ -34,7 +34,7 @@ pub struct Used {
     pub fd: bool,
     pub number: bool,
     pub path: bool,
-    pub bytes: bool,
+    pub data: bool,
 }
 
 fn number_text_ok(s: &[u8], l: Line) -> bool
@@ -136,14 +136,14 @@ pub fn bytes_count(t: &[u8]) -> usize
     t.len() / 2
 }
 
-fn parts(fd: bool, number: bool, path: bool, bytes: bool) -> Used
-    ensures { λ r. ⌜ r ≡ record { fd = fd; number = number; path = path; bytes = bytes } ⌝ }
+fn parts(fd: bool, number: bool, path: bool, data: bool) -> Used
+    ensures { λ r. ⌜ r ≡ record { fd = fd; number = number; path = path; «data» = «data» } ⌝ }
 {
     Used {
         fd: fd,
         number: number,
         path: path,
-        bytes: bytes,
+        data: data,
     }
 }
 
@@ -197,7 +197,7 @@ fn lengths_used(u: Used, p: usize, b: usize) -> bool
     if !left_out(u.path, p == 0) {
         return false;
     }
-    left_out(u.bytes, b == 0)
+    left_out(u.data, b == 0)
 }
 
 fn parts_used(u: Used, n: Numbers, p: usize, b: usize) -> bool

@@ -62,7 +62,7 @@ block s = blockOk (bytes s)
 
 -- what a block asks for: its numbers, the path's length, the path, and the data
 abbrev said : Written → List ℕ
-said w = w .process .0 ∷ w .call ∷ w .fd .0 ∷ w .number ∷ length (w .path) ∷ (w .path ++ w .bytes)
+said w = w .process .0 ∷ w .call ∷ w .fd .0 ∷ w .number ∷ length (w .path) ∷ (w .path ++ w .«data»)
 
 write-read : said (blockOf (bytes "proc=2\ncall=12\nfd=3\narg=0\npath=\ndata=0aff\nproc=")) ≡ 2 ∷ 12 ∷ 3 ∷ 0 ∷ 0 ∷ 10 ∷ 255 ∷ []
 unfolding computing

@@ -8,6 +8,7 @@ use lib.ListN.{length, getD, take, drop}
 use Rattle.rules.specs.Choice.{every, implies}
 use Rattle.rules.specs.Scan.{all}
 use Rattle.rules.specs.Layout.{NUMBER-MAX}
+use Rattle.rules.specs.Store.{pidOf, fdOf}
 use Rattle.rules.specs.Paths.{span, sameAt}
 use Rattle.rules.specs.Written.{BYTE, Written, Parts, partsOf, numbersFit, normal}
 use Rattle.script_rules.specs.Text.{NEWLINE, notNewline, isDigit, isHex, numberOf, numberOk, decimal, bytesOf, hexOk, hexOf}
@@ -92,17 +93,17 @@ dataLineOk S = every (lineOk line.Data S ∷ hexOk (textOf line.Data S) ∷ [])
 -- the call as it is written down
 abbrev pub blockOf : List ℕ → Written
 blockOf S = record {
-  process = record { 0 = numberIn line.Proc S };
+  process = pidOf (numberIn line.Proc S);
   call = numberIn line.Call (fromCall S);
-  fd = record { 0 = numberIn line.Fd (fromFd S) };
+  fd = fdOf (numberIn line.Fd (fromFd S));
   number = numberIn line.Arg (fromArg S);
   path = textOf line.Path (fromPath S);
-  bytes = bytesOf (textOf line.Data (fromData S));
+  «data» = bytesOf (textOf line.Data (fromData S));
 }
 
 -- a text that is unused is empty
 unfoldable pub textsUsed : Parts → Written → Bool
-textsUsed u w = every (implies (eqb (u .path) 0) (eqb (length (w .path)) 0) ∷ implies (eqb (u .bytes) 0) (eqb (length (w .bytes)) 0) ∷ [])
+textsUsed u w = every (implies (eqb (u .path) 0) (eqb (length (w .path)) 0) ∷ implies (eqb (u .«data») 0) (eqb (length (w .«data»)) 0) ∷ [])
 
 -- "an unused number is 0, an unused text empty, else the block is broken; an unknown call leaves nothing unused"
 unfoldable pub partsOk : Parts → Written → Bool
@@ -134,7 +135,7 @@ printedBlock w =
     ++ (lineFor line.Fd (decimal (w .fd .0))
     ++ (lineFor line.Arg (decimal (w .number))
     ++ (lineFor line.Path (w .path)
-    ++ lineFor line.Data (hexOf (w .bytes))))))
+    ++ lineFor line.Data (hexOf (w .«data»))))))
 
 unfoldable pub printed : List Written → List ℕ
 printed [] = []
@@ -146,7 +147,7 @@ pub record Scriptable (w : Written) : Type 0 where
   pub call : w .call ≤ NUMBER-MAX
   pub fd : w .fd .0 ≤ NUMBER-MAX
   pub path : (i : ℕ) → getD (w .path) i 0 ≡ NEWLINE → ⊥
-  pub bytes : (i : ℕ) → getD (w .bytes) i 0 < BYTE
+  pub bytes : (i : ℕ) → getD (w .«data») i 0 < BYTE
 
 -- the first n blocks, up to the end or to one that is broken
 unfoldable pub blocks : ℕ → List ℕ → List Written

@@ -6,9 +6,9 @@ use lib.Dec.{eqb, ltb, leb}
 use lib.ListN.{length, take}
 use Rattle.rules.specs.Choice.{every}
 use Rattle.rules.specs.Layout.{BLOCK}
-use Rattle.rules.specs.Store.{Store, zeros}
+use Rattle.rules.specs.Store.{Store, pidOf, fdOf, zeros}
 use Rattle.rules.specs.Calls.{Call}
-use Rattle.rules.specs.Written.{Written, READ}
+use Rattle.rules.specs.Written.{Written, CALL-READ}
 use Rattle.rules.specs.Step.{Reply, step, answerOf}
 use Rattle.script_rules.specs.Blocks.{blockOk, blockOf, afterBlock}
 use Rattle.script_rules.specs.Answers.{answerText}
@@ -25,7 +25,7 @@ unfoldable pub asByte : ℕ → ℕ
 asByte n = cond (leb n BYTE-MAX) n BYTE-MAX
 
 unfoldable pub reads : Written → Bool
-reads w = eqb (w .call) READ
+reads w = eqb (w .call) CALL-READ
 
 -- "read size (at most 512, else 3)"
 unfoldable pub readsTooMuch : Written → Bool
@@ -44,16 +44,16 @@ roomFor w = cond (every (reads w ∷ leb (w .number) BLOCK ∷ [])) (w .number) 
 
 -- No call takes more than 512 bytes: of more, one too many is enough to be refused for it
 unfoldable pub bytesFor : Written → List ℕ
-bytesFor w = take (BLOCK + 1) (w .bytes)
+bytesFor w = take (BLOCK + 1) (w .«data»)
 
 unfoldable pub askedBy : Written → Call
 askedBy w = record {
-  process = record { 0 = asByte (w .process .0) };
+  process = pidOf (asByte (w .process .0));
   call = callFor w;
-  fd = record { 0 = asByte (w .fd .0) };
+  fd = fdOf (asByte (w .fd .0));
   number = w .number;
   path = w .path;
-  bytes = bytesFor w;
+  «data» = bytesFor w;
   buffer = zeros (roomFor w);
 }
 

@@ -36,36 +36,36 @@ pub enum Turn {
 fn serve(
     files: &mut [u32],
     contents: &mut [u8],
-    opens: &mut [u32],
+    open_files: &mut [u32],
     processes: &mut [u32],
     policy: &[u8],
     c: Request,
     path: &[u8],
-    bytes: &[u8],
+    data: &[u8],
     buffer: &mut [u8],
     output: &mut [u8],
     at: usize,
 ) -> usize
-    ensures { λ r. ⌜ served r (now (output .exit)) (store (now (files .exit)) (now (contents .exit)) (now (opens .exit)) (now (processes .exit))) ≡ servedBy (now (policy .entry)) (now (output .entry)) at (store (now (files .entry)) (now (contents .entry)) (now (opens .entry)) (now (processes .entry))) (callOf c (now (path .entry)) (now (bytes .entry)) (now (buffer .entry))) ⌝ }
+    ensures { λ r. ⌜ served r (now (output .exit)) (store (now (files .exit)) (now (contents .exit)) (now («open_files» .exit)) (now (processes .exit))) ≡ servedBy (now (policy .entry)) (now (output .entry)) at (store (now (files .entry)) (now (contents .entry)) (now («open_files» .entry)) (now (processes .entry))) (callOf c (now (path .entry)) (now («data» .entry)) (now (buffer .entry))) ⌝ }
 {
     let d = judge(
         files,
         contents,
-        opens,
+        open_files,
         processes,
         policy,
         c,
         path,
-        bytes,
+        data,
         buffer,
     );
-    let a = answer(files, contents, opens, processes, buffer, d);
+    let a = answer(files, contents, open_files, processes, buffer, d);
     let n = write_answer(output, at, a, buffer);
     let full = n == 0;
     if full {
         return 0;
     }
-    carry(files, contents, opens, processes, c, path, bytes, d);
+    carry(files, contents, open_files, processes, c, path, data, d);
     n
 }
 
@@ -73,7 +73,7 @@ fn serve(
 fn serve_block(
     files: &mut [u32],
     contents: &mut [u8],
-    opens: &mut [u32],
+    open_files: &mut [u32],
     processes: &mut [u32],
     policy: &[u8],
     n: Numbers,
@@ -82,7 +82,7 @@ fn serve_block(
     output: &mut [u8],
     at: usize,
 ) -> usize
-    ensures { λ r. ⌜ served r (now (output .exit)) (store (now (files .exit)) (now (contents .exit)) (now (opens .exit)) (now (processes .exit))) ≡ blockServed (now (policy .entry)) n (now (p .entry)) (now (d .entry)) (now (output .entry)) at (store (now (files .entry)) (now (contents .entry)) (now (opens .entry)) (now (processes .entry))) ⌝ }
+    ensures { λ r. ⌜ served r (now (output .exit)) (store (now (files .exit)) (now (contents .exit)) (now («open_files» .exit)) (now (processes .exit))) ≡ blockServed (now (policy .entry)) n (now (p .entry)) (now (d .entry)) (now (output .entry)) at (store (now (files .entry)) (now (contents .entry)) (now («open_files» .entry)) (now (processes .entry))) ⌝ }
 {
     let mut data = [0u8; BLOCK + 1];
     let count = read_bytes(text(d, Line::Data), &mut data);
@@ -91,7 +91,7 @@ fn serve_block(
     serve(
         files,
         contents,
-        opens,
+        open_files,
         processes,
         policy,
         request_for(n),
@@ -123,7 +123,7 @@ fn block_size(s: &[u8], d: &[u8]) -> usize
 fn take_block(
     files: &mut [u32],
     contents: &mut [u8],
-    opens: &mut [u32],
+    open_files: &mut [u32],
     processes: &mut [u32],
     policy: &[u8],
     s: &[u8],
@@ -133,7 +133,7 @@ fn take_block(
     output: &mut [u8],
     at: usize,
 ) -> Turn
-    ensures { λ r. ⌜ turned r (now (output .exit)) (store (now (files .exit)) (now (contents .exit)) (now (opens .exit)) (now (processes .exit))) ≡ blockTurn (now (policy .entry)) (now (s .entry)) n (now (p .entry)) (now (d .entry)) (now (output .entry)) at (store (now (files .entry)) (now (contents .entry)) (now (opens .entry)) (now (processes .entry))) ⌝ }
+    ensures { λ r. ⌜ turned r (now (output .exit)) (store (now (files .exit)) (now (contents .exit)) (now («open_files» .exit)) (now (processes .exit))) ≡ blockTurn (now (policy .entry)) (now (s .entry)) n (now (p .entry)) (now (d .entry)) (now (output .entry)) at (store (now (files .entry)) (now (contents .entry)) (now («open_files» .entry)) (now (processes .entry))) ⌝ }
 {
     if !block_ok(n, p, d) {
         return Turn::Stopped(Reason::Broken);
@@ -142,7 +142,7 @@ fn take_block(
     let length = serve_block(
         files,
         contents,
-        opens,
+        open_files,
         processes,
         policy,
         n,
@@ -162,7 +162,7 @@ fn take_block(
 pub fn take_turn(
     files: &mut [u32],
     contents: &mut [u8],
-    opens: &mut [u32],
+    open_files: &mut [u32],
     processes: &mut [u32],
     policy: &[u8],
     s: &[u8],
@@ -170,7 +170,7 @@ pub fn take_turn(
     output: &mut [u8],
     at: usize,
 ) -> Turn
-    ensures { λ r. ⌜ turned r (now (output .exit)) (store (now (files .exit)) (now (contents .exit)) (now (opens .exit)) (now (processes .exit))) ≡ turnOf n (now (policy .entry)) (now (s .entry)) (now (output .entry)) at (store (now (files .entry)) (now (contents .entry)) (now (opens .entry)) (now (processes .entry))) ⌝ }
+    ensures { λ r. ⌜ turned r (now (output .exit)) (store (now (files .exit)) (now (contents .exit)) (now («open_files» .exit)) (now (processes .exit))) ≡ turnOf n (now (policy .entry)) (now (s .entry)) (now (output .entry)) at (store (now (files .entry)) (now (contents .entry)) (now («open_files» .entry)) (now (processes .entry))) ⌝ }
 {
     let ended = s.len() == 0;
     if ended {
@@ -185,7 +185,7 @@ pub fn take_turn(
     take_block(
         files,
         contents,
-        opens,
+        open_files,
         processes,
         policy,
         s,

@@ -8,6 +8,7 @@ use native.Mathlib.Omega.{arith}
 use native.Mathlib.Decide.{decLt, decLe, ℕ-discrete}
 use lib.ListN.{length, getD, drop, set, length-set, length-take, length-drop, List·getD-eq-default}
 use lib.Seq.{sets, getD-set-same, getD-set-other, getD-take, getD-drop, ext-getD}
+use Rattle.rules.specs.Layout.{BLOCK}
 use Rattle.rules.specs.Store.{block, puts}
 
 -- ---- one element, or some in a row, put anew
@@ -79,58 +80,58 @@ agree-clear a b C C′ h (v ∷ vs) g = agree-clear (suc a) b (set C a v) (set C
 
 -- ---- blocks
 
-size-block : (C : List ℕ) (d : ℕ) → length (block C d) ≡ min 512 (length C - 512 * d)
+size-block : (C : List ℕ) (d : ℕ) → length (block C d) ≡ min BLOCK (length C - BLOCK * d)
 size-block C d = simp (length-take, length-drop)
 
-getD-block : (C : List ℕ) (d i : ℕ) → i < 512 → getD (block C d) i 0 ≡ getD C (512 * d + i) 0
-getD-block C d i h = getD-take 512 (drop (512 * d) C) i 0 h ∙ getD-drop (512 * d) C i 0
+getD-block : (C : List ℕ) (d i : ℕ) → i < BLOCK → getD (block C d) i 0 ≡ getD C (BLOCK * d + i) 0
+getD-block C d i h = getD-take BLOCK (drop (BLOCK * d) C) i 0 h ∙ getD-drop (BLOCK * d) C i 0
 
 -- bytes of slot f, past m
-size-rest : (C : List ℕ) (d m : ℕ) → length (drop m (block C d)) ≡ min 512 (length C - 512 * d) - m
+size-rest : (C : List ℕ) (d m : ℕ) → length (drop m (block C d)) ≡ min BLOCK (length C - BLOCK * d) - m
 size-rest C d m = length-drop m (block C d) ∙ ap (λ (k : ℕ). k - m) (size-block C d)
 
-getD-rest : (C : List ℕ) (d m i : ℕ) → m + i < 512 → getD (drop m (block C d)) i 0 ≡ getD C (512 * d + (m + i)) 0
+getD-rest : (C : List ℕ) (d m i : ℕ) → m + i < BLOCK → getD (drop m (block C d)) i 0 ≡ getD C (BLOCK * d + (m + i)) 0
 getD-rest C d m i h = getD-drop m (block C d) i 0 ∙ getD-block C d (m + i) h
 
-module _ (f n : ℕ) (C C′ : List ℕ) (h : Agree (512 * f) (512 * f + n) C C′) (small : n ≤ 512) where
+module _ (f n : ℕ) (C C′ : List ℕ) (h : Agree (BLOCK * f) (BLOCK * f + n) C C′) (small : n ≤ BLOCK) where
   pub agree-block : (d : ℕ) → d ≢ f → block C d ≡ block C′ d
   agree-block d ne =
-      ext-getD 0 (block C d) (block C′ d) (size-block C d ∙ ap (λ (k : ℕ). min 512 (k - 512 * d)) (h .size) ∙ sym (size-block C′ d))
+      ext-getD 0 (block C d) (block C′ d) (size-block C d ∙ ap (λ (k : ℕ). min BLOCK (k - BLOCK * d)) (h .size) ∙ sym (size-block C′ d))
       (λ i lt. at i (omega (arith, size-block C d)))
     where
-      at : (i : ℕ) → i < 512 → getD (block C d) i 0 ≡ getD (block C′ d) i 0
-      at i lt = getD-block C d i lt ∙ h .outside (512 * d + i) (λ lo hi. ne (omega arith)) ∙ sym (getD-block C′ d i lt)
+      at : (i : ℕ) → i < BLOCK → getD (block C d) i 0 ≡ getD (block C′ d) i 0
+      at i lt = getD-block C d i lt ∙ h .outside (BLOCK * d + i) (λ lo hi. ne (omega arith)) ∙ sym (getD-block C′ d i lt)
 
   pub agree-rest : (m : ℕ) → n ≤ m → drop m (block C f) ≡ drop m (block C′ f)
   agree-rest m le =
-      ext-getD 0 (drop m (block C f)) (drop m (block C′ f)) (size-rest C f m ∙ ap (λ (k : ℕ). min 512 (k - 512 * f) - m) (h .size) ∙ sym (size-rest C′ f m))
+      ext-getD 0 (drop m (block C f)) (drop m (block C′ f)) (size-rest C f m ∙ ap (λ (k : ℕ). min BLOCK (k - BLOCK * f) - m) (h .size) ∙ sym (size-rest C′ f m))
       (λ i lt. at i (omega (arith, size-rest C f m)))
     where
-      at : (i : ℕ) → m + i < 512 → getD (drop m (block C f)) i 0 ≡ getD (drop m (block C′ f)) i 0
-      at i lt = getD-rest C f m i lt ∙ h .outside (512 * f + (m + i)) (λ lo hi. omega arith) ∙ sym (getD-rest C′ f m i lt)
+      at : (i : ℕ) → m + i < BLOCK → getD (drop m (block C f)) i 0 ≡ getD (drop m (block C′ f)) i 0
+      at i lt = getD-rest C f m i lt ∙ h .outside (BLOCK * f + (m + i)) (λ lo hi. omega arith) ∙ sym (getD-rest C′ f m i lt)
 
 -- and back: lists whose blocks are equal but for the first n bytes of block f
 pub agree-of-blocks : (f n : ℕ) (C C′ : List ℕ) → length C ≡ length C′ → ((d : ℕ) → d ≢ f → block C d ≡ block C′ d) → drop n (block C f) ≡ drop n (block C′ f)
-    → Agree (512 * f) (512 * f + n) C C′
+    → Agree (BLOCK * f) (BLOCK * f + n) C C′
 agree-of-blocks f n C C′ size others rest = record { size = size; outside = λ i out. place i out }
   where
-    other : (d j : ℕ) → j < 512 → d ≢ f → getD C (512 * d + j) 0 ≡ getD C′ (512 * d + j) 0
+    other : (d j : ℕ) → j < BLOCK → d ≢ f → getD C (BLOCK * d + j) 0 ≡ getD C′ (BLOCK * d + j) 0
     other d j lt ne = sym (getD-block C d j lt) ∙ ap (λ (l : List ℕ). getD l j 0) (others d ne) ∙ getD-block C′ d j lt
 
-    own : (j : ℕ) → j < 512 → n ≤ j → getD C (512 * f + j) 0 ≡ getD C′ (512 * f + j) 0
+    own : (j : ℕ) → j < BLOCK → n ≤ j → getD C (BLOCK * f + j) 0 ≡ getD C′ (BLOCK * f + j) 0
     own j lt le =
         let e : n + (j - n) ≡ j = omega arith in
-        let lt′ : n + (j - n) < 512 = omega arith in
-        subst (λ (k : ℕ). getD C (512 * f + k) 0 ≡ getD C′ (512 * f + k) 0) e
+        let lt′ : n + (j - n) < BLOCK = omega arith in
+        subst (λ (k : ℕ). getD C (BLOCK * f + k) 0 ≡ getD C′ (BLOCK * f + k) 0) e
         (sym (getD-rest C f n (j - n) lt′) ∙ ap (λ (l : List ℕ). getD l (j - n) 0) rest ∙ getD-rest C′ f n (j - n) lt′)
 
-    cases : (d j : ℕ) → j < 512 → (512 * f ≤ 512 * d + j → 512 * d + j < 512 * f + n → ⊥) → Dec (d ≡ f) → Dec (n ≤ j) → getD C (512 * d + j) 0 ≡ getD C′ (512 * d + j) 0
+    cases : (d j : ℕ) → j < BLOCK → (BLOCK * f ≤ BLOCK * d + j → BLOCK * d + j < BLOCK * f + n → ⊥) → Dec (d ≡ f) → Dec (n ≤ j) → getD C (BLOCK * d + j) 0 ≡ getD C′ (BLOCK * d + j) 0
     cases d j lt out (no ne) q = other d j lt ne
     cases d j lt out (yes e) (yes le) = rw e (own j lt le)
     cases d j lt out (yes e) (no gt) = absurd (out (omega arith) (omega arith))
 
-    place : (i : ℕ) → (512 * f ≤ i → i < 512 * f + n → ⊥) → getD C i 0 ≡ getD C′ i 0
+    place : (i : ℕ) → (BLOCK * f ≤ i → i < BLOCK * f + n → ⊥) → getD C i 0 ≡ getD C′ i 0
     place i out =
-        let e : 512 * (i / 512) + i % 512 ≡ i = omega (arith, div-add-mod' i 512) in
+        let e : BLOCK * (i / BLOCK) + i % BLOCK ≡ i = omega (arith, div-add-mod' i BLOCK) in
         subst (λ (k : ℕ). getD C k 0 ≡ getD C′ k 0) e
-        (cases (i / 512) (i % 512) (mod-lt i (omega arith)) (λ lo hi. out (omega arith) (omega arith)) (ℕ-discrete (i / 512) f) (decLe n (i % 512)))
+        (cases (i / BLOCK) (i % BLOCK) (mod-lt i (omega arith)) (λ lo hi. out (omega arith) (omega arith)) (ℕ-discrete (i / BLOCK) f) (decLe n (i % BLOCK)))

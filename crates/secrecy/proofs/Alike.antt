@@ -4,7 +4,7 @@ use mathlib.Core.Bool.{Bool, true, false, cond}
 use mathlib.Core.List.{List, [], _∷_}
 use Prim.Native.Nat.{ℕ, _<_}
 use Rattle.rules.specs.Choice.{every}
-use Rattle.rules.specs.Layout.{FILE, LABEL}
+use Rattle.rules.specs.Layout.{LABELS, FILE, LABEL}
 use Rattle.rules.specs.Rights.{moved}
 use Rattle.rules.specs.Store.{Store, View, view, tab}
 use Rattle.rules.specs.Calls.{Call}
@@ -24,7 +24,7 @@ use Rattle.secrecy.proofs.Kept.{effect-keep, buffer-same, name-same}
 -- the soundness test sees no difference either
 sizes-same : (f n : ℕ) (s s′ : Store) → Apart f n s s′ → sizesSound s ≡ sizesSound s′
 unfolding sizesSound
-sizes-same f n s s′ a = rw (a .files, a .contents .size, a .opens, a .processes)
+sizes-same f n s s′ a = rw (a .files, a .contents .size, a .openFiles, a .processes)
 
 pub sound-same : (Q : List ℕ) (f n L : ℕ) (s s′ : Store) → Apart f n s s′ → Own f n L (s .files) → sound Q s ≡ sound Q s′
 unfolding sound storeSound
@@ -35,8 +35,8 @@ pub record Alike (reach : ℕ → Type 0) (f n L : ℕ) (x x′ : Outcome) : Typ
   pub stores : Related reach f n L (x .store) (x′ .store)
 
 module _ (Q : List ℕ) (reach : ℕ → Type 0) (f n L : ℕ) (no-right : (l : ℕ) → reach l → mayRead Q l L ≡ false)
-    (closed-under : (l m : ℕ) → m < 16 → reach l → reach (moved Q l m)) where
-  outcome-alike : (s s′ : Store) → Apart f n s s′ → Secret reach f n L s → ((t : ℕ) → tab FILE (s .files) t LABEL < 16) → (c : Call) (d : Decision) → Fit Q (view s) (c .process) d
+    (closed-under : (l m : ℕ) → m < LABELS → reach l → reach (moved Q l m)) where
+  outcome-alike : (s s′ : Store) → Apart f n s s′ → Secret reach f n L s → ((t : ℕ) → tab FILE (s .files) t LABEL < LABELS) → (c : Call) (d : Decision) → Fit Q (view s) (c .process) d
       → Alike reach f n L (outcomeOf s c d) (outcomeOf s′ c d)
   unfolding outcomeOf replyTo storeAfter
   outcome-alike s s′ a z small c _ (refused r k) = record { replies = refl; stores = apart a z }

@@ -9,8 +9,7 @@ use native.Mathlib.Decide.{decLt}
 use borrow.Author.Tests.{eqb-true, leb-true, ltb-true}
 use lib.Dec.{ltb}
 use lib.ListN.{length, getD, List·getD-eq-default}
-use Rattle.rules.specs.Choice.{every}
-use Rattle.rules.specs.Layout.{SLOTS, FILE, OPENS, OPEN, PROCESSES, PROCESS, KIND, LABEL, LENGTH, PLAIN, DESCRIPTORS}
+use Rattle.rules.specs.Layout.{SLOTS, BLOCK, FILE, OPEN-FILES, OPEN, PROCESSES, PROCESS, OWN, LABELS, LABEL-MAX, KIND, LABEL, LENGTH, PLAIN, DESCRIPTORS}
 use Rattle.rules.specs.Store.{Store, view, tab, descOf}
 use Rattle.rules.specs.Sound.{sound, storeSound, sizesSound, tablesSound, slotSound, recordSound, kindSound, plainSound}
 use Rattle.rules.proofs.Scans.{all-at}
@@ -18,12 +17,12 @@ use Rattle.secrecy.proofs.Tests.{test, both}
 use Rattle.secrecy.proofs.Fit.{Based}
 
 -- no descriptor over 7 holds anything
-desc-eight : (P : List ℕ) (p i : ℕ) → descOf P p i ≢ 0 → i < 8
+desc-eight : (P : List ℕ) (p i : ℕ) → descOf P p i ≢ 0 → i < DESCRIPTORS
 unfolding descOf
 desc-eight P p i ne = go (ltb i DESCRIPTORS) refl ne
   where
-    go : (t : Bool) → ltb i 8 ≡ t → cond t (getD P (11 * p + (3 + i)) 0) 0 ≢ 0 → i < 8
-    go true e h = ltb-true i 8 e
+    go : (t : Bool) → ltb i DESCRIPTORS ≡ t → cond t (getD P (PROCESS * p + (OWN + i)) 0) 0 ≢ 0 → i < DESCRIPTORS
+    go true e h = ltb-true i DESCRIPTORS e
     go false e h = absurd (h refl)
 
 module _ (Q : List ℕ) (s : Store) (h : sound Q s ≡ true) where
@@ -35,9 +34,9 @@ module _ (Q : List ℕ) (s : Store) (h : sound Q s ≡ true) where
   unfolding sizesSound
   files-size = eqb-true _ _ (test 0 _ (parts .0))
 
-  pub opens-size : length (s .opens) ≡ OPENS * OPEN
+  pub open-files-size : length (s .openFiles) ≡ OPEN-FILES * OPEN
   unfolding sizesSound
-  opens-size = eqb-true _ _ (test 2 _ (parts .0))
+  open-files-size = eqb-true _ _ (test 2 _ (parts .0))
 
   pub processes-size : length (s .processes) ≡ PROCESSES * PROCESS
   unfolding sizesSound
@@ -56,13 +55,13 @@ module _ (Q : List ℕ) (s : Store) (h : sound Q s ≡ true) where
   record-sound t lt = test 0 _ (slot-sound t lt)
 
   -- every program label is one of the sixteen
-  pub small-label : (t : ℕ) → tab FILE (s .files) t LABEL < 16
+  pub small-label : (t : ℕ) → tab FILE (s .files) t LABEL < LABELS
   unfolding recordSound
   small-label t = go (decLt t SLOTS)
     where
-      go : Dec (t < SLOTS) → tab FILE (s .files) t LABEL < 16
+      go : Dec (t < SLOTS) → tab FILE (s .files) t LABEL < LABELS
       go (yes lt) =
-          let l : tab FILE (s .files) t LABEL ≤ 15 = leb-true _ _ (test 3 _ (record-sound t lt)) in
+          let l : tab FILE (s .files) t LABEL ≤ LABEL-MAX = leb-true _ _ (test 3 _ (record-sound t lt)) in
           omega arith
       go (no ge) =
           let z : tab FILE (s .files) t LABEL ≡ 0 = List·getD-eq-default (s .files) 0 (omega (arith, files-size)) in
@@ -84,6 +83,6 @@ module _ (Q : List ℕ) (s : Store) (h : sound Q s ≡ true) where
     plain-sound = rw plain at (test 2 _ (slot-sound f plain-slot))
 
     -- and has at most 512 bytes
-    pub plain-length : tab FILE (s .files) f LENGTH ≤ 512
+    pub plain-length : tab FILE (s .files) f LENGTH ≤ BLOCK
     unfolding plainSound
     plain-length = leb-true _ _ (test 0 _ plain-sound)

@@ -9,9 +9,9 @@ use borrow.Author.Tests.{ltb-true, eqb-true, eqb-false, not-true}
 use lib.Dec.{eqb, ltb}
 use lib.ListN.{length}
 use Rattle.rules.specs.Choice.{every}
-use Rattle.rules.specs.Layout.{SLOTS, DIRENTS, LABEL, LENGTH, PLAIN, DIRECTORY, SLOT, MODE, USED}
-use Rattle.rules.specs.Store.{Tree, View, slot, subjectOf}
-use Rattle.rules.specs.Rights.{reads, labelGrants, moved, modeOf, modeRights}
+use Rattle.rules.specs.Layout.{SLOTS, PROCESSES, DESCRIPTORS, LABEL, LENGTH, PLAIN, DIRECTORY, SLOT, MODE, USED}
+use Rattle.rules.specs.Store.{Tree, View, slot, isDirent, modeAt, subjectOf}
+use Rattle.rules.specs.Rights.{reads, labelGrants, moved, bitsOf, modeOf, modeRights}
 use Rattle.rules.specs.Paths.{Name, names, parentNames}
 use Rattle.rules.specs.Walk.{isDirectory, needAt, onReached, lookup, walk, walkPath, walkParent, enterParent, ROOT}
 use Rattle.rules.specs.Checks.{need, after, inUse, held, slotFree}
@@ -21,7 +21,11 @@ use Rattle.rules.specs.Decide.{decideClose, readOpen, decideRead, writeAt, writ
 use Rattle.rules.specs.declared.ids.Slot.{Slot}
 use Rattle.rules.specs.declared.ids.Pid.{Pid}
 use Rattle.rules.specs.declared.ids.Fd.{Fd}
+use Rattle.rules.specs.declared.ids.Ofd.{Ofd}
+use Rattle.rules.specs.declared.ids.Dirent.{Dirent}
 use Rattle.rules.specs.declared.rights.Bits.{Bits}
+use Rattle.rules.specs.declared.rights.BitsNumber.{BitsNumber}
+use Rattle.rules.specs.declared.rights.BitsNumber.the-variants as bitsNumber
 use Rattle.rules.specs.declared.rights.OpenMode.{OpenMode}
 use Rattle.rules.specs.declared.rights.ModeNumber.{ModeNumber}
 use Rattle.rules.specs.declared.rights.ModeNumber.the-variants.{Keep, Truncate, OutOfRange}
@@ -51,43 +55,43 @@ use Rattle.secrecy.proofs.Tests.{test, first-passes}
 -- what the decisions rest on: the root is a directory, and a descriptor over 7 holds nothing
 pub record Based (v : View) : Type 0 where
   pub root : isDirectory (v .tree .file) (slot 0) ≡ true
-  pub eight : (p i : ℕ) → v .desc p i ≢ 0 → i < 8
+  pub eight : (p i : ℕ) → v .desc p i ≢ 0 → i < DESCRIPTORS
 
 -- a process that may call
 pub record Caller (v : View) (p : Pid) : Type 0 where
-  pub small : p .0 < 8
+  pub small : p .0 < PROCESSES
   pub used : v .proc (p .0) USED ≡ 1
 
 -- bytes are given out of slots that an open file reads
 pub record Fetched (v : View) (s : ℕ) : Type 0 where
-  pub entry : ℕ
-  pub mode : reads (v .opened entry MODE) ≡ true
-  pub names : v .opened entry SLOT ≡ s
+  pub ofd : Ofd
+  pub mode : reads (modeAt (v .openFiles (ofd .0) MODE)) ≡ true
+  pub names : v .openFiles (ofd .0) SLOT ≡ s
 
 pub data OutputFit (v : View) : Output → Type 0 where
   silent : OutputFit v output.Nothing
-  listed : (d : Slot) (i : ℕ) → OutputFit v (output.Name d i)
+  listed : (d : Slot) (i : Dirent) → OutputFit v (output.Name d i)
   described : (r : Record) → OutputFit v (output.Fields r)
   fetched : (s : Slot) (from n : ℕ) → Fetched v (s .0) → OutputFit v (output.Bytes s from n)
 
 -- a file is opened with a descriptor of the eight, in a mode whose rights the labels grant
 pub record OpenFit (Q : List ℕ) (v : View) (p : Pid) (n : NewOpen) : Type 0 where
-  pub eight : n .fd .0 < 8
+  pub eight : n .fd .0 < DESCRIPTORS
   pub rights : labelGrants Q (subjectOf (v .proc) p) (v .tree .file (n .slot .0) LABEL) (modeRights (n .mode)) ≡ true
 
 pub data EffectFit (Q : List ℕ) (v : View) (p : Pid) : Effect → Type 0 where
   nothing : EffectFit Q v p effect.Nothing
   opened : (n : NewOpen) → OpenFit Q v p n → EffectFit Q v p (effect.Opened n)
-  cut : (n : NewOpen) (r : Record) → OpenFit Q v p n → EffectFit Q v p (effect.Truncated n r)
+  truncates : (n : NewOpen) (r : Record) → OpenFit Q v p n → EffectFit Q v p (effect.Truncated n r)
   created : (d : DirChange) (s : Slot) (r : Record) → isDirectory (v .tree .file) (d .dir) ≡ true → slotFree (v .tree .file) (s .0) ≡ true → EffectFit Q v p (effect.Created d s r)
   unlinked : (d : DirChange) (u : Unnamed) → isDirectory (v .tree .file) (d .dir) ≡ true → EffectFit Q v p (effect.Unlinked d u)
   removed : (d : DirChange) (s : Slot) (r : Record) → isDirectory (v .tree .file) (d .dir) ≡ true → EffectFit Q v p (effect.Removed d s r)
   linked : (d : DirChange) (s : Slot) (links : ℕ) → isDirectory (v .tree .file) (d .dir) ≡ true → EffectFit Q v p (effect.Linked d s links)
   rebitted : (s : Slot) (x : Bits) → EffectFit Q v p (effect.BitsChanged s x)
-  closed : (i : Fd) (r : Release) → i .0 < 8 → EffectFit Q v p (effect.Closed i r)
+  closed : (i : Fd) (r : Release) → i .0 < DESCRIPTORS → EffectFit Q v p (effect.Closed i r)
   stored : (w : Placement) → v .tree .file (w .slot .0) LENGTH ≤ w .length → EffectFit Q v p (effect.Stored w)
-  shifted : (e offset : ℕ) → EffectFit Q v p (effect.Moved e offset)
-  duplicated : (i : Fd) (e refs : ℕ) → i .0 < 8 → EffectFit Q v p (effect.Duplicated i e refs)
+  shifted : (e : Ofd) (offset : ℕ) → EffectFit Q v p (effect.Moved e offset)
+  duplicated : (i : Fd) (e : Ofd) (refs : ℕ) → i .0 < DESCRIPTORS → EffectFit Q v p (effect.Duplicated i e refs)
   forked : (q : Pid) (user label : ℕ) → subjectOf (v .proc) p .label ≡ label → EffectFit Q v p (effect.Forked q user label)
   exited : EffectFit Q v p effect.Exited
   relabelled : (t label : ℕ) → moved Q (subjectOf (v .proc) p .label) (v .tree .file t LABEL) ≡ label → EffectFit Q v p (effect.Relabelled label)
@@ -163,44 +167,45 @@ module _ (Q : List ℕ) (v : View) (b : Based v) (p : Pid) (u : Caller v p) wher
   granted-fit : (n : ℕ) (e : Effect) → EffectFit Q v p e → Fit Q v p (Granted n output.Nothing e)
   granted-fit n e h = granted n output.Nothing e u silent h
 
-  opening-fit : (s : Slot) (m : OpenMode) (c : Bool) (i e : ℕ) → OpenFit Q v p (newOpen s m i e) → EffectFit Q v p (opening (v .tree .file) s m c i e)
+  opening-fit : (s : Slot) (m : OpenMode) (c : Bool) (i : Fd) (e : Ofd) → OpenFit Q v p (newOpen s m i e) → EffectFit Q v p (opening (v .tree .file) s m c i e)
   unfolding opening
   opening-fit s m c i e h = go (every (c ∷ ltb 0 (v .tree .file (s .0) LENGTH) ∷ []))
     where
       go : (t : Bool) → EffectFit Q v p (cond t (effect.Truncated (newOpen s m i e) (truncated (v .tree .file) s)) (effect.Opened (newOpen s m i e)))
-      go true = cut _ _ h
+      go true = truncates _ _ h
       go false = opened _ h
 
-  openFile-fit : (m : OpenMode) (c : Bool) (s : Slot) → Fit Q v p (openFile Q (v .tree .file) (v .opened) (v .desc) p (subjectOf (v .proc) p) m c s)
+  openFile-fit : (m : OpenMode) (c : Bool) (s : Slot) → Fit Q v p (openFile Q (v .tree .file) (v .openFiles) (v .desc) p (subjectOf (v .proc) p) m c s)
   unfolding openFile openRoom
   openFile-fit m c s =
       need-fit _ _ _ (λ _. need-fit _ _ _ (λ _. need-fit _ _ _ (λ l. need-fit _ _ _ (λ d. need-fit _ _ _ (λ _.
       granted-fit _ _ (opening-fit s m c _ _ (record { eight = ltb-true _ _ d; rights = l })))))))
 
-  openMode-fit : (m : ModeNumber) (s : Slot) → Fit Q v p (openMode Q (v .tree .file) (v .opened) (v .desc) p (subjectOf (v .proc) p) m s)
+  openMode-fit : (m : ModeNumber) (s : Slot) → Fit Q v p (openMode Q (v .tree .file) (v .openFiles) (v .desc) p (subjectOf (v .proc) p) m s)
   unfolding openMode
   openMode-fit (Keep m) s = openFile-fit m false s
   openMode-fit (Truncate m) s = openFile-fit m true s
   openMode-fit OutOfRange s = refused _ _
 
-  open-fit : (n : ℕ) (path : List ℕ) → Fit Q v p (decideOpen Q (v .tree) (v .opened) (v .desc) p (subjectOf (v .proc) p) n path)
+  open-fit : (n : ℕ) (path : List ℕ) → Fit Q v p (decideOpen Q (v .tree) (v .openFiles) (v .desc) p (subjectOf (v .proc) p) n path)
   unfolding decideOpen
   open-fit n path = after-any _ _ (λ at. openMode-fit (modeOf n) (at .slot))
 
-  createIn-fit : (kind bits : ℕ) (name : Name) (d : Slot) → isDirectory (v .tree .file) d ≡ true → Fit Q v p (createIn Q (v .tree) (subjectOf (v .proc) p) kind bits name d)
+  createIn-fit : (kind : ℕ) (bits : Bits) (name : Name) (d : Slot) → isDirectory (v .tree .file) d ≡ true → Fit Q v p (createIn Q (v .tree) (subjectOf (v .proc) p) kind bits name d)
   unfolding createIn createRoom
   createIn-fit kind bits name d h =
       need-fit _ _ _ (λ _. need-fit _ _ _ (λ _. need-fit _ _ _ (λ _. need-fit _ _ _ (λ l. need-fit _ _ _ (λ _.
       granted-fit _ _ (created _ _ _ h (first-passes (slotFree (v .tree .file)) SLOTS l)))))))
 
-  create-fit : (kind bits : ℕ) (path : List ℕ) → Fit Q v p (decideCreate Q (v .tree) (subjectOf (v .proc) p) kind bits path)
+  create-fit : (kind : ℕ) (n : BitsNumber) (path : List ℕ) → Fit Q v p (decideCreate Q (v .tree) (subjectOf (v .proc) p) kind n path)
   unfolding decideCreate
-  create-fit kind bits path = after-fit (AtDirectory (v .tree)) _ _ (parent-fit Q (v .tree) (subjectOf (v .proc) p) path) (λ at h. createIn-fit kind bits _ (at .slot) h)
+  create-fit kind bitsNumber.OutOfRange path = refused _ _
+  create-fit kind (bitsNumber.Valid bits) path = after-fit (AtDirectory (v .tree)) _ _ (parent-fit Q (v .tree) (subjectOf (v .proc) p) path) (λ at h. createIn-fit kind bits _ (at .slot) h)
 
   path-fit : (path : List ℕ) → WalkFit (InDirectory (v .tree)) (walkPath (v .tree) Q (subjectOf (v .proc) p) path)
   path-fit path = walk-fit Q (v .tree) (subjectOf (v .proc) p) ROOT 1 (names path) (b .root)
 
-  unlink-fit : (path : List ℕ) → Fit Q v p (decideUnlink Q (v .tree) (v .opened) (subjectOf (v .proc) p) path)
+  unlink-fit : (path : List ℕ) → Fit Q v p (decideUnlink Q (v .tree) (v .openFiles) (subjectOf (v .proc) p) path)
   unfolding decideUnlink unlinkAt
   unlink-fit path = after-fit (InDirectory (v .tree)) _ _ (path-fit path) (λ at h. need-fit _ _ _ (λ _. need-fit _ _ _ (λ _. need-fit _ _ _ (λ _. granted-fit _ _ (unlinked _ _ h)))))
 
@@ -218,9 +223,9 @@ module _ (Q : List ℕ) (v : View) (b : Based v) (p : Pid) (u : Caller v p) wher
   link-fit old new = after-any _ _ (λ from. need-fit _ _ _ (λ _.
       after-fit (AtDirectory (v .tree)) _ _ (parent-fit Q (v .tree) (subjectOf (v .proc) p) new) (λ at h. linkIn-fit (from .slot) _ (at .slot) h)))
 
-  listEntry-fit : (d : Slot) (i : ℕ) → Fit Q v p (listEntry d i)
+  listEntry-fit : (d : Slot) (i : Dirent) → Fit Q v p (listEntry d i)
   unfolding listEntry
-  listEntry-fit d i = go (ltb i DIRENTS)
+  listEntry-fit d i = go (isDirent i)
     where
       go : (t : Bool) → Fit Q v p (cond t (Granted 1 (output.Name d i) effect.Nothing) (Granted 0 output.Nothing effect.Nothing))
       go true = granted _ _ _ u (listed d i) nothing
@@ -230,9 +235,10 @@ module _ (Q : List ℕ) (v : View) (b : Based v) (p : Pid) (u : Caller v p) wher
   unfolding decideList listAt
   list-fit k path = after-any _ _ (λ at. need-fit _ _ _ (λ _. need-fit _ _ _ (λ _. need-fit _ _ _ (λ _. listEntry-fit (at .slot) _))))
 
-  changeBits-fit : (n : ℕ) (path : List ℕ) → Fit Q v p (decideChangeBits Q (v .tree) (subjectOf (v .proc) p) n path)
+  changeBits-fit : (n : BitsNumber) (path : List ℕ) → Fit Q v p (decideChangeBits Q (v .tree) (subjectOf (v .proc) p) n path)
   unfolding decideChangeBits changeBitsAt
-  changeBits-fit n path = after-any _ _ (λ at. need-fit _ _ _ (λ _. need-fit _ _ _ (λ _. granted-fit _ _ (rebitted _ _))))
+  changeBits-fit bitsNumber.OutOfRange path = refused _ _
+  changeBits-fit (bitsNumber.Valid b) path = after-any _ _ (λ at. need-fit _ _ _ (λ _. need-fit _ _ _ (λ _. granted-fit _ _ (rebitted _ _))))
 
   stat-fit : (path : List ℕ) → Fit Q v p (decideStat Q (v .tree) (subjectOf (v .proc) p) path)
   unfolding decideStat
@@ -242,31 +248,31 @@ module _ (Q : List ℕ) (v : View) (b : Based v) (p : Pid) (u : Caller v p) wher
   unfolding decideExecute executeAt
   execute-fit path = after-any _ _ (λ at. need-fit _ _ _ (λ _. need-fit _ _ _ (λ _. need-fit _ _ _ (λ _. granted-fit _ _ (relabelled (at .slot .0) _ refl)))))
 
-  held-small : (i : Fd) → held (v .desc) p i ≡ true → i .0 < 8
+  held-small : (i : Fd) → held (v .desc) p i ≡ true → i .0 < DESCRIPTORS
   unfolding held
   held-small i h = b .eight (p .0) (i .0) (eqb-false _ _ (not-true _ h))
 
-  close-fit : (i : Fd) → Fit Q v p (decideClose (v .tree .file) (v .opened) (v .desc) p i)
+  close-fit : (i : Fd) → Fit Q v p (decideClose (v .tree .file) (v .openFiles) (v .desc) p i)
   unfolding decideClose
   close-fit i = need-fit _ _ _ (λ h. granted-fit _ _ (closed _ _ (held-small i h)))
 
-  read-fit : (i : Fd) (size : ℕ) → Fit Q v p (decideRead (v .tree .file) (v .opened) (v .desc) p i size)
+  read-fit : (i : Fd) (size : ℕ) → Fit Q v p (decideRead (v .tree .file) (v .openFiles) (v .desc) p i size)
   unfolding decideRead readOpen
-  read-fit i size = need-fit _ _ _ (λ _. need-fit _ _ _ (λ m. granted _ _ _ u (fetched _ _ _ (record { entry = _; mode = m; names = refl })) (shifted _ _)))
+  read-fit i size = need-fit _ _ _ (λ _. need-fit _ _ _ (λ m. granted _ _ _ u (fetched _ _ _ (record { ofd = _; mode = m; names = refl })) (shifted _ _)))
 
-  writeFile-fit : (e at n : ℕ) → Fit Q v p (writeFile (v .tree .file) (v .opened) e at n)
+  writeFile-fit : (e : Ofd) (at n : ℕ) → Fit Q v p (writeFile (v .tree .file) (v .openFiles) e at n)
   unfolding writeFile
   writeFile-fit e at n = need-fit _ _ _ (λ _. granted-fit _ _ (stored _ (omega arith)))
 
-  writeSome-fit : (e n : ℕ) → Fit Q v p (writeSome (v .tree .file) (v .opened) e n)
+  writeSome-fit : (e : Ofd) (n : ℕ) → Fit Q v p (writeSome (v .tree .file) (v .openFiles) e n)
   unfolding writeSome
   writeSome-fit e n = go (eqb n 0)
     where
-      go : (t : Bool) → Fit Q v p (cond t (Granted 0 output.Nothing effect.Nothing) (writeFile (v .tree .file) (v .opened) e (writeAt (v .tree .file) (v .opened) e) n))
+      go : (t : Bool) → Fit Q v p (cond t (Granted 0 output.Nothing effect.Nothing) (writeFile (v .tree .file) (v .openFiles) e (writeAt (v .tree .file) (v .openFiles) e) n))
       go true = granted-fit _ _ nothing
-      go false = writeFile-fit e (writeAt (v .tree .file) (v .opened) e) n
+      go false = writeFile-fit e (writeAt (v .tree .file) (v .openFiles) e) n
 
-  write-fit : (i : Fd) (n : ℕ) → Fit Q v p (decideWrite (v .tree .file) (v .opened) (v .desc) p i n)
+  write-fit : (i : Fd) (n : ℕ) → Fit Q v p (decideWrite (v .tree .file) (v .openFiles) (v .desc) p i n)
   unfolding decideWrite writeOpen
   write-fit i n = need-fit _ _ _ (λ _. need-fit _ _ _ (λ _. writeSome-fit _ n))
 
@@ -274,11 +280,11 @@ module _ (Q : List ℕ) (v : View) (b : Based v) (p : Pid) (u : Caller v p) wher
   unfolding decideSeek
   seek-fit i n = need-fit _ _ _ (λ _. granted-fit _ _ (shifted _ _))
 
-  duplicate-fit : (i : Fd) → Fit Q v p (decideDuplicate (v .opened) (v .desc) p i)
+  duplicate-fit : (i : Fd) → Fit Q v p (decideDuplicate (v .openFiles) (v .desc) p i)
   unfolding decideDuplicate duplicateTo
   duplicate-fit i = need-fit _ _ _ (λ _. need-fit _ _ _ (λ d. granted-fit _ _ (duplicated _ _ _ (ltb-true _ _ d))))
 
-  fork-fit : (q : ℕ) → Fit Q v p (forkTo (subjectOf (v .proc) p) q)
+  fork-fit : (q : Pid) → Fit Q v p (forkTo (subjectOf (v .proc) p) q)
   unfolding forkTo
   fork-fit q = need-fit _ _ _ (λ _. granted-fit _ _ (forked _ _ _ refl))
 
@@ -287,17 +293,17 @@ module _ (Q : List ℕ) (v : View) (b : Based v) (p : Pid) (u : Caller v p) wher
 own-fit : (Q : List ℕ) (v : View) → Based v → (c : Call) → Caller v (c .process) → (o : Operation) → Fit Q v (c .process) (decideOwn Q v c o)
 unfolding decideOwn
 own-fit Q v b c u op.Open = open-fit Q v b (c .process) u (c .number) (c .path)
-own-fit Q v b c u op.Create = create-fit Q v b (c .process) u PLAIN (c .number) (c .path)
-own-fit Q v b c u op.MakeDirectory = create-fit Q v b (c .process) u DIRECTORY (c .number) (c .path)
+own-fit Q v b c u op.Create = create-fit Q v b (c .process) u PLAIN (bitsOf (c .number)) (c .path)
+own-fit Q v b c u op.MakeDirectory = create-fit Q v b (c .process) u DIRECTORY (bitsOf (c .number)) (c .path)
 own-fit Q v b c u op.Unlink = unlink-fit Q v b (c .process) u (c .path)
 own-fit Q v b c u op.RemoveDirectory = remove-fit Q v b (c .process) u (c .path)
-own-fit Q v b c u op.Link = link-fit Q v b (c .process) u (c .path) (c .bytes)
+own-fit Q v b c u op.Link = link-fit Q v b (c .process) u (c .path) (c .«data»)
 own-fit Q v b c u op.List = list-fit Q v b (c .process) u (c .number) (c .path)
-own-fit Q v b c u op.ChangeBits = changeBits-fit Q v b (c .process) u (c .number) (c .path)
+own-fit Q v b c u op.ChangeBits = changeBits-fit Q v b (c .process) u (bitsOf (c .number)) (c .path)
 own-fit Q v b c u op.Stat = stat-fit Q v b (c .process) u (c .path)
 own-fit Q v b c u op.Close = close-fit Q v b (c .process) u (c .fd)
 own-fit Q v b c u op.Read = read-fit Q v b (c .process) u (c .fd) (length (c .buffer))
-own-fit Q v b c u op.Write = write-fit Q v b (c .process) u (c .fd) (length (c .bytes))
+own-fit Q v b c u op.Write = write-fit Q v b (c .process) u (c .fd) (length (c .«data»))
 own-fit Q v b c u op.Seek = seek-fit Q v b (c .process) u (c .fd) (c .number)
 own-fit Q v b c u op.Duplicate = duplicate-fit Q v b (c .process) u (c .fd)
 own-fit Q v b c u op.Fork = fork-fit Q v b (c .process) u _

@@ -10,18 +10,20 @@ use lib.Dec.{eqb}
 use lib.ListN.{length, take, drop}
 use lib.Seq.{sets}
 use Rattle.rules.specs.Choice.{every, some, implies}
-use Rattle.rules.specs.Layout.{FILE, KIND, LABEL, LENGTH}
-use Rattle.rules.specs.Rights.{READ, READ-WRITE, WRITE, reads, stands, covers, labelGrants, modeRights, moved}
-use Rattle.rules.specs.Store.{Store, View, view, tab, slot, clearTo}
+use Rattle.rules.specs.Layout.{DESCRIPTORS, LABELS, FILE, KIND, BITS, LABEL, LENGTH, LINKS, VERSION, FREE, PLAIN, DIRECTORY, PROCESS-LABEL}
+use Rattle.rules.specs.Rights.{READ, READ-WRITE, WRITE, MODE-READ, MODE-BOTH, reads, stands, covers, labelGrants, modeRights, moved}
+use Rattle.rules.specs.Store.{Store, View, view, tab, slot, clearTo, fdOf}
 use Rattle.rules.specs.Paths.{Name}
 use Rattle.rules.specs.Walk.{isDirectory}
 use Rattle.rules.specs.Calls.{Call}
 use Rattle.rules.specs.Checks.{slotFree, releasing, shareOf}
-use Rattle.rules.specs.Effects.{nameChanges, unnameChanges, createChanges, linkChanges, unnamedChanges, unlinkChanges, removeChanges, openChanges, truncateChanges, releaseChanges, closeChanges, storeChanges, duplicateChanges, shareChanges, fdOf, shared, sharedAll, released, releasedAll, forkChanges, carryOut, dirWords, words}
+use Rattle.rules.specs.Effects.{nameChanges, unnameChanges, createChanges, linkChanges, unnamedChanges, unlinkChanges, removeChanges, openChanges, truncateChanges, releaseChanges, closeChanges, storeChanges, duplicateChanges, shareChanges, shared, sharedAll, released, releasedAll, forkChanges, carryOut, dirWords, words}
 use Rattle.rules.specs.Step.{nameOut, bufferOut}
 use Rattle.rules.specs.declared.ids.Slot.{Slot}
 use Rattle.rules.specs.declared.ids.Pid.{Pid}
 use Rattle.rules.specs.declared.ids.Fd.{Fd}
+use Rattle.rules.specs.declared.ids.Ofd.{Ofd}
+use Rattle.rules.specs.declared.rights.Rights.{Rights}
 use Rattle.rules.specs.declared.rights.OpenMode.{OpenMode}
 use Rattle.rules.specs.declared.decision.DirChange.{DirChange}
 use Rattle.rules.specs.declared.decision.NewOpen.{NewOpen}
@@ -38,62 +40,62 @@ use Rattle.rules.specs.declared.decision.Effect.{Effect}
 use Rattle.secrecy.specs.Claim.{mayRead}
 use Rattle.secrecy.proofs.Tables.{OwnWord}
 use Rattle.secrecy.proofs.Agree.{agree-block}
-use Rattle.secrecy.proofs.Related.{Apart, Secret, Related, apart, same, view-same, Keeps, KeepsAll, all-keep, append-keep, repeat-keep, alike-keep}
-use Rattle.secrecy.proofs.Fit.{OutputFit, silent, listed, described, fetched, OpenFit, EffectFit, nothing, opened, cut, created, unlinked, removed, linked, rebitted, closed, stored, shifted, duplicated, forked, exited, relabelled, granted}
+use Rattle.secrecy.proofs.Related.{Apart, Secret, Related, apart, view-same, Keeps, KeepsAll, all-keep, append-keep, repeat-keep, alike-keep}
+use Rattle.secrecy.proofs.Fit.{OutputFit, silent, listed, described, fetched, OpenFit, EffectFit, nothing, opened, truncates, created, unlinked, removed, linked, rebitted, closed, stored, shifted, duplicated, forked, exited, relabelled}
 
 -- ---- an open that reads has asked for the right to read
 
-covers-read : (r : ℕ) → covers r (READ-WRITE .0) ≡ true → covers r (READ .0) ≡ true
+covers-read : (r : Rights) → covers r READ-WRITE ≡ true → covers r READ ≡ true
 unfolding covers stands implies every
-covers-read r h = go (eqb (r / 4 % 2) 1) (eqb (r / 2 % 2) 1) h
+covers-read r h = go (eqb (r .0 / 4 % 2) 1) (eqb (r .0 / 2 % 2) 1) h
   where
     go : (b c : Bool) → cond b (cond c true false) false ≡ true → cond b true false ≡ true
     go true c e = refl
     go false c e = e
 
-mode-asked : (m : OpenMode) (r : ℕ) → reads (m .0) ≡ true → covers r (modeRights m .0) ≡ true → covers r (READ .0) ≡ true
+mode-asked : (m : OpenMode) (r : Rights) → reads m ≡ true → covers r (modeRights m) ≡ true → covers r READ ≡ true
 unfolding reads some modeRights
-mode-asked m r rd h = one (eqb (m .0) 1) rd h
+mode-asked m r rd h = one (eqb (m .0) (MODE-READ .0)) rd h
   where
-    two : (b : Bool) → cond b true false ≡ true → covers r ((cond b READ-WRITE WRITE) .0) ≡ true → covers r (READ .0) ≡ true
+    two : (b : Bool) → cond b true false ≡ true → covers r (cond b READ-WRITE WRITE) ≡ true → covers r READ ≡ true
     two true rd h = covers-read r h
     two false rd h = absurd (false≢true rd)
 
-    one : (b : Bool) → cond b true (cond (eqb (m .0) 3) true false) ≡ true → covers r ((cond b READ (cond (eqb (m .0) 3) READ-WRITE WRITE)) .0) ≡ true → covers r (READ .0) ≡ true
+    one : (b : Bool) → cond b true (cond (eqb (m .0) (MODE-BOTH .0)) true false) ≡ true → covers r (cond b READ (cond (eqb (m .0) (MODE-BOTH .0)) READ-WRITE WRITE)) ≡ true → covers r READ ≡ true
     one true rd h = h
-    one false rd h = two (eqb (m .0) 3) rd h
+    one false rd h = two (eqb (m .0) (MODE-BOTH .0)) rd h
 
 -- ---- changes that keep any two related stores
 
 module _ (reach : ℕ → Type 0) (f n : ℕ) where
   -- a word that is neither kind, label nor length
-  word : (k x : ℕ) → k ≢ 0 → k ≢ 3 → k ≢ 4 → OwnWord n k x
+  word : (k x : ℕ) → k ≢ KIND → k ≢ LABEL → k ≢ LENGTH → OwnWord n k x
   word k x a b c = record { kind = a; label = b; length = λ e. absurd (c e) }
 
   unnamed-keep : (L : ℕ) (u : Unnamed) → KeepsAll reach f n L (unnamedChanges u)
   unfolding unnamedChanges KeepsAll Keeps
-  unnamed-keep L (unnamed.Kept s links) = ((omega arith, λ _. word 5 links (λ e. omega arith) (λ e. omega arith) (λ e. omega arith)), tt)
+  unnamed-keep L (unnamed.Kept s links) = ((omega arith, λ _. word LINKS links (λ e. omega arith) (λ e. omega arith) (λ e. omega arith)), tt)
   unnamed-keep L (unnamed.Freed s r) = (refl, tt)
 
-  close-keep : (L : ℕ) (p : Pid) (i : Fd) (r : Release) → i .0 < 8 → KeepsAll reach f n L (closeChanges p i r)
+  close-keep : (L : ℕ) (p : Pid) (i : Fd) (r : Release) → i .0 < DESCRIPTORS → KeepsAll reach f n L (closeChanges p i r)
   unfolding closeChanges releaseChanges KeepsAll Keeps
   close-keep L p i release.Nothing h = (h, tt)
   close-keep L p i (release.Kept e refs) h = (h, ((omega arith, omega arith), tt))
   close-keep L p i (release.Gone e) h = (h, (tt, tt))
   close-keep L p i (release.Freed e s r) h = (h, (tt, (refl, tt)))
 
-  share-keep : (L : ℕ) (q : Pid) (i : Fd) (x : Share) → i .0 < 8 → KeepsAll reach f n L (shareChanges q i x)
+  share-keep : (L : ℕ) (q : Pid) (i : Fd) (x : Share) → i .0 < DESCRIPTORS → KeepsAll reach f n L (shareChanges q i x)
   unfolding shareChanges KeepsAll Keeps
   share-keep L q i share.Nothing h = (h, tt)
   share-keep L q i (share.Held e refs) h = (h, ((omega arith, omega arith), tt))
 
-  released-keep : (L : ℕ) (p : Pid) (i : ℕ) → i < 8 → (s s′ : Store) → Related reach f n L s s′ → Related reach f n L (released p i s) (released p i s′)
+  released-keep : (L : ℕ) (p : Pid) (i : ℕ) → i < DESCRIPTORS → (s s′ : Store) → Related reach f n L s s′ → Related reach f n L (released p i s) (released p i s′)
   unfolding released
-  released-keep L p i h s s′ r = alike-keep reach f n L (λ v. closeChanges p (fdOf i) (releasing (v .tree .file) (v .opened) (v .desc) p (fdOf i))) (λ v. close-keep L p (fdOf i) _ h) s s′ r
+  released-keep L p i h s s′ r = alike-keep reach f n L (λ v. closeChanges p (fdOf i) (releasing (v .tree .file) (v .openFiles) (v .desc) p (fdOf i))) (λ v. close-keep L p (fdOf i) _ h) s s′ r
 
-  shared-keep : (L : ℕ) (p q : Pid) (i : ℕ) → i < 8 → (s s′ : Store) → Related reach f n L s s′ → Related reach f n L (shared p q i s) (shared p q i s′)
+  shared-keep : (L : ℕ) (p q : Pid) (i : ℕ) → i < DESCRIPTORS → (s s′ : Store) → Related reach f n L s s′ → Related reach f n L (shared p q i s) (shared p q i s′)
   unfolding shared
-  shared-keep L p q i h s s′ r = alike-keep reach f n L (λ v. shareChanges q (fdOf i) (shareOf (v .opened) (v .desc) p (fdOf i))) (λ v. share-keep L q (fdOf i) _ h) s s′ r
+  shared-keep L p q i h s s′ r = alike-keep reach f n L (λ v. shareChanges q (fdOf i) (shareOf (v .openFiles) (v .desc) p (fdOf i))) (λ v. share-keep L q (fdOf i) _ h) s s′ r
 
   clear-keep : (L : ℕ) (t : Slot) (x : Record) → KeepsAll reach f n L (clearTo (t .0) (words x) ∷ [])
   unfolding KeepsAll Keeps
@@ -110,20 +112,20 @@ module _ (reach : ℕ → Type 0) (f n : ℕ) where
 -- ---- what a granted call does keeps two stores related
 
 module _ (Q : List ℕ) (reach : ℕ → Type 0) (f n L : ℕ) (no-right : (l : ℕ) → reach l → mayRead Q l L ≡ false)
-    (closed-under : (l m : ℕ) → m < 16 → reach l → reach (moved Q l m)) where
-  module _ (s s′ : Store) (a : Apart f n s s′) (z : Secret reach f n L s) (small : (t : ℕ) → tab FILE (s .files) t LABEL < 16) where
+    (closed-under : (l m : ℕ) → m < LABELS → reach l → reach (moved Q l m)) where
+  module _ (s s′ : Store) (a : Apart f n s s′) (z : Secret reach f n L s) (small : (t : ℕ) → tab FILE (s .files) t LABEL < LABELS) where
     -- a directory or a free slot is not f
     not-directory : (t : Slot) → isDirectory (view s .tree .file) t ≡ true → t .0 ≢ f
     not-directory t d e =
-        let k : tab FILE (s .files) (t .0) KIND ≡ 2 = eqb-true _ _ d in
-        let q : tab FILE (s .files) (t .0) KIND ≡ 1 = ap (λ (x : ℕ). tab FILE (s .files) x KIND) e ∙ z .own .plain in
+        let k : tab FILE (s .files) (t .0) KIND ≡ DIRECTORY = eqb-true _ _ d in
+        let q : tab FILE (s .files) (t .0) KIND ≡ PLAIN = ap (λ (x : ℕ). tab FILE (s .files) x KIND) e ∙ z .own .plain in
         omega arith
 
     not-free : (t : ℕ) → slotFree (view s .tree .file) t ≡ true → t ≢ f
     unfolding slotFree
     not-free t d e =
-        let k : tab FILE (s .files) t KIND ≡ 0 = eqb-true _ _ d in
-        let q : tab FILE (s .files) t KIND ≡ 1 = ap (λ (x : ℕ). tab FILE (s .files) x KIND) e ∙ z .own .plain in
+        let k : tab FILE (s .files) t KIND ≡ FREE = eqb-true _ _ d in
+        let q : tab FILE (s .files) t KIND ≡ PLAIN = ap (λ (x : ℕ). tab FILE (s .files) x KIND) e ∙ z .own .plain in
         omega arith
 
     dir-keep : (d : DirChange) → isDirectory (view s .tree .file) (d .dir) ≡ true → KeepsAll reach f n L (dirWords d)
@@ -139,17 +141,17 @@ module _ (Q : List ℕ) (reach : ℕ → Type 0) (f n L : ℕ) (no-right : (l : 
     unname-keep d h = (tt, dir-keep d h)
 
     -- an open file that reads f needs a label that may
-    unreadable : (p : Pid) (w : NewOpen) → reach (view s .proc (p .0) 2) → OpenFit Q (view s) p w → reads (w .mode .0) ≡ true → w .slot .0 ≡ f → ⊥
+    unreadable : (p : Pid) (w : NewOpen) → reach (view s .proc (p .0) PROCESS-LABEL) → OpenFit Q (view s) p w → reads (w .mode) ≡ true → w .slot .0 ≡ f → ⊥
     unfolding labelGrants
     unreadable p w r o rd e =
         let l : tab FILE (s .files) (w .slot .0) LABEL ≡ L = ap (λ (x : ℕ). tab FILE (s .files) x LABEL) e ∙ z .own .label in
         false≢true (sym (no-right _ r) ∙ mode-asked (w .mode) _ rd (rw l at (o .rights)))
 
-    open-keep : (p : Pid) (w : NewOpen) → reach (view s .proc (p .0) 2) → OpenFit Q (view s) p w → KeepsAll reach f n L (openChanges p w)
+    open-keep : (p : Pid) (w : NewOpen) → reach (view s .proc (p .0) PROCESS-LABEL) → OpenFit Q (view s) p w → KeepsAll reach f n L (openChanges p w)
     unfolding openChanges KeepsAll Keeps
     open-keep p w r o = ((refl, unreadable p w r o), (o .eight, tt))
 
-    truncate-keep : (p : Pid) (w : NewOpen) (x : Record) → reach (view s .proc (p .0) 2) → OpenFit Q (view s) p w → KeepsAll reach f n L (truncateChanges p w x)
+    truncate-keep : (p : Pid) (w : NewOpen) (x : Record) → reach (view s .proc (p .0) PROCESS-LABEL) → OpenFit Q (view s) p w → KeepsAll reach f n L (truncateChanges p w x)
     unfolding truncateChanges
     truncate-keep p w x r o = append-keep reach f n L (openChanges p w) _ (open-keep p w r o) (clear-keep reach f n L (w .slot) x)
 
@@ -159,7 +161,7 @@ module _ (Q : List ℕ) (reach : ℕ → Type 0) (f n L : ℕ) (no-right : (l : 
 
     link-keep : (nm : Name) (d : DirChange) (t : Slot) (links : ℕ) → isDirectory (view s .tree .file) (d .dir) ≡ true → KeepsAll reach f n L (linkChanges nm d t links)
     unfolding linkChanges KeepsAll Keeps
-    link-keep nm d t links h = ((omega arith, λ _. word reach f n 5 links (λ e. omega arith) (λ e. omega arith) (λ e. omega arith)), name-keep nm t d h)
+    link-keep nm d t links h = ((omega arith, λ _. word reach f n LINKS links (λ e. omega arith) (λ e. omega arith) (λ e. omega arith)), name-keep nm t d h)
 
     unlink-keep : (d : DirChange) (u : Unnamed) → isDirectory (view s .tree .file) (d .dir) ≡ true → KeepsAll reach f n L (unlinkChanges d u)
     unfolding unlinkChanges
@@ -174,15 +176,15 @@ module _ (Q : List ℕ) (reach : ℕ → Type 0) (f n L : ℕ) (no-right : (l : 
     unfolding storeChanges KeepsAll Keeps
     store-keep bs w h = (
       tt,
-      (tt, ((omega arith, longer), ((omega arith, λ _. word reach f n 6 (w .version) (λ e. omega arith) (λ e. omega arith) (λ e. omega arith)), ((omega arith, omega arith), tt)))),
+      (tt, ((omega arith, longer), ((omega arith, λ _. word reach f n VERSION (w .version) (λ e. omega arith) (λ e. omega arith) (λ e. omega arith)), ((omega arith, omega arith), tt)))),
     )
       where
-        longer : w .slot .0 ≡ f → OwnWord n 4 (w .length)
+        longer : w .slot .0 ≡ f → OwnWord n LENGTH (w .length)
         longer e =
             let g : n ≤ tab FILE (s .files) (w .slot .0) LENGTH = subst (λ (x : ℕ). n ≤ tab FILE (s .files) x LENGTH) (sym e) (z .own .within) in
             record { kind = λ q. omega arith; label = λ q. omega arith; length = λ _. omega arith }
 
-    duplicate-keep : (p : Pid) (i : Fd) (e refs : ℕ) → i .0 < 8 → KeepsAll reach f n L (duplicateChanges p i e refs)
+    duplicate-keep : (p : Pid) (i : Fd) (e : Ofd) (refs : ℕ) → i .0 < DESCRIPTORS → KeepsAll reach f n L (duplicateChanges p i e refs)
     unfolding duplicateChanges KeepsAll Keeps
     duplicate-keep p i e refs h = (h, ((omega arith, omega arith), tt))
 
@@ -190,18 +192,18 @@ module _ (Q : List ℕ) (reach : ℕ → Type 0) (f n L : ℕ) (no-right : (l : 
     unfolding forkChanges KeepsAll Keeps
     fork-keep q user label r = ((refl, λ _. r), tt)
 
-    pub effect-keep : (c : Call) (e : Effect) → reach (view s .proc (c .process .0) 2) → EffectFit Q (view s) (c .process) e → Related reach f n L (carryOut c e s) (carryOut c e s′)
+    pub effect-keep : (c : Call) (e : Effect) → reach (view s .proc (c .process .0) PROCESS-LABEL) → EffectFit Q (view s) (c .process) e → Related reach f n L (carryOut c e s) (carryOut c e s′)
     unfolding carryOut KeepsAll Keeps
     effect-keep c _ r nothing = apart a z
     effect-keep c _ r (opened w o) = all-keep reach f n L _ s s′ (open-keep (c .process) w r o) (apart a z)
-    effect-keep c _ r (cut w x o) = all-keep reach f n L _ s s′ (truncate-keep (c .process) w x r o) (apart a z)
+    effect-keep c _ r (truncates w x o) = all-keep reach f n L _ s s′ (truncate-keep (c .process) w x r o) (apart a z)
     effect-keep c _ r (created d t x h g) = all-keep reach f n L _ s s′ (create-keep _ d t x h g) (apart a z)
     effect-keep c _ r (unlinked d u h) = all-keep reach f n L _ s s′ (unlink-keep d u h) (apart a z)
     effect-keep c _ r (removed d t x h) = all-keep reach f n L _ s s′ (remove-keep d t x h) (apart a z)
     effect-keep c _ r (linked d t links h) = all-keep reach f n L _ s s′ (link-keep _ d t links h) (apart a z)
-    effect-keep c _ r (rebitted t x) = all-keep reach f n L _ s s′ ((omega arith, λ _. word reach f n 2 (x .0) (λ e. omega arith) (λ e. omega arith) (λ e. omega arith)), tt) (apart a z)
+    effect-keep c _ r (rebitted t x) = all-keep reach f n L _ s s′ ((omega arith, λ _. word reach f n BITS (x .0) (λ e. omega arith) (λ e. omega arith) (λ e. omega arith)), tt) (apart a z)
     effect-keep c _ r (closed i x h) = all-keep reach f n L _ s s′ (close-keep reach f n L (c .process) i x h) (apart a z)
-    effect-keep c _ r (stored w h) = all-keep reach f n L _ s s′ (store-keep (c .bytes) w h) (apart a z)
+    effect-keep c _ r (stored w h) = all-keep reach f n L _ s s′ (store-keep (c .«data») w h) (apart a z)
     effect-keep c _ r (shifted e offset) = all-keep reach f n L _ s s′ ((omega arith, omega arith), tt) (apart a z)
     effect-keep c _ r (duplicated i e refs h) = all-keep reach f n L _ s s′ (duplicate-keep (c .process) i e refs h) (apart a z)
     effect-keep c _ r (forked q user label h) = all-keep reach f n L _ _ _ (fork-keep q user label (subst reach h r)) (sharedAll-keep reach f n L (c .process) q s s′ (apart a z))
@@ -216,7 +218,7 @@ module _ (Q : List ℕ) (reach : ℕ → Type 0) (f n L : ℕ) (no-right : (l : 
     buffer-same _ (described x) buffer = refl
     buffer-same _ (fetched t from m h) buffer =
         ap (λ (l : List ℕ). sets buffer 0 (take m (drop from l)))
-        (agree-block f n (s .contents) (s′ .contents) (a .contents) (a .small) (t .0) (λ e. z .unread (h .entry) (h .mode) (h .names ∙ e)))
+        (agree-block f n (s .contents) (s′ .contents) (a .contents) (a .small) (t .0) (λ e. z .unread (h .ofd .0) (h .mode) (h .names ∙ e)))
 
     pub name-same : (o : Output) → nameOut (view s) o ≡ nameOut (view s′) o
     name-same o = ap (λ (v : View). nameOut v o) (view-same f n L s s′ a (z .own))

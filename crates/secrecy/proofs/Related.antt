@@ -11,24 +11,24 @@ use native.Mathlib.Decide.{ℕ-discrete}
 use lib.ListN.{length, getD, drop, set, length-replicate}
 use lib.Seq.{sets}
 use Rattle.rules.specs.Scan.{iterate, repeat}
-use Rattle.rules.specs.Layout.{FILE, KIND, LENGTH, PLAIN, OPEN, DESCRIPTORS, DOMAIN}
+use Rattle.rules.specs.Layout.{BLOCK, FILE, KIND, LENGTH, PLAIN, OPEN, SLOT, MODE, PROCESS, OWN, DESCRIPTORS, USED, PROCESS-LABEL}
 use Rattle.rules.specs.Rights.{reads}
-use Rattle.rules.specs.Store.{Store, View, store, tab, procOf, descOf, view, block, hidden, shownOf, puts, zeros, Change, fileWord, fileTo, clearTo, bytesTo, openWord, openTo, openZero, descTo, procWord, procTo, procZero, change, applyAll}
+use Rattle.rules.specs.Store.{Store, View, store, tab, procOf, descOf, view, block, modeAt, hidden, shownOf, puts, zeros, Change, fileWord, fileTo, clearTo, bytesTo, openWord, openTo, openZero, descTo, procWord, procTo, procZero, change, applyAll}
 use Rattle.secrecy.proofs.Agree.{Agree, agree-sets, agree-clear, agree-block, agree-rest}
 use Rattle.secrecy.proofs.Tables.{Own, OwnWord, own-word, own-record, Unread, unread-word, unread-record, unread-zero, Labels, labels-desc, labels-word, labels-own, labels-zero}
 
 -- two stores, equal but for the first n bytes of slot f
 pub record Apart (f n : ℕ) (s s′ : Store) : Type 0 where
   pub files : s .files ≡ s′ .files
-  pub opens : s .opens ≡ s′ .opens
+  pub openFiles : s .openFiles ≡ s′ .openFiles
   pub processes : s .processes ≡ s′ .processes
-  pub contents : Agree (512 * f) (512 * f + n) (s .contents) (s′ .contents)
-  pub small : n ≤ 512
+  pub contents : Agree (BLOCK * f) (BLOCK * f + n) (s .contents) (s′ .contents)
+  pub small : n ≤ BLOCK
 
 -- slot f has a plain file with label L, not shorter than n; no open file reads it; every label in use is among those reached
 pub record Secret (reach : ℕ → Type 0) (f n L : ℕ) (s : Store) : Type 0 where
   pub own : Own f n L (s .files)
-  pub unread : Unread f (s .opens)
+  pub unread : Unread f (s .openFiles)
   pub labels : Labels reach (s .processes)
 
 pub data Related (reach : ℕ → Type 0) (f n L : ℕ) (s s′ : Store) : Type 0 where
@@ -37,7 +37,7 @@ pub data Related (reach : ℕ → Type 0) (f n L : ℕ) (s s′ : Store) : Type 
 
 -- ---- the rules see no difference
 
-shown-same : (f n : ℕ) (F C C′ : List ℕ) → Agree (512 * f) (512 * f + n) C C′ → n ≤ 512 → tab FILE F f KIND ≡ PLAIN → n ≤ tab FILE F f LENGTH → shownOf F C ≡ shownOf F C′
+shown-same : (f n : ℕ) (F C C′ : List ℕ) → Agree (BLOCK * f) (BLOCK * f + n) C C′ → n ≤ BLOCK → tab FILE F f KIND ≡ PLAIN → n ≤ tab FILE F f LENGTH → shownOf F C ≡ shownOf F C′
 unfolding shownOf hidden
 shown-same f n F C C′ a small plain within = fun-ext (λ d. go d (ℕ-discrete d f))
   where
@@ -54,7 +54,7 @@ view-same f n L s s′ a o =
     = shown-same f n (s .files) (s .contents) (s′ .contents) (a .contents) (a .small) (o .plain) (o .within) ∙ ap (λ (F : List ℕ). shownOf F (s′ .contents)) (a .files) in
     λ i. record {
       tree = record { file = tab FILE (a .files i); shown = e i };
-      opened = tab OPEN (a .opens i);
+      openFiles = tab OPEN (a .openFiles i);
       proc = procOf (a .processes i);
       desc = descOf (a .processes i);
     }
@@ -63,16 +63,16 @@ view-same f n L s s′ a o =
 
 -- what a change must be to keep two stores related
 unfoldable pub Keeps : (ℕ → Type 0) → ℕ → ℕ → Change → Type 0
-Keeps reach f n (fileWord t k x) = (k < 7) × (t ≡ f → OwnWord n k x)
-Keeps reach f n (fileTo t ws) = (length ws ≡ 7) × (t ≢ f)
-Keeps reach f n (clearTo t ws) = length ws ≡ 7
+Keeps reach f n (fileWord t k x) = (k < FILE) × (t ≡ f → OwnWord n k x)
+Keeps reach f n (fileTo t ws) = (length ws ≡ FILE) × (t ≢ f)
+Keeps reach f n (clearTo t ws) = length ws ≡ FILE
 Keeps reach f n (bytesTo t at bs) = Unit {0}
-Keeps reach f n (openWord e k x) = (1 < k) × (k < 4)
-Keeps reach f n (openTo e ws) = (length ws ≡ 4) × (reads (getD ws 1 0) ≡ true → getD ws 0 0 ≡ f → ⊥)
+Keeps reach f n (openWord e k x) = (MODE < k) × (k < OPEN)
+Keeps reach f n (openTo e ws) = (length ws ≡ OPEN) × (reads (modeAt (getD ws MODE 0)) ≡ true → getD ws SLOT 0 ≡ f → ⊥)
 Keeps reach f n (openZero e) = Unit {0}
-Keeps reach f n (descTo p i x) = i < 8
-Keeps reach f n (procWord p k x) = (k ≡ DOMAIN) × reach x
-Keeps reach f n (procTo p ws) = (length ws ≡ 3) × (getD ws 0 0 ≡ 1 → reach (getD ws 2 0))
+Keeps reach f n (descTo p i x) = i < DESCRIPTORS
+Keeps reach f n (procWord p k x) = (k ≡ PROCESS-LABEL) × reach x
+Keeps reach f n (procTo p ws) = (length ws ≡ OWN) × (getD ws USED 0 ≡ 1 → reach (getD ws PROCESS-LABEL 0))
 Keeps reach f n (procZero p) = Unit {0}
 
 length-zeros : (n : ℕ) → length (zeros n) ≡ n
@@ -83,18 +83,18 @@ module _ (reach : ℕ → Type 0) (f n L : ℕ) where
   -- the file is cut or freed: the stores are equal from here on
   clear-own : (s s′ : Store) (ws : List ℕ) → Apart f n s s′ → change (clearTo f ws) s ≡ change (clearTo f ws) s′
   clear-own s s′ ws a =
-      let e : sets (s .contents) (512 * f) (zeros 512) ≡ sets (s′ .contents) (512 * f) (zeros 512) = agree-clear (512 * f) (512 * f + n) (s .contents) (s′ .contents) (a .contents) (zeros 512) (rw length-zeros (omega (arith, a .small))) in
-      let q : sets (s .contents) (512 * f + 0) (zeros 512) ≡ sets (s′ .contents) (512 * f + 0) (zeros 512) = rw add-zero e in
-      λ i. store (puts FILE (a .files i) f 0 ws) (q i) (a .opens i) (a .processes i)
+      let e : sets (s .contents) (BLOCK * f) (zeros BLOCK) ≡ sets (s′ .contents) (BLOCK * f) (zeros BLOCK) = agree-clear (BLOCK * f) (BLOCK * f + n) (s .contents) (s′ .contents) (a .contents) (zeros BLOCK) (rw length-zeros (omega (arith, a .small))) in
+      let q : sets (s .contents) (BLOCK * f + 0) (zeros BLOCK) ≡ sets (s′ .contents) (BLOCK * f + 0) (zeros BLOCK) = rw add-zero e in
+      λ i. store (puts FILE (a .files i) f 0 ws) (q i) (a .openFiles i) (a .processes i)
 
   pub change-keeps : (c : Change) (s s′ : Store) → Keeps reach f n c → Related reach f n L s s′ → Related reach f n L (change c s) (change c s′)
   unfolding Keeps
   change-keeps c s s′ h (same e) = same (ap (change c) e)
   change-keeps (fileWord t k x) s s′ h (apart a z) = apart
-      (record { files = ap (λ (F : List ℕ). set F (7 * t + k) x) (a .files); opens = a .opens; processes = a .processes; contents = a .contents; small = a .small })
+      (record { files = ap (λ (F : List ℕ). set F (FILE * t + k) x) (a .files); openFiles = a .openFiles; processes = a .processes; contents = a .contents; small = a .small })
       (record { own = own-word f n L (s .files) t k x (h .0) (h .1) (z .own); unread = z .unread; labels = z .labels })
   change-keeps (fileTo t ws) s s′ h (apart a z) = apart
-      (record { files = ap (λ (F : List ℕ). puts 7 F t 0 ws) (a .files); opens = a .opens; processes = a .processes; contents = a .contents; small = a .small })
+      (record { files = ap (λ (F : List ℕ). puts FILE F t 0 ws) (a .files); openFiles = a .openFiles; processes = a .processes; contents = a .contents; small = a .small })
       (record { own = own-record f n L (s .files) t ws (h .0) (h .1) (z .own); unread = z .unread; labels = z .labels })
   change-keeps (clearTo t ws) s s′ h (apart a z) = go (ℕ-discrete t f)
     where
@@ -102,36 +102,36 @@ module _ (reach : ℕ → Type 0) (f n L : ℕ) where
       go (yes e) = same (subst (λ (x : ℕ). change (clearTo x ws) s ≡ change (clearTo x ws) s′) (sym e) (clear-own s s′ ws a))
       go (no ne) = apart
           (record {
-            files = ap (λ (F : List ℕ). puts 7 F t 0 ws) (a .files);
-            opens = a .opens;
+            files = ap (λ (F : List ℕ). puts FILE F t 0 ws) (a .files);
+            openFiles = a .openFiles;
             processes = a .processes;
-            contents = agree-sets (512 * f) (512 * f + n) (s .contents) (s′ .contents) (a .contents) (512 * t + 0) (zeros 512);
+            contents = agree-sets (BLOCK * f) (BLOCK * f + n) (s .contents) (s′ .contents) (a .contents) (BLOCK * t + 0) (zeros BLOCK);
             small = a .small;
           })
           (record { own = own-record f n L (s .files) t ws h ne (z .own); unread = z .unread; labels = z .labels })
   change-keeps (bytesTo t at bs) s s′ h (apart a z) = apart
-      (record { files = a .files; opens = a .opens; processes = a .processes; contents = agree-sets (512 * f) (512 * f + n) (s .contents) (s′ .contents) (a .contents) (512 * t + at) bs; small = a .small })
+      (record { files = a .files; openFiles = a .openFiles; processes = a .processes; contents = agree-sets (BLOCK * f) (BLOCK * f + n) (s .contents) (s′ .contents) (a .contents) (BLOCK * t + at) bs; small = a .small })
       (record { own = z .own; unread = z .unread; labels = z .labels })
   change-keeps (openWord e k x) s s′ h (apart a z) = apart
-      (record { files = a .files; opens = ap (λ (E : List ℕ). set E (4 * e + k) x) (a .opens); processes = a .processes; contents = a .contents; small = a .small })
-      (record { own = z .own; unread = unread-word f (s .opens) e k x (h .0) (h .1) (z .unread); labels = z .labels })
+      (record { files = a .files; openFiles = ap (λ (E : List ℕ). set E (OPEN * e + k) x) (a .openFiles); processes = a .processes; contents = a .contents; small = a .small })
+      (record { own = z .own; unread = unread-word f (s .openFiles) e k x (h .0) (h .1) (z .unread); labels = z .labels })
   change-keeps (openTo e ws) s s′ h (apart a z) = apart
-      (record { files = a .files; opens = ap (λ (E : List ℕ). puts 4 E e 0 ws) (a .opens); processes = a .processes; contents = a .contents; small = a .small })
-      (record { own = z .own; unread = unread-record f (s .opens) e ws (h .0) (h .1) (z .unread); labels = z .labels })
+      (record { files = a .files; openFiles = ap (λ (E : List ℕ). puts OPEN E e 0 ws) (a .openFiles); processes = a .processes; contents = a .contents; small = a .small })
+      (record { own = z .own; unread = unread-record f (s .openFiles) e ws (h .0) (h .1) (z .unread); labels = z .labels })
   change-keeps (openZero e) s s′ h (apart a z) = apart
-      (record { files = a .files; opens = ap (λ (E : List ℕ). sets E (4 * e + 0) (zeros 4)) (a .opens); processes = a .processes; contents = a .contents; small = a .small })
-      (record { own = z .own; unread = unread-zero f (s .opens) e (z .unread); labels = z .labels })
+      (record { files = a .files; openFiles = ap (λ (E : List ℕ). sets E (OPEN * e + 0) (zeros OPEN)) (a .openFiles); processes = a .processes; contents = a .contents; small = a .small })
+      (record { own = z .own; unread = unread-zero f (s .openFiles) e (z .unread); labels = z .labels })
   change-keeps (descTo p i x) s s′ h (apart a z) = apart
-      (record { files = a .files; opens = a .opens; processes = ap (λ (P : List ℕ). set P (11 * p + (3 + i)) x) (a .processes); contents = a .contents; small = a .small })
+      (record { files = a .files; openFiles = a .openFiles; processes = ap (λ (P : List ℕ). set P (PROCESS * p + (OWN + i)) x) (a .processes); contents = a .contents; small = a .small })
       (record { own = z .own; unread = z .unread; labels = labels-desc reach (s .processes) (z .labels) p i x h })
   change-keeps (procWord p k x) s s′ h (apart a z) = apart
-      (record { files = a .files; opens = a .opens; processes = ap (λ (P : List ℕ). set P (11 * p + k) x) (a .processes); contents = a .contents; small = a .small })
+      (record { files = a .files; openFiles = a .openFiles; processes = ap (λ (P : List ℕ). set P (PROCESS * p + k) x) (a .processes); contents = a .contents; small = a .small })
       (record { own = z .own; unread = z .unread; labels = rw (h .0) (labels-word reach (s .processes) (z .labels) p x (h .1)) })
   change-keeps (procTo p ws) s s′ h (apart a z) = apart
-      (record { files = a .files; opens = a .opens; processes = ap (λ (P : List ℕ). puts 11 P p 0 ws) (a .processes); contents = a .contents; small = a .small })
+      (record { files = a .files; openFiles = a .openFiles; processes = ap (λ (P : List ℕ). puts PROCESS P p 0 ws) (a .processes); contents = a .contents; small = a .small })
       (record { own = z .own; unread = z .unread; labels = labels-own reach (s .processes) (z .labels) p ws (h .0) (h .1) })
   change-keeps (procZero p) s s′ h (apart a z) = apart
-      (record { files = a .files; opens = a .opens; processes = ap (λ (P : List ℕ). sets P (11 * p + 0) (zeros 11)) (a .processes); contents = a .contents; small = a .small })
+      (record { files = a .files; openFiles = a .openFiles; processes = ap (λ (P : List ℕ). sets P (PROCESS * p + 0) (zeros PROCESS)) (a .processes); contents = a .contents; small = a .small })
       (record { own = z .own; unread = z .unread; labels = labels-zero reach (s .processes) (z .labels) p })
 
   -- ---- a list of changes, and a number of turns
@@ -150,16 +150,16 @@ module _ (reach : ℕ → Type 0) (f n L : ℕ) where
   append-keep [] ds h g = g
   append-keep (c ∷ cs) ds h g = (h .0, append-keep cs ds (h .1) g)
 
-  turns-keep : (g : ℕ → Store → Store) → ((i : ℕ) → i < 8 → (s s′ : Store) → Related reach f n L s s′ → Related reach f n L (g i s) (g i s′)) → (k i : ℕ) → i + k ≤ 8
+  turns-keep : (g : ℕ → Store → Store) → ((i : ℕ) → i < DESCRIPTORS → (s s′ : Store) → Related reach f n L s s′ → Related reach f n L (g i s) (g i s′)) → (k i : ℕ) → i + k ≤ DESCRIPTORS
       → (s s′ : Store) → Related reach f n L s s′ → Related reach f n L (iterate g i k s) (iterate g i k s′)
   unfolding iterate
   turns-keep g h zero i b s s′ r = r
   turns-keep g h (suc k) i b s s′ r = turns-keep g h k (suc i) (omega arith) (g i s) (g i s′) (h i (omega arith) s s′ r)
 
-  pub repeat-keep : (g : ℕ → Store → Store) → ((i : ℕ) → i < 8 → (s s′ : Store) → Related reach f n L s s′ → Related reach f n L (g i s) (g i s′))
+  pub repeat-keep : (g : ℕ → Store → Store) → ((i : ℕ) → i < DESCRIPTORS → (s s′ : Store) → Related reach f n L s s′ → Related reach f n L (g i s) (g i s′))
       → (s s′ : Store) → Related reach f n L s s′ → Related reach f n L (repeat g 0 DESCRIPTORS s) (repeat g 0 DESCRIPTORS s′)
   unfolding repeat
-  repeat-keep g h s s′ r = turns-keep g h 8 0 (omega arith) s s′ r
+  repeat-keep g h s s′ r = turns-keep g h DESCRIPTORS 0 (omega arith) s s′ r
 
   -- what both stores decide alike: a turn made by the view
   pub alike-keep : (g : View → List Change) → ((v : View) → KeepsAll (g v)) → (s s′ : Store) → Related reach f n L s s′

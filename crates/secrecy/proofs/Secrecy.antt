@@ -10,9 +10,9 @@ use borrow.Author.Tests.{eqb-false, lt-ltb, eq-eqb}
 use lib.Dec.{eqb}
 use lib.ListN.{List·getD-eq-default}
 use Rattle.rules.specs.Choice.{every, some}
-use Rattle.rules.specs.Layout.{SLOTS, FILE, OPEN, KIND, LABEL, LENGTH, PLAIN, NONE, MODE}
-use Rattle.rules.specs.Rights.{reads, transition, moved}
-use Rattle.rules.specs.Store.{Store, view, tab}
+use Rattle.rules.specs.Layout.{SLOTS, BLOCK, FILE, OPEN-FILES, OPEN, PROCESSES, LABELS, KIND, LABEL, LENGTH, PLAIN, NONE, MODE}
+use Rattle.rules.specs.Rights.{transition, moved}
+use Rattle.rules.specs.Store.{Store, view, tab, pidOf, ofdOf}
 use Rattle.rules.specs.Calls.{Call}
 use Rattle.rules.specs.Checks.{inUse, slotFree}
 use Rattle.rules.specs.Sound.{sound}
@@ -21,33 +21,33 @@ use Rattle.secrecy.specs.Claim.{DifferInBytes, Reached, held, given, may
 use Rattle.secrecy.proofs.Agree.{agree-block, agree-rest, agree-of-blocks}
 use Rattle.secrecy.proofs.Tables.{Own, Unread, no-mode, Labels}
 use Rattle.secrecy.proofs.Related.{Apart, Related, apart, same}
-use Rattle.secrecy.proofs.Facts.{files-size, opens-size, processes-size, plain-slot, plain-length}
+use Rattle.secrecy.proofs.Facts.{files-size, open-files-size, processes-size, plain-slot, plain-length}
 use Rattle.secrecy.proofs.Alike.{Alike, step-alike}
 
 -- ---- from what is supposed to the relation that the calls keep
 
-apart-of : (f : ℕ) (s s′ : Store) → tab FILE (s .files) f LENGTH ≤ 512 → DifferInBytes f s s′ → Apart f (tab FILE (s .files) f LENGTH) s s′
+apart-of : (f : ℕ) (s s′ : Store) → tab FILE (s .files) f LENGTH ≤ BLOCK → DifferInBytes f s s′ → Apart f (tab FILE (s .files) f LENGTH) s s′
 apart-of f s s′ small d = record {
   files = d .files;
-  opens = d .opens;
+  openFiles = d .openFiles;
   processes = d .processes;
   contents = agree-of-blocks f (tab FILE (s .files) f LENGTH) (s .contents) (s′ .contents) (d .size) (d .others) (d .rest);
   small = small;
 }
 
 -- no open file, of whatever number, reads the slot
-unread-of : (Q : List ℕ) (s : Store) (f : ℕ) → sound Q s ≡ true → (OpenForReading s f → ⊥) → Unread f (s .opens)
-unread-of Q s f h none e r q = go (decLt e 32)
+unread-of : (Q : List ℕ) (s : Store) (f : ℕ) → sound Q s ≡ true → (OpenForReading s f → ⊥) → Unread f (s .openFiles)
+unread-of Q s f h none e r q = go (decLt e OPEN-FILES)
   where
-    go : Dec (e < 32) → ⊥
-    go (yes lt) = none (record { entry = e; number = lt; mode = r; names = q })
+    go : Dec (e < OPEN-FILES) → ⊥
+    go (yes lt) = none (record { ofd = ofdOf e; number = lt; mode = r; names = q })
     go (no ge) =
-        let z : tab OPEN (s .opens) e MODE ≡ 0 = List·getD-eq-default (s .opens) 0 (omega (arith, opens-size Q s h)) in
+        let z : tab OPEN (s .openFiles) e MODE ≡ 0 = List·getD-eq-default (s .openFiles) 0 (omega (arith, open-files-size Q s h)) in
         no-mode (rw z at r)
 
 labels-of : (Q : List ℕ) (s : Store) → sound Q s ≡ true → Labels (Reached Q s) (s .processes)
 unfolding inUse every
-labels-of Q s h = record { room = processes-size Q s h; used = λ p lt u. held _ (record { process = record { 0 = p }; used = simp (lt-ltb p 8 lt, eq-eqb _ _ u); has = refl }) }
+labels-of Q s h = record { room = processes-size Q s h; used = λ p lt u. held _ (record { process = pidOf p; used = simp (lt-ltb p PROCESSES lt, eq-eqb _ _ u); has = refl }) }
 
 start : (Q : List ℕ) (f : ℕ) (s s′ : Store) → Supposed Q f s s′ → Related (Reached Q s) f (tab FILE (s .files) f LENGTH) (tab FILE (s .files) f LABEL) s s′
 start Q f s s′ h =
@@ -61,7 +61,7 @@ start Q f s s′ h =
     })
 
 -- the labels reached are closed under execute
-reach-closed : (Q : List ℕ) (s : Store) (l m : ℕ) → m < 16 → Reached Q s l → Reached Q s (moved Q l m)
+reach-closed : (Q : List ℕ) (s : Store) (l m : ℕ) → m < LABELS → Reached Q s l → Reached Q s (moved Q l m)
 unfolding moved
 reach-closed Q s l m h r = go (eqb (transition Q l m) NONE) refl
   where
@@ -76,7 +76,7 @@ pub differ-of : (f n L : ℕ) (s s′ : Store) → Apart f n s s′ → Own f n 
 differ-of f n L s s′ a o = record {
   plain = o .plain;
   files = a .files;
-  opens = a .opens;
+  openFiles = a .openFiles;
   processes = a .processes;
   size = a .contents .size;
   others = agree-block f n (s .contents) (s′ .contents) (a .contents) (a .small);
@@ -93,7 +93,7 @@ last true e = e
 last false e = e
 
 module _ (Q : List ℕ) (reach : ℕ → Type 0) (f n L : ℕ) (no-right : (l : ℕ) → reach l → mayRead Q l L ≡ false)
-    (closed-under : (l m : ℕ) → m < 16 → reach l → reach (moved Q l m)) where
+    (closed-under : (l m : ℕ) → m < LABELS → reach l → reach (moved Q l m)) where
   from-equal : (cs : List Call) (s s′ : Store) → s ≡ s′ → Claimed Q f s s′ cs
   from-equal cs s s′ e = subst (λ (t : Store). Claimed Q f s t cs) e (record { same-answers = refl; same-stores = inl refl; equal-once-freed = λ _. refl })
 

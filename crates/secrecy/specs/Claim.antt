@@ -7,14 +7,15 @@ use mathlib.Core.Logic.{_⊎_, _≢_}
 use mathlib.Core.List.{List, [], _∷_}
 use lib.ListN.{length, drop}
 use Rattle.rules.specs.Choice.{some}
-use Rattle.rules.specs.Layout.{OPENS, LABELS, NONE, KIND, LABEL, LENGTH, PLAIN, SLOT, MODE}
+use Rattle.rules.specs.Layout.{OPEN-FILES, LABELS, NONE, KIND, LABEL, LENGTH, PLAIN, SLOT, MODE}
 use Rattle.rules.specs.Rights.{READ, reads, covers, policyRights, transition}
-use Rattle.rules.specs.Store.{Store, view, block, subjectOf}
+use Rattle.rules.specs.Store.{Store, view, block, modeAt, subjectOf}
 use Rattle.rules.specs.Calls.{Call}
 use Rattle.rules.specs.Checks.{inUse, slotFree}
 use Rattle.rules.specs.Sound.{sound}
 use Rattle.rules.specs.Step.{step, answers, final}
 use Rattle.rules.specs.declared.ids.Pid.{Pid}
+use Rattle.rules.specs.declared.ids.Ofd.{Ofd}
 
 -- ---- the file in slot f
 
@@ -27,7 +28,7 @@ recordField s f k = view s .tree .file f k
 pub record DifferInBytes (f : ℕ) (s s′ : Store) : Type 0 where
   pub plain : recordField s f KIND ≡ PLAIN
   pub files : s .files ≡ s′ .files
-  pub opens : s .opens ≡ s′ .opens
+  pub openFiles : s .openFiles ≡ s′ .openFiles
   pub processes : s .processes ≡ s′ .processes
   pub size : length (s .contents) ≡ length (s′ .contents)
   pub others : (d : ℕ) → d ≢ f → block (s .contents) d ≡ block (s′ .contents) d
@@ -49,14 +50,14 @@ pub data Reached (Q : List ℕ) (s : Store) : ℕ → Type 0 where
 
 -- "It may read a file's label if the policy gives it right 4 over that"
 abbrev pub mayRead : List ℕ → (l m : ℕ) → Bool
-mayRead Q l m = covers (policyRights Q l m) (READ .0)
+mayRead Q l m = covers (policyRights Q l m) READ
 
 -- "A file is open for reading if an open entry in mode 1 or 3 names its slot"
 pub record OpenForReading (s : Store) (f : ℕ) : Type 0 where
-  pub entry : ℕ
-  pub number : entry < OPENS
-  pub mode : reads (view s .opened entry MODE) ≡ true
-  pub names : view s .opened entry SLOT ≡ f
+  pub ofd : Ofd
+  pub number : ofd .0 < OPEN-FILES
+  pub mode : reads (modeAt (view s .openFiles (ofd .0) MODE)) ≡ true
+  pub names : view s .openFiles (ofd .0) SLOT ≡ f
 
 -- ---- "What the demand supposes is supposed where the list starts"
 

@@ -9,11 +9,11 @@ use borrow.Author.Tests.{eqb-true, ltb-true}
 use lib.Dec.{eqb, ltb}
 use lib.ListN.{length, getD, length-append, replicate, getD-replicate, length-replicate, List·getD-eq-default}
 use Rattle.rules.specs.Computing.{computing}
-use Rattle.rules.specs.Choice.{every, implies}
+use Rattle.rules.specs.Choice.{implies}
 use Rattle.rules.specs.Scan.{all}
-use Rattle.rules.specs.Layout.{SLOTS, BLOCK, FILE, OPENS, OPEN, LABEL, NONE, DOMAIN}
+use Rattle.rules.specs.Layout.{SLOTS, BLOCK, FILE, OPEN-FILES, OPEN, MODE, PROCESSES, LABEL, NONE, PROCESS-LABEL}
 use Rattle.rules.specs.Rights.{transition}
-use Rattle.rules.specs.Store.{view, tab, procOf, zeros, slot}
+use Rattle.rules.specs.Store.{view, tab, procOf, zeros, slot, pidOf}
 use Rattle.rules.specs.Directories.{dirent}
 use Rattle.rules.specs.Calls.{Call}
 use Rattle.rules.specs.Checks.{inUse}
@@ -89,7 +89,7 @@ console-agree k k′ e e′ = rw (cut-key k e, cut-key k′ e′) (rw (front-siz
 
 console-apart : (k k′ : List ℕ) → length k ≡ 4 → length k′ ≡ 4 → Apart 3 4 (consoleWith k) (consoleWith k′)
 unfolding consoleWith
-console-apart k k′ e e′ = record { files = refl; opens = refl; processes = refl; contents = console-agree k k′ e e′; small = omega arith }
+console-apart k k′ e e′ = record { files = refl; openFiles = refl; processes = refl; contents = console-agree k k′ e e′; small = omega arith }
 
 console-own : (k : List ℕ) → Own 3 4 3 (consoleWith k .files)
 unfolding computing
@@ -103,9 +103,9 @@ console-sound k e =
 -- ---- who may read: the labels in use are 0, 1 and 2, there are no transitions, and none of the three has right 4 over label 3
 
 fewLabels : ℕ → Bool
-fewLabels p = implies (inUse (view (consoleWith []) .proc) (record { 0 = p })) (ltb (procOf (consoleWith [] .processes) p DOMAIN) 3)
+fewLabels p = implies (inUse (view (consoleWith []) .proc) (pidOf p)) (ltb (procOf (consoleWith [] .processes) p PROCESS-LABEL) 3)
 
-few-labels : all fewLabels 0 8 ≡ true
+few-labels : all fewLabels 0 PROCESSES ≡ true
 unfolding computing fewLabels
 few-labels = refl
 
@@ -125,9 +125,9 @@ used-small : (k : List ℕ) (p : Pid) → inUse (view (consoleWith k) .proc) p �
 unfolding inUse
 used-small k p h = ltb-true _ _ (test 0 _ h)
 
-used-few : (k : List ℕ) (p : Pid) → inUse (view (consoleWith k) .proc) p ≡ true → procOf (consoleWith k .processes) (p .0) DOMAIN < 3
+used-few : (k : List ℕ) (p : Pid) → inUse (view (consoleWith k) .proc) p ≡ true → procOf (consoleWith k .processes) (p .0) PROCESS-LABEL < 3
 unfolding consoleWith inUse fewLabels
-used-few k p h = ltb-true _ _ (implied _ _ (all-at fewLabels 0 8 few-labels (p .0) (omega arith) (used-small k p h)) h)
+used-few k p h = ltb-true _ _ (implied _ _ (all-at fewLabels 0 PROCESSES few-labels (p .0) (omega arith) (used-small k p h)) h)
 
 reached-few : (k : List ℕ) (l : ℕ) → Reached consolePolicy (consoleWith k) l → l < 3
 unfolding transition noTransition
@@ -162,7 +162,7 @@ getD-zeros n i = go (decLt i n)
 
 nothing-open : (k : List ℕ) → OpenForReading (consoleWith k) 3 → ⊥
 unfolding consoleWith
-nothing-open k o = no-mode (rw (getD-zeros (OPENS * OPEN) (4 * o .entry + 1)) at (o .mode))
+nothing-open k o = no-mode (rw (getD-zeros (OPEN-FILES * OPEN) (OPEN * o .ofd .0 + MODE)) at (o .mode))
 
 -- ---- all that is supposed
 

@@ -13,7 +13,7 @@ use lib.Seq.{drop-drop}
 use Rattle.rules.specs.Choice.{every, some}
 use Rattle.rules.specs.Scan.{all}
 use Rattle.rules.specs.Computing.{computing}
-use Rattle.rules.specs.Layout.{SLOTS, OPENS, PROCESSES, BLOCK, OPEN, FILE, PROCESS}
+use Rattle.rules.specs.Layout.{SLOTS, OPEN-FILES, PROCESSES, BLOCK, OPEN, FILE, PROCESS}
 use Rattle.rules.specs.Store.{Store, Tree, View, slot, view, block, tab, procOf, descOf, hidden, shownOf, applyAll}
 use Rattle.rules.specs.Calls.{Call}
 use Rattle.rules.specs.Sound.{sound, storeSound, sizesSound, tablesSound, policySound, slotSound, kindSound, plainSound, directorySound, allZero, openSound, procSound, isOpen}
@@ -39,7 +39,7 @@ quickShown F C = let bs = cut SLOTS C in λ s. drop (hidden F s) (getD bs s [])
 abbrev pub quickView : Store → View
 quickView s = record {
   tree = record { file = tab FILE (s .files); shown = quickShown (s .files) (s .contents) };
-  opened = tab OPEN (s .opens);
+  openFiles = tab OPEN (s .openFiles);
   proc = procOf (s .processes);
   desc = descOf (s .processes);
 }
@@ -47,7 +47,7 @@ quickView s = record {
 -- The calls of the runs leave the files and the contents as they are. So these are tested once, as if nothing were open, and the open files and the
 -- processes at each store.
 abbrev closedView : (F C : List ℕ) → View
-closedView F C = record { tree = record { file = tab FILE F; shown = quickShown F C }; opened = λ _ _. 0; proc = λ _ _. 0; desc = λ _ _. 0 }
+closedView F C = record { tree = record { file = tab FILE F; shown = quickShown F C }; openFiles = λ _ _. 0; proc = λ _ _. 0; desc = λ _ _. 0 }
 
 unfoldable pub filesSound : (F C : List ℕ) → Bool
 filesSound F C =
@@ -55,7 +55,7 @@ filesSound F C =
 
 unfoldable pub restSound : Store → Bool
 restSound s =
-    every (eqb (length (s .opens)) (OPENS * OPEN) ∷ eqb (length (s .processes)) (PROCESSES * PROCESS) ∷ all (openSound (quickView s)) 0 OPENS
+    every (eqb (length (s .openFiles)) (OPEN-FILES * OPEN) ∷ eqb (length (s .processes)) (PROCESSES * PROCESS) ∷ all (openSound (quickView s)) 0 OPEN-FILES
     ∷ all (procSound (quickView s)) 0 PROCESSES ∷ [])
 
 -- a call that changes neither files nor contents
@@ -116,7 +116,7 @@ shown-quick F C size = fun-ext (λ d. ap (λ (l : List ℕ). drop (hidden F d) l
         List·getD-eq-default (cut SLOTS C) [] n ∙ rw z refl
 
 -- a slot that is sound though nothing is open is sound whatever is open
-nothing-open : (s : ℕ) → isOpen (λ _ _. 0) s ≡ false
+nothing-open : (s : ℕ) → isOpen (λ _ _. 0) (slot s) ≡ false
 unfolding computing
 nothing-open s = refl
 
@@ -127,10 +127,10 @@ named false b e = absurd (false≢true e)
 
 module _ (t : Tree) (E P D : ℕ → ℕ → ℕ) where
   closed : View
-  closed = record { tree = t; opened = λ _ _. 0; proc = λ _ _. 0; desc = λ _ _. 0 }
+  closed = record { tree = t; openFiles = λ _ _. 0; proc = λ _ _. 0; desc = λ _ _. 0 }
 
   opened : View
-  opened = record { tree = t; opened = E; proc = P; desc = D }
+  opened = record { tree = t; openFiles = E; proc = P; desc = D }
 
   plain-opened : (s : ℕ) → plainSound closed s ≡ true → plainSound opened s ≡ true
   unfolding plainSound closed opened
@@ -154,7 +154,7 @@ module _ (s : Store) (h : filesSound (s .files) (s .contents) ≡ true) (g : res
   slots-quick : all (slotSound (quickView s)) 0 SLOTS ≡ true
   unfolding filesSound closed opened
   slots-quick =
-      all-of (slotSound (quickView s)) 0 SLOTS (λ d lo hi. slot-opened (quickView s .tree) (tab OPEN (s .opens)) (procOf (s .processes)) (descOf (s .processes)) d
+      all-of (slotSound (quickView s)) 0 SLOTS (λ d lo hi. slot-opened (quickView s .tree) (tab OPEN (s .openFiles)) (procOf (s .processes)) (descOf (s .processes)) d
       (all-at (slotSound (closedView (s .files) (s .contents))) 0 SLOTS (test 3 _ h) d lo hi))
 
   tables-quick : tablesSound (quickView s) ≡ true
@@ -171,7 +171,7 @@ module _ (s : Store) (h : filesSound (s .files) (s .contents) ≡ true) (g : res
 
   tables-sound : tablesSound (view s) ≡ true
   tables-sound = subst
-      (λ (f : ℕ → List ℕ). tablesSound (record { tree = record { file = tab FILE (s .files); shown = f }; opened = tab OPEN (s .opens); proc = procOf (s .processes); desc = descOf (s .processes) }) ≡ true)
+      (λ (f : ℕ → List ℕ). tablesSound (record { tree = record { file = tab FILE (s .files); shown = f }; openFiles = tab OPEN (s .openFiles); proc = procOf (s .processes); desc = descOf (s .processes) }) ≡ true)
       (shown-quick (s .files) (s .contents) contents-size) tables-quick
 
   pub sound-quick : (Q : List ℕ) → policySound Q ≡ true → sound Q s ≡ true

@@ -2,9 +2,9 @@
 use Prim.Native.Nat.{ℕ, _+_, _*_}
 use mathlib.Core.List.{List, [], _∷_, _++_}
 use lib.ListN.{getD, set}
-use Rattle.rules.specs.Layout.{SLASH, LABELS, RIGHTS, OPEN, OPENS, PROCESS, OWN}
+use Rattle.rules.specs.Layout.{SLASH, LABELS, RIGHTS, OPEN, OPEN-FILES, PROCESS, OWN}
 use Rattle.rules.specs.Rights.{READ, MODE-READ}
-use Rattle.rules.specs.Store.{Store, store}
+use Rattle.rules.specs.Store.{Store, store, pidOf, fdOf}
 use Rattle.rules.specs.Calls.{Call}
 use Rattle.rules.specs.Step.{Reply}
 use Rattle.rules.specs.Console.{FARES, NOW, KEY, filled, consoleWith, consolePolicy}
@@ -26,13 +26,13 @@ nowPath = (SLASH ∷ FARES) ++ (SLASH ∷ NOW)
 
 -- open /key for reading, execute /fares/now, read one byte by descriptor 0
 abbrev pub opensKey : ℕ → Call
-opensKey p = record { process = record { 0 = p }; call = 1; fd = record { 0 = 0 }; number = MODE-READ .0; path = keyPath; bytes = []; buffer = [] }
+opensKey p = record { process = pidOf p; call = 1; fd = fdOf 0; number = MODE-READ .0; path = keyPath; «data» = []; buffer = [] }
 
 abbrev pub executesNow : ℕ → Call
-executesNow p = record { process = record { 0 = p }; call = 17; fd = record { 0 = 0 }; number = 0; path = nowPath; bytes = []; buffer = [] }
+executesNow p = record { process = pidOf p; call = 17; fd = fdOf 0; number = 0; path = nowPath; «data» = []; buffer = [] }
 
 abbrev pub readsByte : ℕ → Call
-readsByte p = record { process = record { 0 = p }; call = 11; fd = record { 0 = 0 }; number = 0; path = []; bytes = []; buffer = 0 ∷ [] }
+readsByte p = record { process = pidOf p; call = 11; fd = fdOf 0; number = 0; path = []; «data» = []; buffer = 0 ∷ [] }
 
 -- the first byte of each buffer afterwards, 0 where it is empty
 unfoldable pub firstBytes : List Reply → List ℕ
@@ -70,7 +70,7 @@ reachedCalls = executesNow 1 ∷ executesNow 1 ∷ opensKey 1 ∷ readsByte 1 �
 
 unfoldable pub opened : (mode : ℕ) → (key : List ℕ) → Store
 opened mode key =
-    store (consoleWith key .files) (consoleWith key .contents) (filled (OPENS * OPEN) (3 ∷ mode ∷ 0 ∷ 1 ∷ []))
+    store (consoleWith key .files) (consoleWith key .contents) (filled (OPEN-FILES * OPEN) (3 ∷ mode ∷ 0 ∷ 1 ∷ []))
     (set (consoleWith key .processes) (PROCESS * 2 + OWN) 1)
 
 abbrev pub openedCalls : List Call

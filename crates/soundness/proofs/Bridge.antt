@@ -9,16 +9,16 @@ use lib.Dec.{eqb}
 use lib.ListN.{getD}
 use Rattle.rules.specs.Choice.{some}
 use Rattle.rules.specs.Scan.{all}
-use Rattle.rules.specs.Layout.{SLOTS, NAME, NAMES, OPENS, LINKS}
+use Rattle.rules.specs.Layout.{SLOTS, NAME, NAMES, OPEN-FILES, LINKS}
 use Rattle.rules.specs.Store.{Tree, View}
 use Rattle.rules.specs.Paths.{sameAt, sameName}
 use Rattle.rules.specs.Directories.{isEmpty, isPadding}
 use Rattle.rules.specs.Sound.{differs, isNew, linksTo, linksSound, isParent, parentOf, climbs, directorySound, kindSound, slotSound, holders, openSound}
 use Rattle.rules.proofs.Scans.{all-yes, all-no, all-done, all-of}
-use Rattle.census.specs.Census.{PLACES, links, parents, held}
+use Rattle.counts.specs.Counts.{SLOTS-AND-NONE, links, parents, held}
 use Rattle.soundness.specs.Counted.{otherThan, linksSoundBy, climbsBy, directorySoundBy, kindSoundBy, slotSoundBy, openSoundBy}
-use Rattle.census.proofs.Counting.{first-le}
-use Rattle.census.proofs.Counts.{links-at, parents-at, held-at}
+use Rattle.counts.proofs.Counting.{first-le}
+use Rattle.counts.proofs.Counts.{links-at, parents-at, held-at}
 
 -- two tests that agree on each number agree on all
 all-same-from : (p q : ℕ → Bool) (k i n : ℕ) → n - i ≡ k → ((j : ℕ) → j < n → p j ≡ q j) → all p i n ≡ all q i n
@@ -37,12 +37,12 @@ all-same-from p q (suc k) i n e h = by (q i) refl (all-same-from p q k (i + 1) n
 pub all-same : (p q : ℕ → Bool) (n : ℕ) → ((j : ℕ) → j < n → p j ≡ q j) → all p 0 n ≡ all q 0 n
 all-same p q n h = all-same-from p q (n - 0) 0 n refl h
 
-climbs-by : (t : Tree) (n d : ℕ) → d < PLACES → climbsBy (parents t) n d ≡ climbs t n d
+climbs-by : (t : Tree) (n d : ℕ) → d < SLOTS-AND-NONE → climbsBy (parents t) n d ≡ climbs t n d
 unfolding climbsBy climbs
 climbs-by t zero d h = refl
 climbs-by t (suc n) d h = by (eqb d 0) refl (λ o. rw (parents-at t d o h) (climbs-by t n (parentOf t d) below))
   where
-    below : parentOf t d < PLACES
+    below : parentOf t d < SLOTS-AND-NONE
     below = let b : parentOf t d ≤ SLOTS = first-le (isParent t d) SLOTS in omega arith
 
     by : (b : Bool) → eqb d 0 ≡ b → ((d ≡ 0 → ⊥) → climbsBy (parents t) n (getD (parents t) d 0) ≡ climbs t n (parentOf t d))
@@ -68,14 +68,14 @@ pub slots-by : (v : View) (L P : List ℕ) (r : Bool) → L ≡ links (v .tree) 
 slots-by v L P r a b e =
     rw (a, b) at e ∙ all-same (slotSoundBy v (links (v .tree)) (parents (v .tree))) (slotSound v) SLOTS (slot-by v)
 
-open-by : (v : View) (e : ℕ) → e < OPENS → openSoundBy v (held (v .desc)) e ≡ openSound v e
+open-by : (v : View) (e : ℕ) → e < OPEN-FILES → openSoundBy v (held (v .desc)) e ≡ openSound v e
 unfolding openSoundBy openSound
 open-by v e h =
     let l : getD (held (v .desc)) (e + 1) 0 ≡ holders (v .desc) e = held-at (v .desc) e (omega arith) in
     rw l
 
-pub opens-by : (v : View) (H : List ℕ) (r : Bool) → H ≡ held (v .desc) → r ≡ all (openSoundBy v H) 0 OPENS → r ≡ all (openSound v) 0 OPENS
-opens-by v H r a e = rw a at e ∙ all-same (openSoundBy v (held (v .desc))) (openSound v) OPENS (open-by v)
+pub open-files-by : (v : View) (H : List ℕ) (r : Bool) → H ≡ held (v .desc) → r ≡ all (openSoundBy v H) 0 OPEN-FILES → r ≡ all (openSound v) 0 OPEN-FILES
+open-files-by v H r a e = rw a at e ∙ all-same (openSoundBy v (held (v .desc))) (openSound v) OPEN-FILES (open-by v)
 
 -- ---- an entry with no name, and one that has a name
 

@@ -9,6 +9,8 @@ use lib.Dec.{eqb}
 use lib.ListN.{getD}
 use borrow.Author.Tests.{eq-eqb, ne-eqb}
 use Rattle.soundness.specs.Counted.{climbsBy}
+use Rattle.rules.specs.Store.{slot}
+use Rattle.rules.specs.declared.ids.Slot.{Slot}
 
 module _ (P : List ℕ) where
   pub climb-top : (n d : ℕ) {z : Bool} → climbsBy P n d ≡ z → 0 < n → d ≡ 0 → true ≡ z
@@ -16,7 +18,7 @@ module _ (P : List ℕ) where
   climb-top zero d v h e = absurd (not-suc-le-zero h)
   climb-top (suc n) d v h e = rw (eq-eqb d 0 e) at v
 
-  pub climb-on : (n d : ℕ) {z : Bool} → climbsBy P n d ≡ z → 0 < n → (d ≡ 0 → ⊥) → (r : ℕ) → r ≡ getD P d 0 → climbsBy P (n - 1) r ≡ z
+  pub climb-on : (n d : ℕ) {z : Bool} → climbsBy P n d ≡ z → 0 < n → (d ≡ 0 → ⊥) → (r : Slot) → r ≡ slot (getD P d 0) → climbsBy P (n - 1) (r .0) ≡ z
   unfolding climbsBy
   climb-on zero d v h e r q = absurd (not-suc-le-zero h)
   climb-on (suc n) d v h e r q = rw (sub-one, q) (rw (ne-eqb d 0 e) at v)

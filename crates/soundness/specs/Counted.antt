@@ -42,4 +42,4 @@ slotSoundBy v L P s = every (recordSound (v .tree) s ∷ linksSoundBy (v .tree) 
 
 unfoldable pub openSoundBy : View → List ℕ → ℕ → Bool
 openSoundBy v H e =
-    every (eqb (v .opened e REFERENCES) (getD H (e + 1) 0) ∷ cond (eqb (v .opened e REFERENCES) 0) (openFree (v .opened) e) (openUsed v e) ∷ [])
+    every (eqb (v .openFiles e REFERENCES) (getD H (e + 1) 0) ∷ cond (eqb (v .openFiles e REFERENCES) 0) (openFree (v .openFiles) e) (openUsed v e) ∷ [])

@@ -15,6 +15,7 @@ ghost use Rattle.tables.specs.NameWords.{lowWord, highWord};
 ghost use Rattle.soundness.specs.Counted.{otherThan, otherWords};
 use crate::bytes::all_zero;
 use crate::fields::is_byte;
+use rules::ids::Dirent;
 use rules::ids::Slot;
 use tables::directories::dirent_at;
 use tables::directories::dirent_slot;
@@ -23,10 +24,10 @@ use tables::directories::is_empty;
 use tables::directories::is_padding;
 use tables::directories::low_at;
 use tables::files::is_free;
+use tables::ids::is_slot;
 use tables::layout::DIRENT;
 use tables::layout::DIRENTS;
 use tables::layout::NAME;
-use tables::layout::SLOTS;
 use tables::name_words::high_word;
 use tables::name_words::low_word;
 use tables::names::is_dots;
@@ -34,7 +35,7 @@ use tables::parts::after;
 
 const SLASH: u8 = b'/';
 
-// How many bytes a name has, as a place in it.
+// How many bytes a name has, as an index into it.
 const NAME_BYTES: u32 = NAME as u32;
 
 // The bytes of all entries.
@@ -104,17 +105,16 @@ fn name_sound(name: &[u8]) -> bool
 }
 
 // A name, and a slot in use.
-fn used_sound(files: &[u32], contents: &[u8], name: &[u8], target: u32) -> bool
-    ensures { λ r. ⌜ r ≡ usedSound (tree (now (files .entry)) (now (contents .entry))) (now (name .entry)) target ⌝ }
+fn used_sound(files: &[u32], contents: &[u8], name: &[u8], target: Slot) -> bool
+    ensures { λ r. ⌜ r ≡ usedSound (tree (now (files .entry)) (now (contents .entry))) (now (name .entry)) (target .0) ⌝ }
 {
     if !name_sound(name) {
         return false;
     }
-    let inside = target < SLOTS;
-    if !inside {
+    if !is_slot(target) {
         return false;
     }
-    !is_free(files, Slot(target))
+    !is_free(files, target)
 }
 
 // By the name's two words: most entries of a directory are empty, and all 14 bytes of each are asked for.
@@ -128,21 +128,21 @@ fn all_padding(name: &[u8]) -> bool
     high_word(name) == 0
 }
 
-fn padding_at(dir: &[u8], i: u32) -> bool
-    ensures { λ r. ⌜ r ≡ all (isPadding (direntAt (now (dir .entry)) i)) 0 NAME ⌝ }
+fn padding_at(dir: &[u8], i: Dirent) -> bool
+    ensures { λ r. ⌜ r ≡ all (isPadding (direntAt (now (dir .entry)) (i .0))) 0 NAME ⌝ }
 {
     all_padding(dirent_at(dir, i))
 }
 
-fn used_at(files: &[u32], contents: &[u8], dir: &[u8], i: u32) -> bool
-    ensures { λ r. ⌜ r ≡ usedSound (tree (now (files .entry)) (now (contents .entry))) (direntAt (now (dir .entry)) i) (direntSlot (now (dir .entry)) i) ⌝ }
+fn used_at(files: &[u32], contents: &[u8], dir: &[u8], i: Dirent) -> bool
+    ensures { λ r. ⌜ r ≡ usedSound (tree (now (files .entry)) (now (contents .entry))) (direntAt (now (dir .entry)) (i .0)) (direntSlot (now (dir .entry)) (i .0)) ⌝ }
 {
     used_sound(files, contents, dirent_at(dir, i), dirent_slot(dir, i))
 }
 
 // Entry i, but for its last byte.
-fn entry_sound(files: &[u32], contents: &[u8], dir: &[u8], i: u32) -> bool
-    ensures { λ r. ⌜ r ≡ cond (isEmpty (now (dir .entry)) i) (all (isPadding (direntAt (now (dir .entry)) i)) 0 NAME) (usedSound (tree (now (files .entry)) (now (contents .entry))) (direntAt (now (dir .entry)) i) (direntSlot (now (dir .entry)) i)) ⌝ }
+fn entry_sound(files: &[u32], contents: &[u8], dir: &[u8], i: Dirent) -> bool
+    ensures { λ r. ⌜ r ≡ cond (isEmpty (now (dir .entry)) (i .0)) (all (isPadding (direntAt (now (dir .entry)) (i .0))) 0 NAME) (usedSound (tree (now (files .entry)) (now (contents .entry))) (direntAt (now (dir .entry)) (i .0)) (direntSlot (now (dir .entry)) (i .0))) ⌝ }
 {
     if is_empty(dir, i) {
         return padding_at(dir, i);
@@ -150,14 +150,14 @@ fn entry_sound(files: &[u32], contents: &[u8], dir: &[u8], i: u32) -> bool
     used_at(files, contents, dir, i)
 }
 
-fn last_zero(dir: &[u8], i: u32) -> bool
-    ensures { λ r. ⌜ r ≡ eqb (getD (direntAt (now (dir .entry)) i) (NAME + 1) 0) 0 ⌝ }
+fn last_zero(dir: &[u8], i: Dirent) -> bool
+    ensures { λ r. ⌜ r ≡ eqb (getD (direntAt (now (dir .entry)) (i .0)) (NAME + 1) 0) 0 ⌝ }
 {
     is_byte(dirent_at(dir, i), NAME + 1, 0)
 }
 
-fn dirent_sound(files: &[u32], contents: &[u8], dir: &[u8], i: u32) -> bool
-    ensures { λ r. ⌜ r ≡ direntSound (tree (now (files .entry)) (now (contents .entry))) (now (dir .entry)) i ⌝ }
+fn dirent_sound(files: &[u32], contents: &[u8], dir: &[u8], i: Dirent) -> bool
+    ensures { λ r. ⌜ r ≡ direntSound (tree (now (files .entry)) (now (contents .entry))) (now (dir .entry)) (i .0) ⌝ }
 {
     if !last_zero(dir, i) {
         return false;
@@ -170,7 +170,7 @@ fn all_dirents_sound(files: &[u32], contents: &[u8], dir: &[u8]) -> bool
 {
     let mut i = 0;
     while i < DIRENTS {
-        if dirent_sound(files, contents, dir, i) {
+        if dirent_sound(files, contents, dir, Dirent(i)) {
             i += 1;
         } else {
             return false;
@@ -179,21 +179,21 @@ fn all_dirents_sound(files: &[u32], contents: &[u8], dir: &[u8]) -> bool
     true
 }
 
-fn other_low(dir: &[u8], low: u64, j: u32) -> bool
-    ensures { λ r. ⌜ r ≡ not (eqb low (lowWord (direntAt (now (dir .entry)) j))) ⌝ }
+fn other_low(dir: &[u8], low: u64, j: Dirent) -> bool
+    ensures { λ r. ⌜ r ≡ not (eqb low (lowWord (direntAt (now (dir .entry)) (j .0)))) ⌝ }
 {
     low != low_at(dir, j)
 }
 
-fn other_high(dir: &[u8], high: u64, j: u32) -> bool
-    ensures { λ r. ⌜ r ≡ not (eqb high (highWord (direntAt (now (dir .entry)) j))) ⌝ }
+fn other_high(dir: &[u8], high: u64, j: Dirent) -> bool
+    ensures { λ r. ⌜ r ≡ not (eqb high (highWord (direntAt (now (dir .entry)) (j .0)))) ⌝ }
 {
     high != high_at(dir, j)
 }
 
 // Entry j is empty or has another name than the one of these words. The low word is asked first: it tells most names apart.
-fn other_than(dir: &[u8], low: u64, high: u64, j: u32) -> bool
-    ensures { λ r. ⌜ r ≡ otherWords (now (dir .entry)) low high j ⌝ }
+fn other_than(dir: &[u8], low: u64, high: u64, j: Dirent) -> bool
+    ensures { λ r. ⌜ r ≡ otherWords (now (dir .entry)) low high (j .0) ⌝ }
 {
     if other_low(dir, low, j) {
         return true;
@@ -204,14 +204,14 @@ fn other_than(dir: &[u8], low: u64, high: u64, j: u32) -> bool
     is_empty(dir, j)
 }
 
-fn name_new(dir: &[u8], i: u32) -> bool
-    ensures { λ r. ⌜ r ≡ all (otherThan (now (dir .entry)) i) 0 i ⌝ }
+fn name_new(dir: &[u8], i: Dirent) -> bool
+    ensures { λ r. ⌜ r ≡ all (otherThan (now (dir .entry)) (i .0)) 0 (i .0) ⌝ }
 {
     let low = low_at(dir, i);
     let high = high_at(dir, i);
     let mut j = 0;
-    while j < i {
-        if other_than(dir, low, high, j) {
+    while j < i.0 {
+        if other_than(dir, low, high, Dirent(j)) {
             j += 1;
         } else {
             return false;
@@ -221,8 +221,8 @@ fn name_new(dir: &[u8], i: u32) -> bool
 }
 
 // An empty entry differs from all.
-fn is_new(dir: &[u8], i: u32) -> bool
-    ensures { λ r. ⌜ r ≡ isNew (now (dir .entry)) i ⌝ }
+fn is_new(dir: &[u8], i: Dirent) -> bool
+    ensures { λ r. ⌜ r ≡ isNew (now (dir .entry)) (i .0) ⌝ }
 {
     if is_empty(dir, i) {
         return true;
@@ -235,7 +235,7 @@ fn all_new(dir: &[u8]) -> bool
 {
     let mut i = 0;
     while i < DIRENTS {
-        if is_new(dir, i) {
+        if is_new(dir, Dirent(i)) {
             i += 1;
         } else {
             return false;
@@ -244,8 +244,8 @@ fn all_new(dir: &[u8]) -> bool
     true
 }
 
-fn is_used(dir: &[u8], i: u32) -> bool
-    ensures { λ r. ⌜ r ≡ isUsed (now (dir .entry)) i ⌝ }
+fn is_used(dir: &[u8], i: Dirent) -> bool
+    ensures { λ r. ⌜ r ≡ isUsed (now (dir .entry)) (i .0) ⌝ }
 {
     !is_empty(dir, i)
 }
@@ -256,7 +256,7 @@ fn used_count(dir: &[u8]) -> u32
     let mut n = 0;
     let mut i = 0;
     while i < DIRENTS {
-        if is_used(dir, i) {
+        if is_used(dir, Dirent(i)) {
             n += 1;
         }
         i += 1;

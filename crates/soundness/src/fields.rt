@@ -17,12 +17,6 @@ pub fn at_most(xs: &[u32], i: usize, n: u32) -> bool
     get(xs, i) <= n
 }
 
-pub fn at_least(xs: &[u32], i: usize, n: u32) -> bool
-    ensures { λ r. ⌜ r ≡ leb n (getD (now (xs .entry)) i 0) ⌝ }
-{
-    n <= get(xs, i)
-}
-
 pub fn is_byte(xs: &[u8], i: usize, n: u8) -> bool
     ensures { λ r. ⌜ r ≡ eqb (getD (now (xs .entry)) i 0) n ⌝ }
 {

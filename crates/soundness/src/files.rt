@@ -2,15 +2,17 @@
 ghost use mathlib.Core.Path.{_≡_};
 ghost use lib.Dec.{eqb};
 ghost use Rattle.rules.specs.Choice.{implies};
-ghost use Rattle.rules.specs.Layout.{FILE, KIND, FREE};
+ghost use Rattle.rules.specs.Layout.{FILE, KIND, FREE, BITS};
 ghost use Rattle.rules.specs.Store.{tab, tree};
 ghost use Rattle.rules.specs.Sound.{recordFree, recordSound};
+ghost use Rattle.rules.specs.Rights.{bitsKnown};
 use crate::fields::at_most;
 use crate::fields::is_word;
 use rules::ids::Slot;
+use rules::rights::Bits;
+use tables::files::bits;
 use tables::files::is_free;
 use tables::layout::BITS;
-use tables::layout::BITS_MAX;
 use tables::layout::FILE;
 use tables::layout::KIND;
 use tables::layout::KIND_MAX;
@@ -23,51 +25,57 @@ use tables::layout::USER_MAX;
 use tables::layout::VERSION;
 use tables::layout::WORD_MAX;
 
-fn record_free(files: &[u32], contents: &[u8], s: u32) -> bool
-    ensures { λ r. ⌜ r ≡ recordFree (tree (now (files .entry)) (now (contents .entry))) s ⌝ }
+fn record_free(files: &[u32], contents: &[u8], s: Slot) -> bool
+    ensures { λ r. ⌜ r ≡ recordFree (tree (now (files .entry)) (now (contents .entry))) (s .0) ⌝ }
 {
-    if !is_word(files, FILE * (s as usize) + OWNER, 0) {
+    if !is_word(files, FILE * (s.0 as usize) + OWNER, 0) {
         return false;
     }
-    if !is_word(files, FILE * (s as usize) + BITS, 0) {
+    if !is_word(files, FILE * (s.0 as usize) + BITS, 0) {
         return false;
     }
-    if !is_word(files, FILE * (s as usize) + LABEL, 0) {
+    if !is_word(files, FILE * (s.0 as usize) + LABEL, 0) {
         return false;
     }
-    if !is_word(files, FILE * (s as usize) + LENGTH, 0) {
+    if !is_word(files, FILE * (s.0 as usize) + LENGTH, 0) {
         return false;
     }
-    is_word(files, FILE * (s as usize) + LINKS, 0)
+    is_word(files, FILE * (s.0 as usize) + LINKS, 0)
 }
 
 // A free record is zero but for its version.
-fn free_sound(files: &[u32], contents: &[u8], s: u32) -> bool
-    ensures { λ r. ⌜ r ≡ implies (eqb (tab FILE (now (files .entry)) s KIND) FREE) (recordFree (tree (now (files .entry)) (now (contents .entry))) s) ⌝ }
+fn free_sound(files: &[u32], contents: &[u8], s: Slot) -> bool
+    ensures { λ r. ⌜ r ≡ implies (eqb (tab FILE (now (files .entry)) (s .0) KIND) FREE) (recordFree (tree (now (files .entry)) (now (contents .entry))) (s .0)) ⌝ }
 {
-    if is_free(files, Slot(s)) {
+    if is_free(files, s) {
         return record_free(files, contents, s);
     }
     true
 }
 
-// The fields of slot s are in range.
-pub fn record_sound(files: &[u32], contents: &[u8], s: u32) -> bool
-    ensures { λ r. ⌜ r ≡ recordSound (tree (now (files .entry)) (now (contents .entry))) s ⌝ }
+fn bits_sound(files: &[u32], s: Slot) -> bool
+    ensures { λ r. ⌜ r ≡ bitsKnown (tab FILE (now (files .entry)) (s .0) BITS) ⌝ }
 {
-    if !at_most(files, FILE * (s as usize) + KIND, KIND_MAX) {
+    Bits::known(bits(files, s).0)
+}
+
+// The fields of slot s are in range.
+pub fn record_sound(files: &[u32], contents: &[u8], s: Slot) -> bool
+    ensures { λ r. ⌜ r ≡ recordSound (tree (now (files .entry)) (now (contents .entry))) (s .0) ⌝ }
+{
+    if !at_most(files, FILE * (s.0 as usize) + KIND, KIND_MAX) {
         return false;
     }
-    if !at_most(files, FILE * (s as usize) + OWNER, USER_MAX) {
+    if !at_most(files, FILE * (s.0 as usize) + OWNER, USER_MAX) {
         return false;
     }
-    if !at_most(files, FILE * (s as usize) + BITS, BITS_MAX) {
+    if !bits_sound(files, s) {
         return false;
     }
-    if !at_most(files, FILE * (s as usize) + LABEL, LABEL_MAX) {
+    if !at_most(files, FILE * (s.0 as usize) + LABEL, LABEL_MAX) {
         return false;
     }
-    if !at_most(files, FILE * (s as usize) + VERSION, WORD_MAX) {
+    if !at_most(files, FILE * (s.0 as usize) + VERSION, WORD_MAX) {
         return false;
     }
     free_sound(files, contents, s)

@@ -3,7 +3,7 @@ mod bytes;
 mod directories;
 mod fields;
 mod files;
-mod opens;
+mod open_files;
 pub mod policy;
 mod processes;
 mod slots;

@@ -7,15 +7,14 @@ ghost use Rattle.rules.specs.Layout.{RIGHTS};
 ghost use Rattle.rules.specs.Sound.{rightSound, transitionSound, policySound};
 use crate::fields::byte_at_most;
 use crate::fields::is_byte;
-use tables::layout::BITS_MAX;
+use rules::rights::Rights;
 use tables::layout::LABEL_MAX;
 use tables::layout::NONE;
 use tables::layout::POLICY_SIZE;
 use tables::layout::RIGHTS;
+use tables::words::byte;
 
 // As bytes of a policy.
-const RIGHT_MAX: u8 = BITS_MAX as u8;
-
 const MOVE_MAX: u8 = LABEL_MAX as u8;
 
 const NO_MOVE: u8 = NONE as u8;
@@ -23,7 +22,7 @@ const NO_MOVE: u8 = NONE as u8;
 fn right_sound(policy: &[u8], i: usize) -> bool
     ensures { λ r. ⌜ r ≡ rightSound (now (policy .entry)) i ⌝ }
 {
-    byte_at_most(policy, i, RIGHT_MAX)
+    Rights::known(byte(policy, i) as u32)
 }
 
 fn transition_sound(policy: &[u8], i: usize) -> bool

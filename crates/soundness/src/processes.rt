@@ -10,28 +10,28 @@ use crate::fields::is_word;
 use rules::ids::Fd;
 use rules::ids::Pid;
 use tables::layout::DESCRIPTORS;
-use tables::layout::DOMAIN;
 use tables::layout::LABEL_MAX;
-use tables::layout::OPENS;
+use tables::layout::OPEN_FILES;
 use tables::layout::PROCESS;
+use tables::layout::PROCESS_LABEL;
 use tables::layout::PROCESSES;
 use tables::layout::USED;
 use tables::layout::USER;
 use tables::layout::USER_MAX;
 use tables::processes::descriptor;
 
-fn desc_sound(processes: &[u32], p: u8, i: u8) -> bool
-    ensures { λ r. ⌜ r ≡ descSound (descOf (now (processes .entry))) p i ⌝ }
+fn desc_sound(processes: &[u32], p: Pid, i: Fd) -> bool
+    ensures { λ r. ⌜ r ≡ descSound (descOf (now (processes .entry))) (p .0) (i .0) ⌝ }
 {
-    descriptor(processes, Pid(p), Fd(i)) <= OPENS
+    descriptor(processes, p, i) <= OPEN_FILES
 }
 
-fn all_desc_sound(processes: &[u32], p: u8) -> bool
-    ensures { λ r. ⌜ r ≡ all (descSound (descOf (now (processes .entry))) p) 0 DESCRIPTORS ⌝ }
+fn all_desc_sound(processes: &[u32], p: Pid) -> bool
+    ensures { λ r. ⌜ r ≡ all (descSound (descOf (now (processes .entry))) (p .0)) 0 DESCRIPTORS ⌝ }
 {
     let mut i = 0;
     while i < DESCRIPTORS {
-        if desc_sound(processes, p, i) {
+        if desc_sound(processes, p, Fd(i)) {
             i += 1;
         } else {
             return false;
@@ -40,18 +40,18 @@ fn all_desc_sound(processes: &[u32], p: u8) -> bool
     true
 }
 
-fn desc_free(processes: &[u32], p: u8, i: u8) -> bool
-    ensures { λ r. ⌜ r ≡ descFree (descOf (now (processes .entry))) p i ⌝ }
+fn desc_free(processes: &[u32], p: Pid, i: Fd) -> bool
+    ensures { λ r. ⌜ r ≡ descFree (descOf (now (processes .entry))) (p .0) (i .0) ⌝ }
 {
-    descriptor(processes, Pid(p), Fd(i)) == 0
+    descriptor(processes, p, i) == 0
 }
 
-fn all_desc_free(processes: &[u32], p: u8) -> bool
-    ensures { λ r. ⌜ r ≡ all (descFree (descOf (now (processes .entry))) p) 0 DESCRIPTORS ⌝ }
+fn all_desc_free(processes: &[u32], p: Pid) -> bool
+    ensures { λ r. ⌜ r ≡ all (descFree (descOf (now (processes .entry))) (p .0)) 0 DESCRIPTORS ⌝ }
 {
     let mut i = 0;
     while i < DESCRIPTORS {
-        if desc_free(processes, p, i) {
+        if desc_free(processes, p, Fd(i)) {
             i += 1;
         } else {
             return false;
@@ -60,54 +60,63 @@ fn all_desc_free(processes: &[u32], p: u8) -> bool
     true
 }
 
-fn proc_free(files: &[u32], contents: &[u8], opens: &[u32], processes: &[u32], p: u8) -> bool
-    ensures { λ r. ⌜ r ≡ procFree (view (store (now (files .entry)) (now (contents .entry)) (now (opens .entry)) (now (processes .entry)))) p ⌝ }
+fn proc_free(files: &[u32], contents: &[u8], open_files: &[u32], processes: &[u32], p: Pid) -> bool
+    ensures { λ r. ⌜ r ≡ procFree (view (store (now (files .entry)) (now (contents .entry)) (now («open_files» .entry)) (now (processes .entry)))) (p .0) ⌝ }
 {
-    if !is_word(processes, PROCESS * (p as usize) + USER, 0) {
+    if !is_word(processes, PROCESS * (p.0 as usize) + USER, 0) {
         return false;
     }
-    if !is_word(processes, PROCESS * (p as usize) + DOMAIN, 0) {
+    if !is_word(processes, PROCESS * (p.0 as usize) + PROCESS_LABEL, 0) {
         return false;
     }
     all_desc_free(processes, p)
 }
 
-fn proc_used(files: &[u32], contents: &[u8], opens: &[u32], processes: &[u32], p: u8) -> bool
-    ensures { λ r. ⌜ r ≡ procUsed (view (store (now (files .entry)) (now (contents .entry)) (now (opens .entry)) (now (processes .entry)))) p ⌝ }
+fn proc_used(files: &[u32], contents: &[u8], open_files: &[u32], processes: &[u32], p: Pid) -> bool
+    ensures { λ r. ⌜ r ≡ procUsed (view (store (now (files .entry)) (now (contents .entry)) (now («open_files» .entry)) (now (processes .entry)))) (p .0) ⌝ }
 {
-    if !is_word(processes, PROCESS * (p as usize) + USED, 1) {
+    if !is_word(processes, PROCESS * (p.0 as usize) + USED, 1) {
         return false;
     }
-    if !at_most(processes, PROCESS * (p as usize) + USER, USER_MAX) {
+    if !at_most(processes, PROCESS * (p.0 as usize) + USER, USER_MAX) {
         return false;
     }
-    if !at_most(processes, PROCESS * (p as usize) + DOMAIN, LABEL_MAX) {
+    if !at_most(
+        processes,
+        PROCESS * (p.0 as usize) + PROCESS_LABEL,
+        LABEL_MAX,
+    ) {
         return false;
     }
     all_desc_sound(processes, p)
 }
 
-fn unused(processes: &[u32], p: u8) -> bool
-    ensures { λ r. ⌜ r ≡ eqb (procOf (now (processes .entry)) p USED) 0 ⌝ }
+fn unused(processes: &[u32], p: Pid) -> bool
+    ensures { λ r. ⌜ r ≡ eqb (procOf (now (processes .entry)) (p .0) USED) 0 ⌝ }
 {
-    is_word(processes, PROCESS * (p as usize) + USED, 0)
+    is_word(processes, PROCESS * (p.0 as usize) + USED, 0)
 }
 
-fn proc_sound(files: &[u32], contents: &[u8], opens: &[u32], processes: &[u32], p: u8) -> bool
-    ensures { λ r. ⌜ r ≡ procSound (view (store (now (files .entry)) (now (contents .entry)) (now (opens .entry)) (now (processes .entry)))) p ⌝ }
+fn proc_sound(files: &[u32], contents: &[u8], open_files: &[u32], processes: &[u32], p: Pid) -> bool
+    ensures { λ r. ⌜ r ≡ procSound (view (store (now (files .entry)) (now (contents .entry)) (now («open_files» .entry)) (now (processes .entry)))) (p .0) ⌝ }
 {
     if unused(processes, p) {
-        return proc_free(files, contents, opens, processes, p);
+        return proc_free(files, contents, open_files, processes, p);
     }
-    proc_used(files, contents, opens, processes, p)
+    proc_used(files, contents, open_files, processes, p)
 }
 
-pub fn processes_sound(files: &[u32], contents: &[u8], opens: &[u32], processes: &[u32]) -> bool
-    ensures { λ r. ⌜ r ≡ all (procSound (view (store (now (files .entry)) (now (contents .entry)) (now (opens .entry)) (now (processes .entry))))) 0 PROCESSES ⌝ }
+pub fn processes_sound(
+    files: &[u32],
+    contents: &[u8],
+    open_files: &[u32],
+    processes: &[u32],
+) -> bool
+    ensures { λ r. ⌜ r ≡ all (procSound (view (store (now (files .entry)) (now (contents .entry)) (now («open_files» .entry)) (now (processes .entry))))) 0 PROCESSES ⌝ }
 {
     let mut p = 0;
     while p < PROCESSES {
-        if proc_sound(files, contents, opens, processes, p) {
+        if proc_sound(files, contents, open_files, processes, Pid(p)) {
             p += 1;
         } else {
             return false;

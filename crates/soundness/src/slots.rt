@@ -13,7 +13,8 @@ use crate::fields::at_most;
 use crate::files::record_sound;
 use crate::tree::directory_sound;
 use crate::tree::links_sound;
-use census::count::count_links;
+use counts::count::count_links;
+use rules::ids::Ofd;
 use rules::ids::Slot;
 use tables::files::is_directory;
 use tables::files::is_plain;
@@ -22,41 +23,47 @@ use tables::files::shown;
 use tables::layout::FILE;
 use tables::layout::LENGTH;
 use tables::layout::LENGTH_MAX;
-use tables::layout::OPENS;
+use tables::layout::OPEN_FILES;
 use tables::layout::SLOTS;
-use tables::opens::open_but;
+use tables::open_files::open_but;
 
-// The slots, and one place past the last: the parent of what nothing names.
-const PLACES: usize = (SLOTS as usize) + 1;
+// The slots, and one past the last: the parent of what nothing names.
+const SLOTS_AND_NONE: usize = (SLOTS as usize) + 1;
 
-fn shown_zero(files: &[u32], contents: &[u8], s: u32) -> bool
-    ensures { λ r. ⌜ r ≡ allZero (shownOf (now (files .entry)) (now (contents .entry)) s) ⌝ }
+fn shown_zero(files: &[u32], contents: &[u8], s: Slot) -> bool
+    ensures { λ r. ⌜ r ≡ allZero (shownOf (now (files .entry)) (now (contents .entry)) (s .0)) ⌝ }
 {
-    all_zero(shown(files, contents, Slot(s)))
+    all_zero(shown(files, contents, s))
 }
 
-fn is_named(files: &[u32], s: u32) -> bool
-    ensures { λ r. ⌜ r ≡ ltb 0 (tab FILE (now (files .entry)) s LINKS) ⌝ }
+fn is_named(files: &[u32], s: Slot) -> bool
+    ensures { λ r. ⌜ r ≡ ltb 0 (tab FILE (now (files .entry)) (s .0) LINKS) ⌝ }
 {
-    0 < links(files, Slot(s))
+    0 < links(files, s)
 }
 
-fn named_or_open(files: &[u32], opens: &[u32], s: u32) -> bool
-    ensures { λ r. ⌜ r ≡ some (ltb 0 (tab FILE (now (files .entry)) s LINKS) ∷ isOpen (tab OPEN (now (opens .entry))) s ∷ []) ⌝ }
+fn named_or_open(files: &[u32], open_files: &[u32], s: Slot) -> bool
+    ensures { λ r. ⌜ r ≡ some (ltb 0 (tab FILE (now (files .entry)) (s .0) LINKS) ∷ isOpen (tab OPEN (now («open_files» .entry))) s ∷ []) ⌝ }
 {
     if is_named(files, s) {
         return true;
     }
-    open_but(opens, OPENS, s)
+    open_but(open_files, Ofd(OPEN_FILES), s)
 }
 
-fn plain_sound(files: &[u32], contents: &[u8], opens: &[u32], processes: &[u32], s: u32) -> bool
-    ensures { λ r. ⌜ r ≡ plainSound (view (store (now (files .entry)) (now (contents .entry)) (now (opens .entry)) (now (processes .entry)))) s ⌝ }
+fn plain_sound(
+    files: &[u32],
+    contents: &[u8],
+    open_files: &[u32],
+    processes: &[u32],
+    s: Slot,
+) -> bool
+    ensures { λ r. ⌜ r ≡ plainSound (view (store (now (files .entry)) (now (contents .entry)) (now («open_files» .entry)) (now (processes .entry)))) (s .0) ⌝ }
 {
-    if !at_most(files, FILE * (s as usize) + LENGTH, LENGTH_MAX) {
+    if !at_most(files, FILE * (s.0 as usize) + LENGTH, LENGTH_MAX) {
         return false;
     }
-    if !named_or_open(files, opens, s) {
+    if !named_or_open(files, open_files, s) {
         return false;
     }
     shown_zero(files, contents, s)
@@ -65,18 +72,18 @@ fn plain_sound(files: &[u32], contents: &[u8], opens: &[u32], processes: &[u32],
 fn kind_sound(
     files: &[u32],
     contents: &[u8],
-    opens: &[u32],
+    open_files: &[u32],
     processes: &[u32],
     parents: &[u32],
-    s: u32,
+    s: Slot,
 ) -> bool
-    ensures { λ r. ⌜ r ≡ kindSoundBy (view (store (now (files .entry)) (now (contents .entry)) (now (opens .entry)) (now (processes .entry)))) (now (parents .entry)) s ⌝ }
+    ensures { λ r. ⌜ r ≡ kindSoundBy (view (store (now (files .entry)) (now (contents .entry)) (now («open_files» .entry)) (now (processes .entry)))) (now (parents .entry)) (s .0) ⌝ }
 {
-    if is_directory(files, Slot(s)) {
+    if is_directory(files, s) {
         return directory_sound(files, contents, parents, s);
     }
-    if is_plain(files, Slot(s)) {
-        return plain_sound(files, contents, opens, processes, s);
+    if is_plain(files, s) {
+        return plain_sound(files, contents, open_files, processes, s);
     }
     shown_zero(files, contents, s)
 }
@@ -84,13 +91,13 @@ fn kind_sound(
 fn slot_sound(
     files: &[u32],
     contents: &[u8],
-    opens: &[u32],
+    open_files: &[u32],
     processes: &[u32],
     links: &[u32],
     parents: &[u32],
-    s: u32,
+    s: Slot,
 ) -> bool
-    ensures { λ r. ⌜ r ≡ slotSoundBy (view (store (now (files .entry)) (now (contents .entry)) (now (opens .entry)) (now (processes .entry)))) (now (links .entry)) (now (parents .entry)) s ⌝ }
+    ensures { λ r. ⌜ r ≡ slotSoundBy (view (store (now (files .entry)) (now (contents .entry)) (now («open_files» .entry)) (now (processes .entry)))) (now (links .entry)) (now (parents .entry)) (s .0) ⌝ }
 {
     if !record_sound(files, contents, s) {
         return false;
@@ -98,22 +105,30 @@ fn slot_sound(
     if !links_sound(files, contents, links, s) {
         return false;
     }
-    kind_sound(files, contents, opens, processes, parents, s)
+    kind_sound(files, contents, open_files, processes, parents, s)
 }
 
 fn all_slots_sound(
     files: &[u32],
     contents: &[u8],
-    opens: &[u32],
+    open_files: &[u32],
     processes: &[u32],
     links: &[u32],
     parents: &[u32],
 ) -> bool
-    ensures { λ r. ⌜ r ≡ all (slotSoundBy (view (store (now (files .entry)) (now (contents .entry)) (now (opens .entry)) (now (processes .entry)))) (now (links .entry)) (now (parents .entry))) 0 SLOTS ⌝ }
+    ensures { λ r. ⌜ r ≡ all (slotSoundBy (view (store (now (files .entry)) (now (contents .entry)) (now («open_files» .entry)) (now (processes .entry)))) (now (links .entry)) (now (parents .entry))) 0 SLOTS ⌝ }
 {
     let mut s = 0;
     while s < SLOTS {
-        if slot_sound(files, contents, opens, processes, links, parents, s) {
+        if slot_sound(
+            files,
+            contents,
+            open_files,
+            processes,
+            links,
+            parents,
+            Slot(s),
+        ) {
             s += 1;
         } else {
             return false;
@@ -122,11 +137,11 @@ fn all_slots_sound(
     true
 }
 
-pub fn slots_sound(files: &[u32], contents: &[u8], opens: &[u32], processes: &[u32]) -> bool
-    ensures { λ r. ⌜ r ≡ all (slotSound (view (store (now (files .entry)) (now (contents .entry)) (now (opens .entry)) (now (processes .entry))))) 0 SLOTS ⌝ }
+pub fn slots_sound(files: &[u32], contents: &[u8], open_files: &[u32], processes: &[u32]) -> bool
+    ensures { λ r. ⌜ r ≡ all (slotSound (view (store (now (files .entry)) (now (contents .entry)) (now («open_files» .entry)) (now (processes .entry))))) 0 SLOTS ⌝ }
 {
-    let mut links = [0; PLACES];
-    let mut parents = [SLOTS; PLACES];
+    let mut links = [0; SLOTS_AND_NONE];
+    let mut parents = [SLOTS; SLOTS_AND_NONE];
     count_links(files, contents, &mut links, &mut parents);
-    all_slots_sound(files, contents, opens, processes, &links, &parents)
+    all_slots_sound(files, contents, open_files, processes, &links, &parents)
 }

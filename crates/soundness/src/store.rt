@@ -2,7 +2,7 @@
 ghost use mathlib.Core.Path.{_≡_};
 ghost use Rattle.rules.specs.Store.{view, store};
 ghost use Rattle.rules.specs.Sound.{sizesSound, tablesSound, storeSound, sound};
-use crate::opens::opens_sound;
+use crate::open_files::open_files_sound;
 use crate::policy::policy_sound;
 use crate::processes::processes_sound;
 use crate::slots::slots_sound;
@@ -10,12 +10,12 @@ use rules::ids::Slot;
 use tables::files::is_directory;
 use tables::layout::CONTENTS_SIZE;
 use tables::layout::FILES_SIZE;
-use tables::layout::OPENS_SIZE;
+use tables::layout::OPEN_FILES_SIZE;
 use tables::layout::PROCESSES_SIZE;
 
 // "Lent tables of another size are 1".
-fn sizes_sound(files: &[u32], contents: &[u8], opens: &[u32], processes: &[u32]) -> bool
-    ensures { λ r. ⌜ r ≡ sizesSound (store (now (files .entry)) (now (contents .entry)) (now (opens .entry)) (now (processes .entry))) ⌝ }
+fn sizes_sound(files: &[u32], contents: &[u8], open_files: &[u32], processes: &[u32]) -> bool
+    ensures { λ r. ⌜ r ≡ sizesSound (store (now (files .entry)) (now (contents .entry)) (now («open_files» .entry)) (now (processes .entry))) ⌝ }
 {
     let files_sized = files.len() == FILES_SIZE;
     if !files_sized {
@@ -25,33 +25,33 @@ fn sizes_sound(files: &[u32], contents: &[u8], opens: &[u32], processes: &[u32])
     if !contents_sized {
         return false;
     }
-    let opens_sized = opens.len() == OPENS_SIZE;
-    if !opens_sized {
+    let open_files_sized = open_files.len() == OPEN_FILES_SIZE;
+    if !open_files_sized {
         return false;
     }
     processes.len() == PROCESSES_SIZE
 }
 
-fn tables_sound(files: &[u32], contents: &[u8], opens: &[u32], processes: &[u32]) -> bool
-    ensures { λ r. ⌜ r ≡ tablesSound (view (store (now (files .entry)) (now (contents .entry)) (now (opens .entry)) (now (processes .entry)))) ⌝ }
+fn tables_sound(files: &[u32], contents: &[u8], open_files: &[u32], processes: &[u32]) -> bool
+    ensures { λ r. ⌜ r ≡ tablesSound (view (store (now (files .entry)) (now (contents .entry)) (now («open_files» .entry)) (now (processes .entry)))) ⌝ }
 {
     if !is_directory(files, Slot(0)) {
         return false;
     }
-    if !slots_sound(files, contents, opens, processes) {
+    if !slots_sound(files, contents, open_files, processes) {
         return false;
     }
-    if !opens_sound(files, contents, opens, processes) {
+    if !open_files_sound(files, contents, open_files, processes) {
         return false;
     }
-    processes_sound(files, contents, opens, processes)
+    processes_sound(files, contents, open_files, processes)
 }
 
-pub fn store_sound(files: &[u32], contents: &[u8], opens: &[u32], processes: &[u32]) -> bool
-    ensures { λ r. ⌜ r ≡ storeSound (store (now (files .entry)) (now (contents .entry)) (now (opens .entry)) (now (processes .entry))) ⌝ }
+pub fn store_sound(files: &[u32], contents: &[u8], open_files: &[u32], processes: &[u32]) -> bool
+    ensures { λ r. ⌜ r ≡ storeSound (store (now (files .entry)) (now (contents .entry)) (now («open_files» .entry)) (now (processes .entry))) ⌝ }
 {
-    if sizes_sound(files, contents, opens, processes) {
-        return tables_sound(files, contents, opens, processes);
+    if sizes_sound(files, contents, open_files, processes) {
+        return tables_sound(files, contents, open_files, processes);
     }
     false
 }
@@ -59,14 +59,14 @@ pub fn store_sound(files: &[u32], contents: &[u8], opens: &[u32], processes: &[u
 pub fn sound(
     files: &[u32],
     contents: &[u8],
-    opens: &[u32],
+    open_files: &[u32],
     processes: &[u32],
     policy: &[u8],
 ) -> bool
-    ensures { λ r. ⌜ r ≡ sound (now (policy .entry)) (store (now (files .entry)) (now (contents .entry)) (now (opens .entry)) (now (processes .entry))) ⌝ }
+    ensures { λ r. ⌜ r ≡ sound (now (policy .entry)) (store (now (files .entry)) (now (contents .entry)) (now («open_files» .entry)) (now (processes .entry))) ⌝ }
 {
     if !policy_sound(policy) {
         return false;
     }
-    store_sound(files, contents, opens, processes)
+    store_sound(files, contents, open_files, processes)
 }

@@ -5,7 +5,7 @@ ghost use lib.Dec.{eqb};
 ghost use lib.ListN.{getD};
 ghost use Rattle.rules.specs.Choice.{some};
 ghost use Rattle.rules.specs.Layout.{FILE, LINKS, LENGTH};
-ghost use Rattle.rules.specs.Store.{tab, tree, shownOf};
+ghost use Rattle.rules.specs.Store.{tab, tree, shownOf, slot};
 ghost use Rattle.rules.specs.Sound.{direntsSound};
 ghost use Rattle.soundness.specs.Counted.{linksSoundBy, climbsBy, directorySoundBy};
 use crate::directories::dirents_sound;
@@ -18,66 +18,65 @@ use tables::layout::LINKS;
 use tables::layout::NAMES;
 use tables::words::get;
 
-fn links_right(files: &[u32], links: &[u32], s: u32) -> bool
-    ensures { λ r. ⌜ r ≡ eqb (tab FILE (now (files .entry)) s LINKS) (getD (now (links .entry)) s 0) ⌝ }
+fn links_right(files: &[u32], links: &[u32], s: Slot) -> bool
+    ensures { λ r. ⌜ r ≡ eqb (tab FILE (now (files .entry)) (s .0) LINKS) (getD (now (links .entry)) (s .0) 0) ⌝ }
 {
-    is_word(files, FILE * (s as usize) + LINKS, get(links, s as usize))
+    is_word(
+        files,
+        FILE * (s.0 as usize) + LINKS,
+        get(links, s.0 as usize),
+    )
 }
 
-pub fn links_sound(files: &[u32], contents: &[u8], links: &[u32], s: u32) -> bool
-    ensures { λ r. ⌜ r ≡ linksSoundBy (tree (now (files .entry)) (now (contents .entry))) (now (links .entry)) s ⌝ }
+pub fn links_sound(files: &[u32], contents: &[u8], links: &[u32], s: Slot) -> bool
+    ensures { λ r. ⌜ r ≡ linksSoundBy (tree (now (files .entry)) (now (contents .entry))) (now (links .entry)) (s .0) ⌝ }
 {
-    let root = s == 0;
+    let root = s.0 == 0;
     if root {
-        return is_word(files, FILE * (s as usize) + LINKS, 0);
+        return is_word(files, FILE * (s.0 as usize) + LINKS, 0);
     }
     links_right(files, links, s)
 }
 
-fn parent_of(parents: &[u32], d: u32) -> u32
-    ensures { λ r. ⌜ r ≡ getD (now (parents .entry)) d 0 ⌝ }
+fn parent_of(parents: &[u32], d: Slot) -> Slot
+    ensures { λ r. ⌜ r ≡ slot (getD (now (parents .entry)) (d .0) 0) ⌝ }
 {
-    get(parents, d as usize)
+    Slot(get(parents, d.0 as usize))
 }
 
-fn climbs(parents: &[u32], n: u8, d: u32) -> bool
-    ensures { λ r. ⌜ r ≡ climbsBy (now (parents .entry)) n d ⌝ }
+fn climbs(parents: &[u32], n: u8, d: Slot) -> bool
+    ensures { λ r. ⌜ r ≡ climbsBy (now (parents .entry)) n (d .0) ⌝ }
 {
     let mut left = n;
     let mut at = d;
     while 0 < left {
-        if at == 0 {
+        if at.0 == 0 {
             return true;
         }
         at = parent_of(parents, at);
         left -= 1;
     }
-    at == 0
+    at.0 == 0
 }
 
-fn named_once(files: &[u32], d: u32) -> bool
-    ensures { λ r. ⌜ r ≡ some (eqb d 0 ∷ eqb (tab FILE (now (files .entry)) d LINKS) 1 ∷ []) ⌝ }
+fn named_once(files: &[u32], d: Slot) -> bool
+    ensures { λ r. ⌜ r ≡ some (eqb (d .0) 0 ∷ eqb (tab FILE (now (files .entry)) (d .0) LINKS) 1 ∷ []) ⌝ }
 {
-    let root = d == 0;
+    let root = d.0 == 0;
     if root {
         return true;
     }
-    is_word(files, FILE * (d as usize) + LINKS, 1)
+    is_word(files, FILE * (d.0 as usize) + LINKS, 1)
 }
 
-fn shown_sound(files: &[u32], contents: &[u8], d: u32) -> bool
-    ensures { λ r. ⌜ r ≡ direntsSound (tree (now (files .entry)) (now (contents .entry))) (shownOf (now (files .entry)) (now (contents .entry)) d) (tab FILE (now (files .entry)) d LENGTH) ⌝ }
+fn shown_sound(files: &[u32], contents: &[u8], d: Slot) -> bool
+    ensures { λ r. ⌜ r ≡ direntsSound (tree (now (files .entry)) (now (contents .entry))) (shownOf (now (files .entry)) (now (contents .entry)) (d .0)) (tab FILE (now (files .entry)) (d .0) LENGTH) ⌝ }
 {
-    dirents_sound(
-        files,
-        contents,
-        shown(files, contents, Slot(d)),
-        length(files, Slot(d)),
-    )
+    dirents_sound(files, contents, shown(files, contents, d), length(files, d))
 }
 
-pub fn directory_sound(files: &[u32], contents: &[u8], parents: &[u32], d: u32) -> bool
-    ensures { λ r. ⌜ r ≡ directorySoundBy (tree (now (files .entry)) (now (contents .entry))) (now (parents .entry)) d ⌝ }
+pub fn directory_sound(files: &[u32], contents: &[u8], parents: &[u32], d: Slot) -> bool
+    ensures { λ r. ⌜ r ≡ directorySoundBy (tree (now (files .entry)) (now (contents .entry))) (now (parents .entry)) (d .0) ⌝ }
 {
     if !shown_sound(files, contents, d) {
         return false;

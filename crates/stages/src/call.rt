@@ -1,5 +1,5 @@
-// The stages of a call: what is decided, what is answered, what is done. A run of a script asks for room before the last; `call` goes through them at
-// once, which is quicker.
+// The stages of a call: what is decided, what is answered, what is done. A run of a script asks for room before the last.
+// `store::call` makes a call at once, which is quicker.
 ghost use mathlib.Core.Path.{_≡_};
 ghost use mathlib.Core.List.{List};
 ghost use Prim.Native.Nat.{ℕ};
@@ -22,28 +22,28 @@ use soundness::store::sound;
 pub fn judge(
     files: &[u32],
     contents: &[u8],
-    opens: &[u32],
+    open_files: &[u32],
     processes: &[u32],
     policy: &[u8],
     c: Request,
     path: &[u8],
-    bytes: &[u8],
+    data: &[u8],
     buffer: &[u8],
 ) -> Decision
-    ensures { λ r. ⌜ r ≡ judged (now (policy .entry)) (store (now (files .entry)) (now (contents .entry)) (now (opens .entry)) (now (processes .entry))) (callOf c (now (path .entry)) (now (bytes .entry)) (now (buffer .entry))) ⌝ }
+    ensures { λ r. ⌜ r ≡ judged (now (policy .entry)) (store (now (files .entry)) (now (contents .entry)) (now («open_files» .entry)) (now (processes .entry))) (callOf c (now (path .entry)) (now («data» .entry)) (now (buffer .entry))) ⌝ }
 {
-    if !sound(files, contents, opens, processes, policy) {
+    if !sound(files, contents, open_files, processes, policy) {
         return Decision::Refused(Refusal::Unsound, 0);
     }
     decide_call(
         files,
         contents,
-        opens,
+        open_files,
         processes,
         policy,
         c,
         path,
-        bytes,
+        data,
         buffer,
     )
 }
@@ -52,16 +52,24 @@ pub fn judge(
 pub fn answer(
     files: &[u32],
     contents: &[u8],
-    opens: &[u32],
+    open_files: &[u32],
     processes: &[u32],
     buffer: &mut [u8],
     d: Decision,
 ) -> Answer
-    ensures { λ r. ⌜ said r (now (buffer .exit)) ≡ answeredBy (store (now (files .entry)) (now (contents .entry)) (now (opens .entry)) (now (processes .entry))) d (now (buffer .entry)) ⌝ }
+    ensures { λ r. ⌜ said r (now (buffer .exit)) ≡ answeredBy (store (now (files .entry)) (now (contents .entry)) (now («open_files» .entry)) (now (processes .entry))) d (now (buffer .entry)) ⌝ }
 {
     match d {
         Decision::Refused(why, stop) => refused_answer(why, stop),
-        Decision::Granted(value, o, e) => say(files, contents, opens, processes, buffer, value, o),
+        Decision::Granted(value, o, e) => say(
+            files,
+            contents,
+            open_files,
+            processes,
+            buffer,
+            value,
+            o,
+        ),
     }
 }
 
@@ -69,19 +77,19 @@ pub fn answer(
 pub fn carry(
     files: &mut [u32],
     contents: &mut [u8],
-    opens: &mut [u32],
+    open_files: &mut [u32],
     processes: &mut [u32],
     c: Request,
     path: &[u8],
-    bytes: &[u8],
+    data: &[u8],
     d: Decision,
 )
-    ensures { λ _. ⌜ ((buffer : List ℕ) → store (now (files .exit)) (now (contents .exit)) (now (opens .exit)) (now (processes .exit)) ≡ storeAfter (store (now (files .entry)) (now (contents .entry)) (now (opens .entry)) (now (processes .entry))) (callOf c (now (path .entry)) (now (bytes .entry)) buffer) d) ⌝ }
+    ensures { λ _. ⌜ ((buffer : List ℕ) → store (now (files .exit)) (now (contents .exit)) (now («open_files» .exit)) (now (processes .exit)) ≡ storeAfter (store (now (files .entry)) (now (contents .entry)) (now («open_files» .entry)) (now (processes .entry))) (callOf c (now (path .entry)) (now («data» .entry)) buffer) d) ⌝ }
 {
     match d {
         Decision::Refused(why, stop) => {}
         Decision::Granted(value, o, e) => {
-            carry_out(files, contents, opens, processes, c, path, bytes, e)
+            carry_out(files, contents, open_files, processes, c, path, data, e)
         }
     }
 }

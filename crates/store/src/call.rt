@@ -16,21 +16,21 @@ use rules::request::Request;
 fn settle(
     files: &mut [u32],
     contents: &mut [u8],
-    opens: &mut [u32],
+    open_files: &mut [u32],
     processes: &mut [u32],
     c: Request,
     path: &[u8],
-    bytes: &[u8],
+    data: &[u8],
     buffer: &mut [u8],
     d: Decision,
 ) -> Answer
-    ensures { λ r. ⌜ lent r (now (buffer .exit)) (store (now (files .exit)) (now (contents .exit)) (now (opens .exit)) (now (processes .exit))) ≡ lentOf (outcomeOf (store (now (files .entry)) (now (contents .entry)) (now (opens .entry)) (now (processes .entry))) (callOf c (now (path .entry)) (now (bytes .entry)) (now (buffer .entry))) d) ⌝ }
+    ensures { λ r. ⌜ lent r (now (buffer .exit)) (store (now (files .exit)) (now (contents .exit)) (now («open_files» .exit)) (now (processes .exit))) ≡ lentOf (outcomeOf (store (now (files .entry)) (now (contents .entry)) (now («open_files» .entry)) (now (processes .entry))) (callOf c (now (path .entry)) (now («data» .entry)) (now (buffer .entry))) d) ⌝ }
 {
     match d {
         Decision::Refused(why, stop) => refused_answer(why, stop),
         Decision::Granted(value, o, e) => {
-            let a = say(files, contents, opens, processes, buffer, value, o);
-            carry_out(files, contents, opens, processes, c, path, bytes, e);
+            let a = say(files, contents, open_files, processes, buffer, value, o);
+            carry_out(files, contents, open_files, processes, c, path, data, e);
             a
         }
     }
@@ -40,56 +40,66 @@ fn settle(
 pub fn act(
     files: &mut [u32],
     contents: &mut [u8],
-    opens: &mut [u32],
+    open_files: &mut [u32],
     processes: &mut [u32],
     policy: &[u8],
     c: Request,
     path: &[u8],
-    bytes: &[u8],
+    data: &[u8],
     buffer: &mut [u8],
 ) -> Answer
-    ensures { λ r. ⌜ lent r (now (buffer .exit)) (store (now (files .exit)) (now (contents .exit)) (now (opens .exit)) (now (processes .exit))) ≡ lentOf (act (now (policy .entry)) (store (now (files .entry)) (now (contents .entry)) (now (opens .entry)) (now (processes .entry))) (callOf c (now (path .entry)) (now (bytes .entry)) (now (buffer .entry)))) ⌝ }
+    ensures { λ r. ⌜ lent r (now (buffer .exit)) (store (now (files .exit)) (now (contents .exit)) (now («open_files» .exit)) (now (processes .exit))) ≡ lentOf (act (now (policy .entry)) (store (now (files .entry)) (now (contents .entry)) (now («open_files» .entry)) (now (processes .entry))) (callOf c (now (path .entry)) (now («data» .entry)) (now (buffer .entry)))) ⌝ }
 {
     let d = decision::decide::decide_call(
         files,
         contents,
-        opens,
+        open_files,
         processes,
         policy,
         c,
         path,
-        bytes,
+        data,
         buffer,
     );
-    settle(files, contents, opens, processes, c, path, bytes, buffer, d)
+    settle(
+        files,
+        contents,
+        open_files,
+        processes,
+        c,
+        path,
+        data,
+        buffer,
+        d,
+    )
 }
 
 // A call: refused with 1 where the tables or the policy are not sound.
 pub fn call(
     files: &mut [u32],
     contents: &mut [u8],
-    opens: &mut [u32],
+    open_files: &mut [u32],
     processes: &mut [u32],
     policy: &[u8],
     c: Request,
     path: &[u8],
-    bytes: &[u8],
+    data: &[u8],
     buffer: &mut [u8],
 ) -> Answer
-    ensures { λ r. ⌜ lent r (now (buffer .exit)) (store (now (files .exit)) (now (contents .exit)) (now (opens .exit)) (now (processes .exit))) ≡ lentOf (step (now (policy .entry)) (store (now (files .entry)) (now (contents .entry)) (now (opens .entry)) (now (processes .entry))) (callOf c (now (path .entry)) (now (bytes .entry)) (now (buffer .entry)))) ⌝ }
+    ensures { λ r. ⌜ lent r (now (buffer .exit)) (store (now (files .exit)) (now (contents .exit)) (now («open_files» .exit)) (now (processes .exit))) ≡ lentOf (step (now (policy .entry)) (store (now (files .entry)) (now (contents .entry)) (now («open_files» .entry)) (now (processes .entry))) (callOf c (now (path .entry)) (now («data» .entry)) (now (buffer .entry)))) ⌝ }
 {
-    if !soundness::store::sound(files, contents, opens, processes, policy) {
+    if !soundness::store::sound(files, contents, open_files, processes, policy) {
         return refused_answer(Refusal::Unsound, 0);
     }
     act(
         files,
         contents,
-        opens,
+        open_files,
         processes,
         policy,
         c,
         path,
-        bytes,
+        data,
         buffer,
     )
 }

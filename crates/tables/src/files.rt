@@ -2,7 +2,7 @@
 ghost use mathlib.Core.Path.{_≡_};
 ghost use lib.Dec.{eqb};
 ghost use Rattle.rules.specs.Layout.{FILE, KIND, OWNER, BITS, LABEL, LENGTH, LINKS, VERSION, FREE, PLAIN, DIRECTORY};
-ghost use Rattle.rules.specs.Store.{tab, block, hidden, shownOf, recordOf};
+ghost use Rattle.rules.specs.Store.{tab, bitsAt, block, hidden, shownOf, recordOf};
 use crate::layout::BITS;
 use crate::layout::BLOCK;
 use crate::layout::DIRECTORY;
@@ -20,6 +20,7 @@ use crate::parts::upto;
 use crate::words::get;
 use rules::decision::Record;
 use rules::ids::Slot;
+use rules::rights::Bits;
 
 pub fn kind(files: &[u32], s: Slot) -> u32
     ensures { λ r. ⌜ r ≡ tab FILE (now (files .entry)) (s .0) KIND ⌝ }
@@ -33,10 +34,10 @@ pub fn owner(files: &[u32], s: Slot) -> u32
     get(files, FILE * (s.0 as usize) + OWNER)
 }
 
-pub fn bits(files: &[u32], s: Slot) -> u32
-    ensures { λ r. ⌜ r ≡ tab FILE (now (files .entry)) (s .0) BITS ⌝ }
+pub fn bits(files: &[u32], s: Slot) -> Bits
+    ensures { λ r. ⌜ r ≡ bitsAt (tab FILE (now (files .entry)) (s .0) BITS) ⌝ }
 {
-    get(files, FILE * (s.0 as usize) + BITS)
+    Bits(get(files, FILE * (s.0 as usize) + BITS))
 }
 
 pub fn label(files: &[u32], s: Slot) -> u32

@@ -2,11 +2,12 @@
 pub mod calls;
 pub mod directories;
 pub mod files;
+pub mod ids;
 pub mod layout;
 pub mod name_words;
 pub mod names;
 pub mod numbers;
-pub mod opens;
+pub mod open_files;
 pub mod parts;
 pub mod policy;
 pub mod processes;

@@ -4,12 +4,13 @@ ghost use Rattle.rules.specs.Rights.{policyRights, transition};
 use crate::layout::LABELS;
 use crate::layout::RIGHTS;
 use crate::words::byte;
+use rules::rights::Rights;
 
 // The rights of process label l over file label m.
-pub fn rights(policy: &[u8], l: u32, m: u32) -> u32
+pub fn rights(policy: &[u8], l: u32, m: u32) -> Rights
     ensures { λ r. ⌜ r ≡ policyRights (now (policy .entry)) l m ⌝ }
 {
-    byte(policy, LABELS * (l as usize) + (m as usize)) as u32
+    Rights(byte(policy, LABELS * (l as usize) + (m as usize)) as u32)
 }
 
 // Where process label l moves by program label m.

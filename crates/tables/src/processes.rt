@@ -1,11 +1,11 @@
 // The processes, 8 records of 11 words: in use, user, label, 8 descriptors.
 ghost use mathlib.Core.Path.{_≡_};
-ghost use Rattle.rules.specs.Layout.{USED, USER, DOMAIN};
+ghost use Rattle.rules.specs.Layout.{USED, USER, PROCESS-LABEL};
 ghost use Rattle.rules.specs.Store.{procOf, descOf, subjectOf};
 use crate::layout::DESCRIPTORS;
-use crate::layout::DOMAIN;
 use crate::layout::OWN;
 use crate::layout::PROCESS;
+use crate::layout::PROCESS_LABEL;
 use crate::layout::USED;
 use crate::layout::USER;
 use crate::words::get;
@@ -26,9 +26,9 @@ pub fn user(processes: &[u32], p: Pid) -> u32
 }
 
 pub fn label(processes: &[u32], p: Pid) -> u32
-    ensures { λ r. ⌜ r ≡ procOf (now (processes .entry)) (p .0) DOMAIN ⌝ }
+    ensures { λ r. ⌜ r ≡ procOf (now (processes .entry)) (p .0) PROCESS-LABEL ⌝ }
 {
-    get(processes, PROCESS * (p.0 as usize) + DOMAIN)
+    get(processes, PROCESS * (p.0 as usize) + PROCESS_LABEL)
 }
 
 // Who asks.

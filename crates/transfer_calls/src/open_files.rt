@@ -1,52 +1,59 @@
 // What an open file is open for, and its file's length.
 ghost use mathlib.Core.Path.{_≡_};
 ghost use Rattle.rules.specs.Layout.{FILE, OPEN, LENGTH, SLOT, MODE};
-ghost use Rattle.rules.specs.Store.{tab};
+ghost use Rattle.rules.specs.Store.{tab, modeAt};
 ghost use Rattle.rules.specs.Rights.{reads, writes, appends};
+use rules::ids::Ofd;
 use rules::rights::OpenMode;
-use tables::opens::mode;
-use tables::opens::slot_of;
+use tables::open_files::mode;
+use tables::open_files::slot_of;
 
-fn mode_reads(m: u32) -> bool
+fn mode_reads(m: OpenMode) -> bool
     ensures { λ r. ⌜ r ≡ reads m ⌝ }
 {
-    let reading = m == OpenMode::READ.0;
+    let reading = m.0 == OpenMode::READ.0;
     if reading {
         return true;
     }
-    m == OpenMode::READ_WRITE.0
+    m.0 == OpenMode::BOTH.0
 }
 
-fn mode_writes(m: u32) -> bool
+fn mode_writes(m: OpenMode) -> bool
     ensures { λ r. ⌜ r ≡ writes m ⌝ }
 {
-    let reading = m == OpenMode::READ.0;
+    let reading = m.0 == OpenMode::READ.0;
     if reading {
         return false;
     }
     true
 }
 
-pub fn open_reads(opens: &[u32], e: u32) -> bool
-    ensures { λ r. ⌜ r ≡ reads (tab OPEN (now (opens .entry)) e MODE) ⌝ }
+fn mode_appends(m: OpenMode) -> bool
+    ensures { λ r. ⌜ r ≡ appends m ⌝ }
 {
-    mode_reads(mode(opens, e))
+    m.0 == OpenMode::APPEND.0
 }
 
-pub fn open_writes(opens: &[u32], e: u32) -> bool
-    ensures { λ r. ⌜ r ≡ writes (tab OPEN (now (opens .entry)) e MODE) ⌝ }
+pub fn open_reads(open_files: &[u32], e: Ofd) -> bool
+    ensures { λ r. ⌜ r ≡ reads (modeAt (tab OPEN (now («open_files» .entry)) (e .0) MODE)) ⌝ }
 {
-    mode_writes(mode(opens, e))
+    mode_reads(mode(open_files, e))
 }
 
-pub fn open_appends(opens: &[u32], e: u32) -> bool
-    ensures { λ r. ⌜ r ≡ appends (tab OPEN (now (opens .entry)) e MODE) ⌝ }
+pub fn open_writes(open_files: &[u32], e: Ofd) -> bool
+    ensures { λ r. ⌜ r ≡ writes (modeAt (tab OPEN (now («open_files» .entry)) (e .0) MODE)) ⌝ }
 {
-    mode(opens, e) == OpenMode::APPEND.0
+    mode_writes(mode(open_files, e))
 }
 
-pub fn open_length(files: &[u32], opens: &[u32], e: u32) -> u32
-    ensures { λ r. ⌜ r ≡ tab FILE (now (files .entry)) (tab OPEN (now (opens .entry)) e SLOT) LENGTH ⌝ }
+pub fn open_appends(open_files: &[u32], e: Ofd) -> bool
+    ensures { λ r. ⌜ r ≡ appends (modeAt (tab OPEN (now («open_files» .entry)) (e .0) MODE)) ⌝ }
 {
-    tables::files::length(files, slot_of(opens, e))
+    mode_appends(mode(open_files, e))
+}
+
+pub fn open_length(files: &[u32], open_files: &[u32], e: Ofd) -> u32
+    ensures { λ r. ⌜ r ≡ tab FILE (now (files .entry)) (tab OPEN (now («open_files» .entry)) (e .0) SLOT) LENGTH ⌝ }
+{
+    tables::files::length(files, slot_of(open_files, e))
 }

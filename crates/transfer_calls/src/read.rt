@@ -13,71 +13,76 @@ use rules::decision::Decision;
 use rules::decision::Effect;
 use rules::decision::Output;
 use rules::ids::Fd;
+use rules::ids::Ofd;
 use rules::ids::Pid;
 use rules::refusal::Refusal;
 use tables::numbers::add;
 use tables::numbers::smaller;
 use tables::numbers::subtract;
-use tables::opens::offset;
-use tables::opens::slot_of;
+use tables::open_files::offset;
+use tables::open_files::slot_of;
 
 // How many bytes the file of open file e has from its offset on.
-fn bytes_left(files: &[u32], opens: &[u32], e: u32) -> u32
-    ensures { λ r. ⌜ r ≡ remaining (tab FILE (now (files .entry))) (tab OPEN (now (opens .entry))) e ⌝ }
+fn bytes_left(files: &[u32], open_files: &[u32], e: Ofd) -> u32
+    ensures { λ r. ⌜ r ≡ remaining (tab FILE (now (files .entry))) (tab OPEN (now («open_files» .entry))) e ⌝ }
 {
-    subtract(open_length(files, opens, e), offset(opens, e))
+    subtract(open_length(files, open_files, e), offset(open_files, e))
 }
 
-fn fetched(opens: &[u32], e: u32, n: u32) -> Decision
-    ensures { λ r. ⌜ r ≡ fetching (tab OPEN (now (opens .entry))) e n ⌝ }
+fn fetched(open_files: &[u32], e: Ofd, n: u32) -> Decision
+    ensures { λ r. ⌜ r ≡ fetching (tab OPEN (now («open_files» .entry))) e n ⌝ }
 {
     Decision::Granted(
         n,
-        Output::Bytes(slot_of(opens, e), offset(opens, e), n),
-        Effect::Moved(e, add(offset(opens, e), n)),
+        Output::Bytes(slot_of(open_files, e), offset(open_files, e), n),
+        Effect::Moved(e, add(offset(open_files, e), n)),
     )
 }
 
-fn fetch_some(files: &[u32], opens: &[u32], e: u32, size: usize) -> Decision
-    ensures { λ r. ⌜ r ≡ fetching (tab OPEN (now (opens .entry))) e (min size (remaining (tab FILE (now (files .entry))) (tab OPEN (now (opens .entry))) e)) ⌝ }
+fn fetch_some(files: &[u32], open_files: &[u32], e: Ofd, size: usize) -> Decision
+    ensures { λ r. ⌜ r ≡ fetching (tab OPEN (now («open_files» .entry))) e (min size (remaining (tab FILE (now (files .entry))) (tab OPEN (now («open_files» .entry))) e)) ⌝ }
 {
-    fetched(opens, e, smaller(size, bytes_left(files, opens, e)))
+    fetched(
+        open_files,
+        e,
+        smaller(size, bytes_left(files, open_files, e)),
+    )
 }
 
-fn read_open(files: &[u32], opens: &[u32], e: u32, size: usize) -> Decision
-    ensures { λ r. ⌜ r ≡ readOpen (tab FILE (now (files .entry))) (tab OPEN (now (opens .entry))) e size ⌝ }
+fn read_open(files: &[u32], open_files: &[u32], e: Ofd, size: usize) -> Decision
+    ensures { λ r. ⌜ r ≡ readOpen (tab FILE (now (files .entry))) (tab OPEN (now («open_files» .entry))) e size ⌝ }
 {
-    if !open_reads(opens, e) {
-        return Decision::Refused(Refusal::NotOpenFor, 0);
+    if !open_reads(open_files, e) {
+        return Decision::Refused(Refusal::WrongDirection, 0);
     }
-    fetch_some(files, opens, e, size)
+    fetch_some(files, open_files, e, size)
 }
 
 fn read_held(
     files: &[u32],
-    opens: &[u32],
+    open_files: &[u32],
     processes: &[u32],
     p: Pid,
     i: Fd,
     size: usize,
 ) -> Decision
-    ensures { λ r. ⌜ r ≡ readOpen (tab FILE (now (files .entry))) (tab OPEN (now (opens .entry))) (ofdHeld (descOf (now (processes .entry))) p i) size ⌝ }
+    ensures { λ r. ⌜ r ≡ readOpen (tab FILE (now (files .entry))) (tab OPEN (now («open_files» .entry))) (ofdHeld (descOf (now (processes .entry))) p i) size ⌝ }
 {
-    read_open(files, opens, ofd_held(processes, p, i), size)
+    read_open(files, open_files, ofd_held(processes, p, i), size)
 }
 
 pub fn decide_read(
     files: &[u32],
-    opens: &[u32],
+    open_files: &[u32],
     processes: &[u32],
     p: Pid,
     i: Fd,
     size: usize,
 ) -> Decision
-    ensures { λ r. ⌜ r ≡ decideRead (tab FILE (now (files .entry))) (tab OPEN (now (opens .entry))) (descOf (now (processes .entry))) p i size ⌝ }
+    ensures { λ r. ⌜ r ≡ decideRead (tab FILE (now (files .entry))) (tab OPEN (now («open_files» .entry))) (descOf (now (processes .entry))) p i size ⌝ }
 {
     if !is_held(processes, p, i) {
         return Decision::Refused(Refusal::NotHeld, 0);
     }
-    read_held(files, opens, processes, p, i, size)
+    read_held(files, open_files, processes, p, i, size)
 }

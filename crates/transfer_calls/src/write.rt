@@ -18,6 +18,7 @@ use rules::decision::Effect;
 use rules::decision::Output;
 use rules::decision::Placement;
 use rules::ids::Fd;
+use rules::ids::Ofd;
 use rules::ids::Pid;
 use rules::ids::Slot;
 use rules::refusal::Refusal;
@@ -29,21 +30,21 @@ use tables::numbers::larger;
 use tables::numbers::subtract;
 use tables::numbers::up_one;
 use tables::numbers::word_of;
-use tables::opens::offset;
-use tables::opens::slot_of;
+use tables::open_files::offset;
+use tables::open_files::slot_of;
 
 // Where a write through open file e begins.
-fn write_place(files: &[u32], opens: &[u32], e: u32) -> u32
-    ensures { λ r. ⌜ r ≡ writeAt (tab FILE (now (files .entry))) (tab OPEN (now (opens .entry))) e ⌝ }
+fn write_start(files: &[u32], open_files: &[u32], e: Ofd) -> u32
+    ensures { λ r. ⌜ r ≡ writeAt (tab FILE (now (files .entry))) (tab OPEN (now («open_files» .entry))) e ⌝ }
 {
-    if open_appends(opens, e) {
-        return open_length(files, opens, e);
+    if open_appends(open_files, e) {
+        return open_length(files, open_files, e);
     }
-    offset(opens, e)
+    offset(open_files, e)
 }
 
 // n bytes at `at`, through open file e on slot s.
-fn placed(files: &[u32], e: u32, s: Slot, at: u32, n: usize) -> Placement
+fn placement_of(files: &[u32], e: Ofd, s: Slot, at: u32, n: usize) -> Placement
     ensures { λ r. ⌜ r ≡ placement (tab FILE (now (files .entry))) e s at n ⌝ }
 {
     Placement {
@@ -58,13 +59,13 @@ fn placed(files: &[u32], e: u32, s: Slot, at: u32, n: usize) -> Placement
     }
 }
 
-fn stored_at(files: &[u32], opens: &[u32], e: u32, at: u32, n: usize) -> Decision
-    ensures { λ r. ⌜ r ≡ stored (tab FILE (now (files .entry))) (tab OPEN (now (opens .entry))) e at (n % 2 ^ 32) n ⌝ }
+fn stored_at(files: &[u32], open_files: &[u32], e: Ofd, at: u32, n: usize) -> Decision
+    ensures { λ r. ⌜ r ≡ stored (tab FILE (now (files .entry))) (tab OPEN (now («open_files» .entry))) e at (n % 2 ^ 32) n ⌝ }
 {
     Decision::Granted(
         word_of(n),
         Output::Nothing,
-        Effect::Stored(placed(files, e, slot_of(opens, e), at, n)),
+        Effect::Stored(placement_of(files, e, slot_of(open_files, e), at, n)),
     )
 }
 
@@ -77,58 +78,65 @@ fn fits(at: u32, n: usize) -> bool
     (at as usize) + n <= BLOCK
 }
 
-fn write_file(files: &[u32], opens: &[u32], e: u32, at: u32, n: usize) -> Decision
-    ensures { λ r. ⌜ r ≡ writeFile (tab FILE (now (files .entry))) (tab OPEN (now (opens .entry))) e at n ⌝ }
+fn write_file(files: &[u32], open_files: &[u32], e: Ofd, at: u32, n: usize) -> Decision
+    ensures { λ r. ⌜ r ≡ writeFile (tab FILE (now (files .entry))) (tab OPEN (now («open_files» .entry))) e at n ⌝ }
 {
     if !fits(at, n) {
         return Decision::Refused(Refusal::TooLong, 0);
     }
-    stored_at(files, opens, e, at, n)
+    stored_at(files, open_files, e, at, n)
 }
 
-fn write_placed(files: &[u32], opens: &[u32], e: u32, n: usize) -> Decision
-    ensures { λ r. ⌜ r ≡ writeFile (tab FILE (now (files .entry))) (tab OPEN (now (opens .entry))) e (writeAt (tab FILE (now (files .entry))) (tab OPEN (now (opens .entry))) e) n ⌝ }
+fn write_from_start(files: &[u32], open_files: &[u32], e: Ofd, n: usize) -> Decision
+    ensures { λ r. ⌜ r ≡ writeFile (tab FILE (now (files .entry))) (tab OPEN (now («open_files» .entry))) e (writeAt (tab FILE (now (files .entry))) (tab OPEN (now («open_files» .entry))) e) n ⌝ }
 {
-    write_file(files, opens, e, write_place(files, opens, e), n)
+    write_file(files, open_files, e, write_start(files, open_files, e), n)
 }
 
-fn write_some(files: &[u32], opens: &[u32], e: u32, n: usize) -> Decision
-    ensures { λ r. ⌜ r ≡ writeSome (tab FILE (now (files .entry))) (tab OPEN (now (opens .entry))) e n ⌝ }
+fn write_some(files: &[u32], open_files: &[u32], e: Ofd, n: usize) -> Decision
+    ensures { λ r. ⌜ r ≡ writeSome (tab FILE (now (files .entry))) (tab OPEN (now («open_files» .entry))) e n ⌝ }
 {
     let none = n == 0;
     if none {
         return Decision::Granted(0, Output::Nothing, Effect::Nothing);
     }
-    write_placed(files, opens, e, n)
+    write_from_start(files, open_files, e, n)
 }
 
-fn write_open(files: &[u32], opens: &[u32], e: u32, n: usize) -> Decision
-    ensures { λ r. ⌜ r ≡ writeOpen (tab FILE (now (files .entry))) (tab OPEN (now (opens .entry))) e n ⌝ }
+fn write_open(files: &[u32], open_files: &[u32], e: Ofd, n: usize) -> Decision
+    ensures { λ r. ⌜ r ≡ writeOpen (tab FILE (now (files .entry))) (tab OPEN (now («open_files» .entry))) e n ⌝ }
 {
-    if !open_writes(opens, e) {
-        return Decision::Refused(Refusal::NotOpenFor, 0);
+    if !open_writes(open_files, e) {
+        return Decision::Refused(Refusal::WrongDirection, 0);
     }
-    write_some(files, opens, e, n)
+    write_some(files, open_files, e, n)
 }
 
-fn write_held(files: &[u32], opens: &[u32], processes: &[u32], p: Pid, i: Fd, n: usize) -> Decision
-    ensures { λ r. ⌜ r ≡ writeOpen (tab FILE (now (files .entry))) (tab OPEN (now (opens .entry))) (ofdHeld (descOf (now (processes .entry))) p i) n ⌝ }
-{
-    write_open(files, opens, ofd_held(processes, p, i), n)
-}
-
-pub fn decide_write(
+fn write_held(
     files: &[u32],
-    opens: &[u32],
+    open_files: &[u32],
     processes: &[u32],
     p: Pid,
     i: Fd,
     n: usize,
 ) -> Decision
-    ensures { λ r. ⌜ r ≡ decideWrite (tab FILE (now (files .entry))) (tab OPEN (now (opens .entry))) (descOf (now (processes .entry))) p i n ⌝ }
+    ensures { λ r. ⌜ r ≡ writeOpen (tab FILE (now (files .entry))) (tab OPEN (now («open_files» .entry))) (ofdHeld (descOf (now (processes .entry))) p i) n ⌝ }
+{
+    write_open(files, open_files, ofd_held(processes, p, i), n)
+}
+
+pub fn decide_write(
+    files: &[u32],
+    open_files: &[u32],
+    processes: &[u32],
+    p: Pid,
+    i: Fd,
+    n: usize,
+) -> Decision
+    ensures { λ r. ⌜ r ≡ decideWrite (tab FILE (now (files .entry))) (tab OPEN (now («open_files» .entry))) (descOf (now (processes .entry))) p i n ⌝ }
 {
     if !is_held(processes, p, i) {
         return Decision::Refused(Refusal::NotHeld, 0);
     }
-    write_held(files, opens, processes, p, i, n)
+    write_held(files, open_files, processes, p, i, n)
 }

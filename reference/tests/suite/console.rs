@@ -19,7 +19,7 @@ pub struct Console {
     pub policy: Vec<u8>,
 }
 
-/// The parts of a call that have no bytes, all 0 unless set.
+/// The numbers of a call, all 0 unless set.
 pub fn request(process: u8, call: u8) -> Request {
     Request {
         process,
@@ -52,11 +52,11 @@ impl Console {
         console.set_file(1, [DIRECTORY, 10, 5, 0, 1, 1, 0]);
         console.set_file(2, [PLAIN, 10, 4, 0, 5, 1, 0]);
         console.set_file(3, [PLAIN, 10, 0, 3, 4, 1, 0]);
-        console.set_place(0, 0, b"fares", 1);
-        console.set_place(0, 1, b"key", 3);
-        console.set_place(1, 0, b"now", 2);
+        console.set_dirent(0, 0, b"fares", 1);
+        console.set_dirent(0, 1, b"key", 3);
+        console.set_dirent(1, 0, b"now", 2);
         console.set_bytes(2, b"2.40\n");
-        console.set_bytes(3, b"1234");
+        console.set_bytes(3, b"\x01\x02\x03\x04");
         for (process, user) in [0, 10, 20].into_iter().enumerate() {
             console.set_process(process, user, process as u32);
         }
@@ -90,20 +90,20 @@ impl Console {
         self.file(slot)[4] as usize
     }
 
-    pub fn names(&self, slot: usize) -> u32 {
+    pub fn links(&self, slot: usize) -> u32 {
         self.file(slot)[5]
     }
 
-    pub fn stamp(&self, slot: usize) -> u32 {
+    pub fn version(&self, slot: usize) -> u32 {
         self.file(slot)[6]
     }
 
-    pub fn set_stamp(&mut self, slot: usize, stamp: u32) {
-        self.files[7 * slot + 6] = stamp;
+    pub fn set_version(&mut self, slot: usize, version: u32) {
+        self.files[7 * slot + 6] = version;
     }
 
-    pub fn set_place(&mut self, slot: usize, place: usize, name: &[u8], named: u8) {
-        let bytes = &mut self.contents[512 * slot + 16 * place..][..16];
+    pub fn set_dirent(&mut self, slot: usize, dirent: usize, name: &[u8], named: u8) {
+        let bytes = &mut self.contents[512 * slot + 16 * dirent..][..16];
         bytes.fill(0);
         bytes[..name.len()].copy_from_slice(name);
         bytes[14] = named;
@@ -121,7 +121,7 @@ impl Console {
         &self.block(slot)[..self.length(slot)]
     }
 
-    pub fn entry(&self, number: usize) -> [u32; 4] {
+    pub fn open_file(&self, number: usize) -> [u32; 4] {
         self.open_files[4 * number..][..4].try_into().unwrap()
     }
 

@@ -43,7 +43,7 @@ fn an_open_file_outlives_its_name() {
     assert_eq!(console.read(2, 0, 16).map(|bytes| bytes.len()), Ok(5));
     assert_eq!(console.create(1, "/fares/now", 0), Ok(4));
     assert_eq!(console.close(2, 0), Ok(0));
-    assert_eq!((console.kind(2), console.stamp(2)), (FREE, 1));
+    assert_eq!((console.kind(2), console.version(2)), (FREE, 1));
     assert_eq!(console.create(1, "/fares/y", 0), Ok(2));
 }
 

@@ -12,27 +12,27 @@ fn opened(mode: u16) -> Console {
 }
 
 #[test]
-fn close_drops_the_descriptor_and_then_the_entry() {
+fn close_drops_the_descriptor_and_then_the_open_file() {
     let mut console = opened(1);
     assert_eq!(console.duplicate(1, 0), Ok(1));
-    assert_eq!(console.entry(0), [2, 1, 0, 2]);
+    assert_eq!(console.open_file(0), [2, 1, 0, 2]);
     assert_eq!(console.close(1, 0), Ok(0));
-    assert_eq!(console.entry(0), [2, 1, 0, 1]);
+    assert_eq!(console.open_file(0), [2, 1, 0, 1]);
     assert_eq!(console.process(1)[3..5], [0, 1]);
     assert_eq!(console.close(1, 1), Ok(0));
-    assert_eq!(console.entry(0), [0, 0, 0, 0]);
+    assert_eq!(console.open_file(0), [0, 0, 0, 0]);
     assert_eq!(console.close(1, 1), no(4));
 }
 
 #[test]
-fn read_moves_the_position_by_its_count() {
+fn read_moves_the_offset_by_its_count() {
     let mut console = opened(1);
     assert_eq!(console.read(1, 0, 2), Ok(b"2.".to_vec()));
     assert_eq!(console.read(1, 0, 0), Ok(vec![]));
-    assert_eq!(console.entry(0), [2, 1, 2, 1]);
+    assert_eq!(console.open_file(0), [2, 1, 2, 1]);
     assert_eq!(console.read(1, 0, 3), Ok(b"40\n".to_vec()));
     assert_eq!(console.read(1, 0, 3), Ok(vec![]));
-    assert_eq!(console.entry(0), [2, 1, 5, 1]);
+    assert_eq!(console.open_file(0), [2, 1, 5, 1]);
 }
 
 #[test]
@@ -41,7 +41,7 @@ fn read_past_the_end_gives_nothing_and_stays() {
     for position in [5, 6, 512] {
         assert_eq!(console.seek(1, 0, position), Ok(u32::from(position)));
         assert_eq!(console.read(1, 0, 600), Ok(vec![]));
-        assert_eq!(console.entry(0)[2], u32::from(position));
+        assert_eq!(console.open_file(0)[2], u32::from(position));
     }
 }
 
@@ -66,34 +66,34 @@ fn a_full_file_is_read_whole() {
     assert_eq!(console.write(1, 0, &bytes), Ok(512));
     assert_eq!(console.seek(1, 0, 0), Ok(0));
     assert_eq!(console.read(1, 0, 1000), Ok(bytes));
-    assert_eq!(console.entry(0)[2], 512);
+    assert_eq!(console.open_file(0)[2], 512);
 }
 
 #[test]
-fn write_goes_to_the_position_and_moves_it() {
+fn write_goes_to_the_offset_and_moves_it() {
     let mut console = opened(2);
     assert_eq!(console.seek(1, 0, 2), Ok(2));
     assert_eq!(console.write(1, 0, b"55"), Ok(2));
     assert_eq!(console.bytes(2), b"2.55\n");
     assert_eq!(console.write(1, 0, b" p"), Ok(2));
     assert_eq!(console.bytes(2), b"2.55 p");
-    assert_eq!(console.entry(0), [2, 2, 6, 1]);
+    assert_eq!(console.open_file(0), [2, 2, 6, 1]);
 }
 
 #[test]
-fn append_goes_to_the_length_whatever_the_position() {
+fn append_goes_to_the_length_whatever_the_offset() {
     let mut console = opened(4);
     assert_eq!(console.seek(1, 0, 2), Ok(2));
     assert_eq!(console.write(1, 0, b"x"), Ok(1));
     assert_eq!(console.bytes(2), b"2.40\nx");
-    assert_eq!(console.entry(0), [2, 4, 6, 1]);
+    assert_eq!(console.open_file(0), [2, 4, 6, 1]);
     assert_eq!(console.seek(1, 0, 512), Ok(512));
     assert_eq!(console.write(1, 0, b"y"), Ok(1));
     assert_eq!(console.bytes(2), b"2.40\nxy");
 }
 
 #[test]
-fn a_write_of_no_bytes_changes_nothing() {
+fn a_write_of_no_data_changes_nothing() {
     for mode in [2, 3, 4] {
         for position in [0, 2, 100, 512] {
             let mut console = opened(mode);
@@ -123,16 +123,16 @@ fn a_write_is_all_or_nothing() {
 }
 
 #[test]
-fn seek_moves_any_entry() {
+fn seek_moves_any_open_file() {
     for mode in [1, 2, 3, 4] {
         let mut console = opened(mode);
         assert_eq!(console.seek(1, 0, 300), Ok(300));
-        assert_eq!(console.entry(0)[2], 300);
+        assert_eq!(console.open_file(0)[2], 300);
     }
 }
 
 #[test]
-fn a_duplicate_shares_the_position() {
+fn a_duplicate_shares_the_offset() {
     let mut console = opened(1);
     assert_eq!(console.duplicate(1, 0), Ok(1));
     assert_eq!(console.read(1, 1, 4), Ok(b"2.40".to_vec()));
@@ -140,7 +140,7 @@ fn a_duplicate_shares_the_position() {
 }
 
 #[test]
-fn two_opens_do_not_share_the_position() {
+fn two_opens_do_not_share_the_offset() {
     let mut console = opened(1);
     assert_eq!(console.open(1, "/fares/now", 1), Ok(1));
     assert_eq!(console.read(1, 0, 4), Ok(b"2.40".to_vec()));
@@ -148,13 +148,13 @@ fn two_opens_do_not_share_the_position() {
 }
 
 #[test]
-fn descriptors_and_entries_are_the_lowest_free() {
+fn descriptors_and_open_files_are_the_lowest_free() {
     let mut console = opened(1);
     assert_eq!(console.open(1, "/fares/now", 2), Ok(1));
     assert_eq!(console.open(1, "/fares/now", 3), Ok(2));
     assert_eq!(console.close(1, 1), Ok(0));
     assert_eq!(console.duplicate(1, 2), Ok(1));
     assert_eq!(console.open(1, "/fares/now", 4), Ok(3));
-    assert_eq!(console.entry(1), [2, 4, 0, 1]);
-    assert_eq!(console.entry(2), [2, 3, 0, 2]);
+    assert_eq!(console.open_file(1), [2, 4, 0, 1]);
+    assert_eq!(console.open_file(2), [2, 3, 0, 2]);
 }

@@ -17,5 +17,5 @@ mod script_numbers;
 mod script_stops;
 mod scripts_by_chance;
 mod soundness;
-mod stamps;
 mod steps;
+mod versions;

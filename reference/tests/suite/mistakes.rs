@@ -12,15 +12,15 @@ fn a_slot_is_not_freed_while_a_descriptor_remains() {
     assert_eq!(console.unlink(1, "/fares/now"), Ok(0));
     assert_eq!(console.close(1, 0), Ok(0));
     assert_eq!(console.exit(3), Ok(0));
-    assert_eq!((console.kind(2), console.names(2)), (PLAIN, 0));
+    assert_eq!((console.kind(2), console.links(2)), (PLAIN, 0));
     assert_eq!(console.read(1, 1, 16), Ok(b"2.40\n".to_vec()));
     assert_eq!(console.close(1, 1), Ok(0));
-    assert_eq!((console.kind(2), console.stamp(2)), (FREE, 1));
+    assert_eq!((console.kind(2), console.version(2)), (FREE, 1));
     assert!(console.block(2).iter().all(|&byte| byte == 0));
 }
 
 #[test]
-fn another_entry_keeps_a_nameless_file() {
+fn another_open_file_keeps_a_nameless_file() {
     let mut console = Console::new();
     assert_eq!(console.open(1, "/fares/now", 1), Ok(0));
     assert_eq!(console.open(2, "/fares/now", 1), Ok(0));
@@ -42,7 +42,7 @@ fn user_0_does_not_pass_the_labels() {
 }
 
 #[test]
-fn a_cut_leaves_no_old_bytes() {
+fn truncating_leaves_no_old_bytes() {
     let mut console = Console::new();
     assert_eq!(console.open(1, "/fares/now", 11), Ok(0));
     assert_eq!(console.length(2), 0);
@@ -52,7 +52,7 @@ fn a_cut_leaves_no_old_bytes() {
 }
 
 #[test]
-fn the_position_is_shared_at_fork() {
+fn the_offset_is_shared_at_fork() {
     let mut console = Console::new();
     assert_eq!(console.open(2, "/fares/now", 1), Ok(0));
     assert_eq!(console.fork(2), Ok(3));
@@ -62,12 +62,12 @@ fn the_position_is_shared_at_fork() {
 }
 
 #[test]
-fn nothing_is_cut_without_a_free_descriptor() {
+fn nothing_is_truncated_without_a_free_descriptor() {
     let mut console = Console::new();
     for descriptor in 0..8 {
         assert_eq!(console.open(1, "/fares/now", 2), Ok(descriptor));
     }
     assert_eq!(console.open(1, "/fares/now", 10), no(13));
     assert_eq!(console.bytes(2), b"2.40\n");
-    assert_eq!(console.stamp(2), 0);
+    assert_eq!(console.version(2), 0);
 }

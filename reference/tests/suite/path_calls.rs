@@ -8,7 +8,7 @@ fn create_makes_an_empty_file_of_the_caller() {
     let mut console = Console::new();
     console.files[7 + 3] = 9; // the label of /fares
     console.policy[16 + 9] = 7;
-    console.set_stamp(4, 77);
+    console.set_version(4, 77);
     assert_eq!(console.create(1, "/fares/x", 6), Ok(4));
     assert_eq!(console.file(4), [PLAIN, 10, 6, 9, 0, 1, 77]);
     assert_eq!(console.stat(1, "/fares/x"), Ok(console.file(4)));
@@ -25,7 +25,7 @@ fn make_directory_makes_an_empty_directory() {
 }
 
 #[test]
-fn a_new_name_takes_the_lowest_empty_place() {
+fn a_new_name_takes_the_lowest_empty_entry() {
     let mut console = Console::new();
     assert_eq!(console.create(1, "/fares/a", 0), Ok(4));
     assert_eq!(console.create(1, "/fares/b", 0), Ok(5));
@@ -37,7 +37,7 @@ fn a_new_name_takes_the_lowest_empty_place() {
     );
     assert_eq!(&console.block(1)[16..18], b"a\0");
     assert_eq!(&console.block(1)[32..34], b"b\0");
-    assert_eq!(console.names(5), 2);
+    assert_eq!(console.links(5), 2);
 }
 
 #[test]
@@ -60,7 +60,7 @@ fn a_removed_directory_is_freed_at_once() {
     assert_eq!(console.file(4), [FREE, 0, 0, 0, 0, 0, 1]);
     assert_eq!(console.file(1), [DIRECTORY, 10, 5, 0, 1, 1, 2]);
     assert_eq!(console.create(1, "/fares/x", 0), Ok(4));
-    assert_eq!(console.stamp(4), 1);
+    assert_eq!(console.version(4), 1);
 }
 
 /// As many as all slots fill with 15 names in each.
@@ -70,7 +70,7 @@ const DIRECTORIES: [&str; 9] = [
 ];
 
 #[test]
-fn a_link_needs_a_place_and_no_slot() {
+fn a_link_needs_a_directory_entry_and_no_slot() {
     let mut console = Console::new();
     for slot in 4..SLOTS {
         let number = slot - 4;
@@ -86,7 +86,7 @@ fn a_link_needs_a_place_and_no_slot() {
     assert_eq!(console.link(1, "/fares/now", "/fares/a/x"), Ok(0));
     assert_eq!(console.link(1, "/fares/now", "/fares/a/x"), no(11));
     assert_eq!(console.link(1, "/fares/now", "/fares/y"), no(13));
-    assert_eq!(console.names(2), 2);
+    assert_eq!(console.links(2), 2);
 }
 
 #[test]
@@ -178,19 +178,19 @@ fn open_starts_at_0_and_keeps_the_mode_without_the_8() {
     for (mode, kept) in [(1, 1), (2, 2), (3, 3), (4, 4), (10, 2), (11, 3), (12, 4)] {
         let mut console = Console::new();
         assert_eq!(console.open(1, "/fares/now", mode), Ok(0));
-        assert_eq!(console.entry(0), [2, kept, 0, 1]);
+        assert_eq!(console.open_file(0), [2, kept, 0, 1]);
         let length = if mode > 8 { 0 } else { 5 };
         assert_eq!(console.length(2), length);
     }
 }
 
 #[test]
-fn a_cut_leaves_other_entries_positions() {
+fn truncating_leaves_other_open_files_offsets() {
     let mut console = Console::new();
     assert_eq!(console.open(2, "/fares/now", 1), Ok(0));
     assert_eq!(console.read(2, 0, 4).map(|bytes| bytes.len()), Ok(4));
     assert_eq!(console.open(1, "/fares/now", 10), Ok(0));
-    assert_eq!(console.entry(0), [2, 1, 4, 1]);
+    assert_eq!(console.open_file(0), [2, 1, 4, 1]);
     assert_eq!(console.read(2, 0, 4), Ok(vec![]));
 }
 

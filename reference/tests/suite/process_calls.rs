@@ -4,7 +4,7 @@ use crate::console::{Console, FREE};
 use crate::steps::no;
 
 #[test]
-fn a_child_has_the_same_user_label_and_entries() {
+fn a_child_has_the_same_user_label_and_open_files() {
     let mut console = Console::new();
     assert_eq!(console.open(1, "/fares/now", 3), Ok(0));
     assert_eq!(console.duplicate(1, 0), Ok(1));
@@ -13,8 +13,8 @@ fn a_child_has_the_same_user_label_and_entries() {
     assert_eq!(console.fork(1), Ok(3));
     assert_eq!(console.process(3), console.process(1));
     assert_eq!(console.process(3), [1, 10, 1, 0, 1, 2, 0, 0, 0, 0, 0]);
-    assert_eq!(console.entry(0), [2, 3, 0, 2]);
-    assert_eq!(console.entry(1), [3, 2, 0, 2]);
+    assert_eq!(console.open_file(0), [2, 3, 0, 2]);
+    assert_eq!(console.open_file(1), [3, 2, 0, 2]);
 }
 
 #[test]
@@ -46,12 +46,12 @@ fn exit_closes_all_and_frees_the_process() {
 }
 
 #[test]
-fn exit_leaves_a_childs_entries() {
+fn exit_leaves_a_childs_open_files() {
     let mut console = Console::new();
     assert_eq!(console.open(2, "/fares/now", 1), Ok(0));
     assert_eq!(console.fork(2), Ok(3));
     assert_eq!(console.exit(2), Ok(0));
-    assert_eq!(console.entry(0), [2, 1, 0, 1]);
+    assert_eq!(console.open_file(0), [2, 1, 0, 1]);
     assert_eq!(console.read(3, 0, 16), Ok(b"2.40\n".to_vec()));
 }
 

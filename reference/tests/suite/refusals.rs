@@ -268,7 +268,7 @@ fn refusal_12_for_a_directory_not_empty() {
 }
 
 #[test]
-fn refusal_13_for_want_of_an_entry() {
+fn refusal_13_for_want_of_an_open_file() {
     let mut console = Console::new();
     for process in [2, 3, 4, 5] {
         assert_eq!(console.fork(2), Ok(process + 1));
@@ -287,7 +287,7 @@ fn refusal_13_for_want_of_an_entry() {
 }
 
 #[test]
-fn refusal_13_for_want_of_a_place() {
+fn refusal_13_for_want_of_a_directory_entry() {
     let mut console = Console::new();
     for slot in 4..19 {
         assert_eq!(console.create(1, &format!("/fares/{slot}"), 0), Ok(slot));

@@ -28,7 +28,7 @@ fn the_example_of_the_paper() {
     };
     assert_eq!(replayed, expected);
     assert_eq!(answers, EXAMPLE_ANSWERS);
-    assert_eq!(console.entry(0), [2, 1, 5, 1]);
+    assert_eq!(console.open_file(0), [2, 1, 5, 1]);
     let blocks = [open(2, "/fares/now", 1), read(2, 16)];
     assert_eq!(script(&blocks), EXAMPLE);
 }
@@ -67,7 +67,7 @@ fn a_read_of_more_than_512_is_3_after_2_and_before_4() {
         assert_eq!(console.scripted(read(5, size)), lines(2, 0, b""));
         let not_held = read(2, size).descriptor(1);
         assert_eq!(console.scripted(not_held), lines(3, 0, b""));
-        assert_eq!(console.entry(0), [2, 1, 0, 1]);
+        assert_eq!(console.open_file(0), [2, 1, 0, 1]);
     }
     let mut console = Console::new();
     assert_eq!(console.scripted(read(2, 512)), lines(4, 0, b""));
@@ -110,7 +110,7 @@ fn the_widths_of_stat() {
     console.policy[16 + 15] = 7;
     console.set_bytes(2, &[7; 512]);
     console.files[7 * 2 + 4] = 0x0200;
-    console.set_stamp(2, 0x89ab_cdef);
+    console.set_version(2, 0x89ab_cdef);
     assert_eq!(
         console.scripted(block(1, 9).path("/fares/now")),
         "answer=0\nvalue=0\ndata=01feff040f00020100efcdab89\n"
@@ -149,7 +149,7 @@ fn the_other_calls_use_their_parts() {
 }
 
 #[test]
-fn refusals_have_value_0_no_bytes_and_no_stop_number() {
+fn refusals_have_value_0_no_data_and_no_stop_number() {
     let blocks = [
         open(2, "/fares/now", 2),
         open(0, "/key", 1),

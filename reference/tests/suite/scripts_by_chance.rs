@@ -28,13 +28,13 @@ fn scripted(request: Request, path: &str, data: &[u8]) -> Block {
 /// The lines that a direct call's answer has in a script.
 fn answer_lines(call: u8, answer: &Answer, buffer: &[u8]) -> String {
     let mut data = answer.name.clone();
-    if let Some([kind, owner, bits, label, length, names, stamp]) = answer.fields {
+    if let Some([kind, owner, bits, label, length, links, version]) = answer.fields {
         data.extend([kind as u8]);
         data.extend((owner as u16).to_le_bytes());
         data.extend([bits as u8, label as u8]);
         data.extend((length as u16).to_le_bytes());
-        data.extend((names as u16).to_le_bytes());
-        data.extend(stamp.to_le_bytes());
+        data.extend((links as u16).to_le_bytes());
+        data.extend(version.to_le_bytes());
     }
     if call == 11 {
         data.extend(&buffer[..answer.value as usize]);

@@ -3,7 +3,7 @@
 use crate::console::{Console, DIRECTORY, LAST_SLOT, PLAIN, SLOTS};
 
 /// A sound console with something of everything: /fares/d/x beside the rest,
-/// descriptors 0 and 1 of process 1 on entry 0, and a nameless open slot 6.
+/// descriptors 0 and 1 of process 1 on open file 0, and a nameless open slot 6.
 fn busy() -> Console {
     let mut console = Console::new();
     assert_eq!(console.make_directory(1, "/fares/d", 5), Ok(4));
@@ -21,8 +21,8 @@ const fn file(slot: usize, field: usize) -> usize {
     7 * slot + field
 }
 
-const fn byte(slot: usize, place: usize, at: usize) -> usize {
-    512 * slot + 16 * place + at
+const fn byte(slot: usize, dirent: usize, at: usize) -> usize {
+    512 * slot + 16 * dirent + at
 }
 
 /// Each change makes the busy console unsound, taken alone.
@@ -73,7 +73,7 @@ fn a_file_has_its_fields_in_range() {
 }
 
 #[test]
-fn a_free_record_is_zero_but_for_its_stamp() {
+fn a_free_record_is_zero_but_for_its_version() {
     unsound(&[
         |console| console.files[file(LAST_SLOT, 1)] = 1,
         |console| console.files[file(LAST_SLOT, 2)] = 1,
@@ -85,7 +85,7 @@ fn a_free_record_is_zero_but_for_its_stamp() {
 }
 
 #[test]
-fn an_entry_has_its_fields_in_range() {
+fn an_open_file_has_its_fields_in_range() {
     unsound(&[
         |console| console.open_files[0] = SLOTS as u32,
         |console| console.open_files[0] = u32::MAX,
@@ -101,7 +101,7 @@ fn an_entry_has_its_fields_in_range() {
 }
 
 #[test]
-fn a_free_entry_is_all_zero() {
+fn a_free_open_file_is_all_zero() {
     unsound(&[
         |console| console.open_files[4 * 31] = 2,
         |console| console.open_files[4 * 31 + 1] = 1,
@@ -159,11 +159,11 @@ fn the_root_is_a_directory_with_no_name() {
     unsound(&[
         |console| console.files[file(0, 5)] = 1,
         |console| {
-            console.set_place(4, 1, b"root", 0);
+            console.set_dirent(4, 1, b"root", 0);
             console.files[file(4, 4)] = 2;
         },
         |console| {
-            console.set_place(4, 1, b"root", 0);
+            console.set_dirent(4, 1, b"root", 0);
             console.files[file(4, 4)] = 2;
             console.files[file(0, 5)] = 1;
         },
@@ -179,12 +179,12 @@ fn the_root_is_a_directory_with_no_name() {
 fn every_other_directory_is_named_exactly_once() {
     unsound(&[
         |console| {
-            console.set_place(0, 2, b"again", 4);
+            console.set_dirent(0, 2, b"again", 4);
             console.files[file(0, 4)] = 3;
             console.files[file(4, 5)] = 2;
         },
         |console| {
-            console.set_place(1, 3, b"again", 4);
+            console.set_dirent(1, 3, b"again", 4);
             console.files[file(1, 4)] = 3;
             console.files[file(4, 5)] = 2;
         },
@@ -192,7 +192,7 @@ fn every_other_directory_is_named_exactly_once() {
     ]);
     // A plain file may have several names.
     still_sound(&[|console| {
-        console.set_place(0, 2, b"again", 2);
+        console.set_dirent(0, 2, b"again", 2);
         console.files[file(0, 4)] = 3;
         console.files[file(2, 5)] = 2;
     }]);
@@ -202,7 +202,7 @@ fn every_other_directory_is_named_exactly_once() {
 fn chain(depth: usize) -> Console {
     let mut console = Console::empty();
     for slot in 1..=depth {
-        console.set_place(slot - 1, 0, b"d", slot as u8);
+        console.set_dirent(slot - 1, 0, b"d", slot as u8);
         console.files[file(slot - 1, 4)] = 1;
         console.set_file(slot, [DIRECTORY, 0, 0, 0, 0, 1, 0]);
     }
@@ -222,7 +222,7 @@ fn a_directory_is_at_most_8_names_deep() {
 #[test]
 fn a_plain_file_may_lie_in_the_deepest_directory() {
     let mut console = chain(8);
-    console.set_place(8, 0, b"x", 9);
+    console.set_dirent(8, 0, b"x", 9);
     console.files[file(8, 4)] = 1;
     console.set_file(9, [PLAIN, 0, 0, 0, 0, 1, 0]);
     assert!(console.is_sound());
@@ -234,14 +234,14 @@ fn every_directory_is_reached_from_the_root() {
         |console| {
             // One that names itself.
             console.set_file(20, [DIRECTORY, 0, 0, 0, 1, 1, 0]);
-            console.set_place(20, 0, b"me", 20);
+            console.set_dirent(20, 0, b"me", 20);
         },
         |console| {
             // Two that name each other.
             console.set_file(20, [DIRECTORY, 0, 0, 0, 1, 1, 0]);
             console.set_file(21, [DIRECTORY, 0, 0, 0, 1, 1, 0]);
-            console.set_place(20, 0, b"you", 21);
-            console.set_place(21, 0, b"you", 20);
+            console.set_dirent(20, 0, b"you", 21);
+            console.set_dirent(21, 0, b"you", 20);
         },
     ]);
 }
@@ -249,50 +249,50 @@ fn every_directory_is_reached_from_the_root() {
 #[test]
 fn names_are_valid() {
     unsound(&[
-        |console| console.set_place(1, 0, b".", 2),
-        |console| console.set_place(1, 0, b"..", 2),
-        |console| console.set_place(1, 0, b"n/w", 2),
-        |console| console.set_place(1, 0, b"/", 2),
-        |console| console.set_place(1, 0, b"", 2),
-        |console| console.set_place(1, 0, b"n\0w", 2),
-        |console| console.set_place(1, 0, b"\0now", 2),
+        |console| console.set_dirent(1, 0, b".", 2),
+        |console| console.set_dirent(1, 0, b"..", 2),
+        |console| console.set_dirent(1, 0, b"n/w", 2),
+        |console| console.set_dirent(1, 0, b"/", 2),
+        |console| console.set_dirent(1, 0, b"", 2),
+        |console| console.set_dirent(1, 0, b"n\0w", 2),
+        |console| console.set_dirent(1, 0, b"\0now", 2),
     ]);
     still_sound(&[
-        |console| console.set_place(1, 0, b"...", 2),
-        |console| console.set_place(1, 0, b"12345678901234", 2),
-        |console| console.set_place(1, 0, b"\xff\x01", 2),
+        |console| console.set_dirent(1, 0, b"...", 2),
+        |console| console.set_dirent(1, 0, b"12345678901234", 2),
+        |console| console.set_dirent(1, 0, b"\xff\x01", 2),
     ]);
 }
 
 #[test]
 fn names_are_different_within_a_directory() {
     unsound(&[
-        |console| console.set_place(0, 1, b"fares", 3),
+        |console| console.set_dirent(0, 1, b"fares", 3),
         |console| {
-            console.set_place(0, 15, b"key", 2);
+            console.set_dirent(0, 15, b"key", 2);
             console.files[file(0, 4)] = 3;
             console.files[file(2, 5)] = 2;
         },
     ]);
-    still_sound(&[|console| console.set_place(4, 0, b"now", 5)]);
+    still_sound(&[|console| console.set_dirent(4, 0, b"now", 5)]);
 }
 
 #[test]
-fn each_place_names_a_slot_in_use() {
+fn each_directory_entry_names_a_slot_in_use() {
     unsound(&[
         |console| console.contents[byte(0, 1, 14)] = 20,
         |console| console.contents[byte(0, 1, 14)] = SLOTS as u8,
         |console| console.contents[byte(0, 1, 14)] = 255,
         |console| console.contents[byte(0, 1, 14)] = 0,
         |console| {
-            console.set_place(0, 2, b"x", 20);
+            console.set_dirent(0, 2, b"x", 20);
             console.files[file(0, 4)] = 3;
         },
     ]);
 }
 
 #[test]
-fn names_equal_the_places_counted() {
+fn links_equal_the_directory_entries_counted() {
     unsound(&[
         |console| console.files[file(2, 5)] = 2,
         |console| console.files[file(2, 5)] = 0,
@@ -320,7 +320,7 @@ fn each_plain_file_is_named_or_open() {
     unsound(&[
         |console| console.set_file(20, [PLAIN, 0, 0, 0, 0, 0, 0]),
         |console| {
-            // The entry of the nameless file, and its descriptor, taken away.
+            // The open file of the nameless one, and its descriptor, taken away.
             console.open_files[4..8].fill(0);
             console.processes[11 + 5] = 0;
         },
@@ -328,7 +328,7 @@ fn each_plain_file_is_named_or_open() {
 }
 
 #[test]
-fn open_entries_are_only_on_plain_files() {
+fn open_files_are_only_plain_ones() {
     unsound(&[
         |console| console.open_files[0] = 0,
         |console| console.open_files[0] = 1,
@@ -364,11 +364,11 @@ fn the_zero_bytes_are_zero() {
         |console| console.contents[512 * LAST_SLOT] = 1, // in a free slot
         |console| console.contents[512 * LAST_SLOT + 511] = 1,
         |console| console.contents[byte(0, 0, 13)] = 1, // in a name's padding
-        |console| console.contents[byte(0, 0, 15)] = 1, // after a place's slot
-        |console| console.contents[byte(0, 5, 0)] = 1,  // in an empty place
+        |console| console.contents[byte(0, 0, 15)] = 1, // after an entry's slot
+        |console| console.contents[byte(0, 5, 0)] = 1,  // in an empty entry
         |console| console.contents[byte(0, 5, 14)] = 2,
         |console| console.contents[byte(0, 5, 15)] = 1,
-        |console| console.contents[byte(0, 16, 0)] = 1, // after the last place
+        |console| console.contents[byte(0, 16, 0)] = 1, // after the last entry
         |console| console.contents[byte(0, 31, 15)] = 1,
     ]);
     still_sound(&[|console| console.contents[512 * 2 + 4] = 0]);

@@ -113,12 +113,12 @@ impl Console {
         })
     }
 
-    pub fn write(&mut self, process: u8, descriptor: u8, bytes: &[u8]) -> Outcome {
+    pub fn write(&mut self, process: u8, descriptor: u8, data: &[u8]) -> Outcome {
         let request = Request {
             descriptor,
             ..request(process, 12)
         };
-        outcome(&self.call(request, b"", bytes, &mut []))
+        outcome(&self.call(request, b"", data, &mut []))
     }
 
     pub fn seek(&mut self, process: u8, descriptor: u8, position: u16) -> Outcome {

@@ -225,7 +225,7 @@ impl Comparison {
             let defect = &self.defects[number];
             if (defect.make)(&mut self.before, &mut self.chance).is_some() {
                 self.tally.defects[number] += 1;
-                return format!("{}: {}", defect.clause, defect.name);
+                return format!("\"{}\": {}", defect.clause, defect.name);
             }
             self.before.clone_from(&sound);
             number = self.chance.below(self.defects.len());

@@ -32,7 +32,7 @@ fn differing_word<T: PartialEq + std::fmt::Debug>(
         None => "nothing".into(),
     };
     Some(format!(
-        "{table}, record {record}, place {column}: {} and {}",
+        "{table}, record {record}, column {column}: {} and {}",
         word(ours),
         word(theirs)
     ))

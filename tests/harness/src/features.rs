@@ -10,11 +10,11 @@ const FEATURES: [(&str, Test); 9] = [
     ("a directory 8 names deep", eight_deep),
     ("a directory with 16 names", full_directory),
     ("no free slot", no_free_slot),
-    ("no free open entry", no_free_entry),
+    ("no free open file", no_free_open_file),
     ("no free process", no_free_process),
-    ("an open entry with several references", shared_entry),
+    ("an open file with several references", shared_open_file),
     ("an open file without a name", unnamed),
-    ("a stamp at the wrap", at_wrap),
+    ("a version at the wrap", at_wrap),
     ("a transition", has_transition),
 ];
 
@@ -39,7 +39,7 @@ impl Features {
 fn eight_deep(tables: &Tables) -> bool {
     tree::nodes(tables)
         .iter()
-        .any(|node| node.depth == DEEPEST && tables.is_kind(node.slot, DIRECTORY))
+        .any(|node| node.depth == NAMES && tables.is_kind(node.slot, DIRECTORY))
 }
 
 fn full_directory(tables: &Tables) -> bool {
@@ -51,16 +51,16 @@ fn no_free_slot(tables: &Tables) -> bool {
     (0..SLOTS).all(|slot| !tables.is_kind(slot, FREE))
 }
 
-fn no_free_entry(tables: &Tables) -> bool {
-    (0..OPEN_FILES).all(|entry| tables.open_file(entry)[REFERENCES] > 0)
+fn no_free_open_file(tables: &Tables) -> bool {
+    (0..OPEN_FILES).all(|open_file| tables.open_file(open_file)[REFERENCES] > 0)
 }
 
 fn no_free_process(tables: &Tables) -> bool {
     (0..PROCESSES).all(|process| tables.process(process)[USED] == 1)
 }
 
-fn shared_entry(tables: &Tables) -> bool {
-    (0..OPEN_FILES).any(|entry| tables.open_file(entry)[REFERENCES] > 1)
+fn shared_open_file(tables: &Tables) -> bool {
+    (0..OPEN_FILES).any(|open_file| tables.open_file(open_file)[REFERENCES] > 1)
 }
 
 fn unnamed(tables: &Tables) -> bool {

@@ -94,11 +94,11 @@ fn hide(tables: &mut Tables, slot: usize, chance: &mut Chance) {
             tables.policy[LABELS * label + file_label] &= !(READ as u8);
         }
     }
-    for entry in 0..OPEN_FILES {
-        let on_slot = tables.open_file(entry)[REFERENCES] > 0
-            && tables.open_file(entry)[SLOT] as usize == slot;
-        if on_slot && matches!(tables.open_file(entry)[MODE], 1 | 3) {
-            tables.open_file_mut(entry)[MODE] = chance.pick(&[2, 4]);
+    for open_file in 0..OPEN_FILES {
+        let on_slot = tables.open_file(open_file)[REFERENCES] > 0
+            && tables.open_file(open_file)[SLOT] as usize == slot;
+        if on_slot && matches!(tables.open_file(open_file)[MODE], 1 | 3) {
+            tables.open_file_mut(open_file)[MODE] = chance.pick(&[2, 4]);
         }
     }
 }

@@ -96,7 +96,7 @@ impl Tally {
     fn print_defects(&self, defects: &[Defect]) {
         println!("\nstores made unsound by one defect");
         for (defect, tried) in defects.iter().zip(&self.defects) {
-            println!("{tried:>7}  {}: {}", defect.clause, defect.name);
+            println!("{tried:>7}  \"{}\": {}", defect.clause, defect.name);
         }
         for (table, tried) in sizes::TABLES.iter().zip(&self.sizes) {
             println!("{tried:>7}  another size: {table}");

@@ -29,9 +29,9 @@ pub fn nodes(tables: &Tables) -> Vec<Node> {
         if !tables.is_kind(node.slot, DIRECTORY) {
             continue;
         }
-        for place in 0..DIRENTS {
-            if tables.dirent_slot(node.slot, place) != 0 {
-                nodes.push(below(tables, &node, place));
+        for dirent in 0..DIRENTS {
+            if tables.dirent_slot(node.slot, dirent) != 0 {
+                nodes.push(below(tables, &node, dirent));
             }
         }
     }
@@ -39,12 +39,12 @@ pub fn nodes(tables: &Tables) -> Vec<Node> {
     nodes
 }
 
-fn below(tables: &Tables, node: &Node, place: usize) -> Node {
+fn below(tables: &Tables, node: &Node, dirent: usize) -> Node {
     let mut path = node.path.clone();
     path.push(b'/');
-    path.extend(tables.dirent_name(node.slot, place));
+    path.extend(tables.dirent_name(node.slot, dirent));
     Node {
-        slot: tables.dirent_slot(node.slot, place),
+        slot: tables.dirent_slot(node.slot, dirent),
         parent: node.slot,
         depth: node.depth + 1,
         path,

@@ -2,6 +2,7 @@
 
 use reference::Answer;
 
+/// As the console writes them.
 const FIELDS: [&str; 7] = ["kind", "owner", "bits", "label", "length", "names", "stamp"];
 
 /// Bytes, with `\xNN` for those that are not printed as they are.

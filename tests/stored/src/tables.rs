@@ -1,8 +1,6 @@
 //! Tables as the programs of the gate start with them, and a call on them by the second program.
 
-pub use mritvelja::layout::{
-    BLOCK, FILE_WIDTH as FILE, LABELS, OPEN_FILE_WIDTH as OPEN, PROCESS_WIDTH as PROCESS,
-};
+pub use mritvelja::layout::{BLOCK, FILE_WIDTH, LABELS, OPEN_FILE_WIDTH, PROCESS_WIDTH};
 use mritvelja::layout::{
     CONTENTS_SIZE, FILES_SIZE, NO_TRANSITION, OPEN_FILES_SIZE, POLICY_SIZE, PROCESSES_SIZE,
     RIGHTS_SIZE,

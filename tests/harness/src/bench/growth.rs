@@ -4,7 +4,7 @@ use super::mix::*;
 use super::stores::*;
 use super::timing::side_by_side;
 use crate::programs::{reference_sound, store_sound};
-use mritvelja::layout::{DEEPEST, SLOTS};
+use mritvelja::layout::{NAMES, SLOTS};
 
 const TURNS: usize = 500;
 
@@ -32,7 +32,7 @@ pub fn print_by_depth() {
     println!("\n## By the depth of the path, without the soundness test\n");
     println!("| names | stat, store | stat, reference | open and close, store | open and close, reference |");
     println!("|---:|---:|---:|---:|---:|");
-    for depth in 1..=DEEPEST {
+    for depth in 1..=NAMES {
         let (start, path) = chain(depth);
         let stats = [repeat(start.clone(), &[stat(&path)], TURNS)];
         let [open, _, _, close] = cycle(&path);

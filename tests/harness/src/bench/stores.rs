@@ -18,16 +18,16 @@ fn open_store() -> Tables {
     tables
 }
 
-fn add_file(tables: &mut Tables, directory: usize, place: usize, name: &[u8], slot: usize) {
+fn add_file(tables: &mut Tables, directory: usize, dirent: usize, name: &[u8], slot: usize) {
     let length = FILE_BYTES as u32;
     *tables.file_mut(slot) = [PLAIN, 0, 7, 0, length, 0, 0];
     tables.block_mut(slot)[..FILE_BYTES].fill(7);
-    add_name(tables, directory, place, name, slot);
+    add_name(tables, directory, dirent, name, slot);
 }
 
-fn add_directory(tables: &mut Tables, parent: usize, place: usize, name: &[u8], slot: usize) {
+fn add_directory(tables: &mut Tables, parent: usize, dirent: usize, name: &[u8], slot: usize) {
     *tables.file_mut(slot) = [DIRECTORY, 0, 7, 0, 0, 0, 0];
-    add_name(tables, parent, place, name, slot);
+    add_name(tables, parent, dirent, name, slot);
 }
 
 pub fn file_name(number: usize) -> String {
@@ -51,7 +51,7 @@ pub fn one_directory(files: usize) -> Tables {
 }
 
 /// A store with so many slots in use beside the root: the file /f00 in the
-/// root's last used place, then directories of files where the root is full.
+/// root's last used entry, then directories of files where the root is full.
 pub fn sized(slots: usize) -> Tables {
     let mut tables = open_store();
     let directories = slots.saturating_sub(DIRENTS).div_ceil(DIRENTS + 1);
@@ -62,14 +62,14 @@ pub fn sized(slots: usize) -> Tables {
     }
     for number in 0..in_root {
         let name = file_name(in_root - 1 - number);
-        let place = directories + number;
-        add_file(&mut tables, 0, place, name.as_bytes(), 1 + place);
+        let dirent = directories + number;
+        add_file(&mut tables, 0, dirent, name.as_bytes(), 1 + dirent);
     }
     for slot in 1 + directories + in_root..=slots {
         let number = slot - 1 - directories - in_root;
         let name = file_name(number);
-        let (directory, place) = (1 + number / DIRENTS, number % DIRENTS);
-        add_file(&mut tables, directory, place, name.as_bytes(), slot);
+        let (directory, dirent) = (1 + number / DIRENTS, number % DIRENTS);
+        add_file(&mut tables, directory, dirent, name.as_bytes(), slot);
     }
     tables
 }

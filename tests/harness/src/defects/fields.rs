@@ -1,4 +1,4 @@
-//! "All fields in range"; free records, entries and processes are zero.
+//! "All fields in range"; free records, open files and processes are zero.
 
 use super::pick::*;
 use super::Break;
@@ -9,7 +9,7 @@ use mritvelja::Tables;
 const RANGE: &str = "all fields in range";
 const FREE_ZERO: &str = "free ones are zero";
 
-pub const FIELDS: &[(&str, &str, Break)] = &[
+pub const DEFECTS: &[(&str, &str, Break)] = &[
     (RANGE, "kind over 2", kind),
     (RANGE, "owner over 65,535", owner),
     (RANGE, "bits over 7", bits),
@@ -17,7 +17,7 @@ pub const FIELDS: &[(&str, &str, Break)] = &[
     (RANGE, "open slot past the last", open_slot),
     (RANGE, "mode 0", mode_zero),
     (RANGE, "mode over 4", mode_over),
-    (RANGE, "position over 512", position),
+    (RANGE, "offset over 512", offset),
     (RANGE, "in-use mark over 1", used_mark),
     (RANGE, "user over 65,535", user),
     (RANGE, "process label over 15", process_label),
@@ -29,7 +29,7 @@ pub const FIELDS: &[(&str, &str, Break)] = &[
         policy_transition,
     ),
     (FREE_ZERO, "free record with a field", free_record),
-    (FREE_ZERO, "free entry with a field", free_entry),
+    (FREE_ZERO, "free open file with a field", free_open_file),
     (FREE_ZERO, "free process with user or label", free_process),
     (
         FREE_ZERO,
@@ -65,23 +65,23 @@ fn file_label(tables: &mut Tables, chance: &mut Chance) -> Option<()> {
 }
 
 fn open_field(tables: &mut Tables, chance: &mut Chance, column: usize, highest: u32) -> Option<()> {
-    let entry = open_file(tables, chance, true)?;
+    let open_file = open_file(tables, chance, true)?;
     let word = over(chance, highest);
-    tables.open_file_mut(entry)[column] = word;
+    tables.open_file_mut(open_file)[column] = word;
     Some(())
 }
 
-/// The entry is a new one, so that no file loses what keeps it.
+/// The open file is a new one, so that no file loses what keeps it.
 fn open_slot(tables: &mut Tables, chance: &mut Chance) -> Option<()> {
-    let entry = open_by_someone(tables, chance, 0)?;
+    let open_file = open_by_someone(tables, chance, 0)?;
     let word = over(chance, SLOTS as u32 - 1);
-    tables.open_file_mut(entry)[SLOT] = word;
+    tables.open_file_mut(open_file)[SLOT] = word;
     Some(())
 }
 
 fn mode_zero(tables: &mut Tables, chance: &mut Chance) -> Option<()> {
-    let entry = open_file(tables, chance, true)?;
-    tables.open_file_mut(entry)[MODE] = 0;
+    let open_file = open_file(tables, chance, true)?;
+    tables.open_file_mut(open_file)[MODE] = 0;
     Some(())
 }
 
@@ -89,7 +89,7 @@ fn mode_over(tables: &mut Tables, chance: &mut Chance) -> Option<()> {
     open_field(tables, chance, MODE, 4)
 }
 
-fn position(tables: &mut Tables, chance: &mut Chance) -> Option<()> {
+fn offset(tables: &mut Tables, chance: &mut Chance) -> Option<()> {
     open_field(tables, chance, OFFSET, BLOCK as u32)
 }
 
@@ -141,11 +141,11 @@ fn free_record(tables: &mut Tables, chance: &mut Chance) -> Option<()> {
     Some(())
 }
 
-fn free_entry(tables: &mut Tables, chance: &mut Chance) -> Option<()> {
-    let entry = open_file(tables, chance, false)?;
+fn free_open_file(tables: &mut Tables, chance: &mut Chance) -> Option<()> {
+    let open_file = open_file(tables, chance, false)?;
     let column = chance.pick(&[SLOT, MODE, OFFSET]);
     let word = chance.pick(&[1, 2, SLOTS as u32 - 1, 512, u32::MAX]);
-    tables.open_file_mut(entry)[column] = word;
+    tables.open_file_mut(open_file)[column] = word;
     Some(())
 }
 
@@ -159,9 +159,9 @@ fn free_process(tables: &mut Tables, chance: &mut Chance) -> Option<()> {
 /// The reference is counted, so that only the free process is wrong.
 fn free_process_holds(tables: &mut Tables, chance: &mut Chance) -> Option<()> {
     let process = process(tables, chance, false)?;
-    let entry = open_file(tables, chance, true)?;
-    let references = tables.open_file(entry)[REFERENCES];
-    tables.descriptors_mut(process)[chance.below(DESCRIPTORS)] = entry as u32 + 1;
-    tables.open_file_mut(entry)[REFERENCES] = references + 1;
+    let open_file = open_file(tables, chance, true)?;
+    let references = tables.open_file(open_file)[REFERENCES];
+    tables.descriptors_mut(process)[chance.below(DESCRIPTORS)] = open_file as u32 + 1;
+    tables.open_file_mut(open_file)[REFERENCES] = references + 1;
     Some(())
 }

@@ -2,7 +2,7 @@
 
 mod fields;
 mod names;
-mod opens;
+mod open_files;
 mod pick;
 mod zeros;
 
@@ -14,6 +14,7 @@ use mritvelja::Tables;
 pub type Break = fn(&mut Tables, &mut Chance) -> Option<()>;
 
 pub struct Defect {
+    /// The clause of "Sound" that it breaks, short and in the paper's words.
     pub clause: &'static str,
     pub name: &'static str,
     pub make: Break,
@@ -21,7 +22,12 @@ pub struct Defect {
 
 /// The defects of all clauses, in the paper's order.
 pub fn all() -> Vec<Defect> {
-    let groups = [fields::FIELDS, names::NAMES, opens::OPENS, zeros::ZEROS];
+    let groups = [
+        fields::DEFECTS,
+        names::DEFECTS,
+        open_files::DEFECTS,
+        zeros::DEFECTS,
+    ];
     groups
         .into_iter()
         .flatten()

@@ -1,4 +1,4 @@
-//! The clauses on the root, directories, names and counts of names.
+//! The clauses on the root, directories, names and links.
 
 use super::pick::*;
 use super::Break;
@@ -18,10 +18,10 @@ const IN_USE: &str = "each place naming a slot in use other than 0";
 const COUNTED: &str = "names equal to the places counted";
 const LENGTHS: &str = "lengths";
 
-pub const NAMES: &[(&str, &str, Break)] = &[
+pub const DEFECTS: &[(&str, &str, Break)] = &[
     (ROOT, "root plain and open", root_plain),
     (ROOT, "root free", root_free),
-    (ROOT, "root with a count of names", root_named),
+    (ROOT, "root with links", root_named),
     (ONCE, "directory named twice", named_twice),
     (ONCE, "directory not named", not_named),
     (DEEP, "directory 9 names deep", nine_deep),
@@ -36,11 +36,15 @@ pub const NAMES: &[(&str, &str, Break)] = &[
     (VALID, "slot with no name", no_name),
     (VALID, "byte after a name's end", byte_after_end),
     (DIFFERENT, "one name twice", same_name),
-    (IN_USE, "place names a free slot", names_free),
-    (IN_USE, "place names a slot past the last", names_outside),
-    (IN_USE, "place names slot 0", names_root),
-    (COUNTED, "count of names too high", links_high),
-    (COUNTED, "count of names too low", links_low),
+    (IN_USE, "directory entry names a free slot", names_free),
+    (
+        IN_USE,
+        "directory entry names a slot past the last",
+        names_outside,
+    ),
+    (IN_USE, "directory entry names slot 0", names_root),
+    (COUNTED, "links too high", links_high),
+    (COUNTED, "links too low", links_low),
     (LENGTHS, "plain file over 512 bytes", plain_length),
     (LENGTHS, "directory's length wrong", directory_length),
 ];
@@ -69,9 +73,9 @@ fn root_named(tables: &mut Tables, _: &mut Chance) -> Option<()> {
 
 fn named_twice(tables: &mut Tables, chance: &mut Chance) -> Option<()> {
     let slot = subdirectory(tables, chance)?;
-    let (directory, place) = dirent(tables, chance, false)?;
+    let (directory, dirent) = dirent(tables, chance, false)?;
     let name = fresh_name(tables, directory);
-    add_name(tables, directory, place, &name, slot);
+    add_name(tables, directory, dirent, &name, slot);
     Some(())
 }
 
@@ -89,13 +93,13 @@ fn nine_deep(tables: &mut Tables, chance: &mut Chance) -> Option<()> {
     let roomy = directories.filter(|node| tables.file(node.slot)[LENGTH] < DIRENTS as u32);
     let deepest = roomy.max_by_key(|node| node.depth)?;
     let (mut parent, mut depth) = (deepest.slot, deepest.depth);
-    while depth <= DEEPEST {
+    while depth <= NAMES {
         let slot = slot_of(tables, chance, FREE)?;
-        let empty = |place| tables.dirent_slot(parent, place) == 0;
-        let place = chance.pick_where(DIRENTS, empty)?;
+        let empty = |dirent| tables.dirent_slot(parent, dirent) == 0;
+        let dirent = chance.pick_where(DIRENTS, empty)?;
         let name = fresh_name(tables, parent);
         tables.file_mut(slot)[KIND] = DIRECTORY;
-        add_name(tables, parent, place, &name, slot);
+        add_name(tables, parent, dirent, &name, slot);
         (parent, depth) = (slot, depth + 1);
     }
     Some(())
@@ -118,11 +122,11 @@ fn names_each_other(tables: &mut Tables, chance: &mut Chance) -> Option<()> {
     Some(())
 }
 
-/// Another name for what a place names, the counts staying right.
+/// Another name for what a directory entry names, the counts staying right.
 fn rename(tables: &mut Tables, chance: &mut Chance, name: &[u8]) -> Option<()> {
-    let (directory, place) = dirent(tables, chance, true)?;
-    let slot = tables.dirent_slot(directory, place);
-    tables.set_dirent(directory, place, name, slot);
+    let (directory, dirent) = dirent(tables, chance, true)?;
+    let slot = tables.dirent_slot(directory, dirent);
+    tables.set_dirent(directory, dirent, name, slot);
     Some(())
 }
 
@@ -152,9 +156,9 @@ fn byte_after_end(tables: &mut Tables, chance: &mut Chance) -> Option<()> {
 fn same_name(tables: &mut Tables, chance: &mut Chance) -> Option<()> {
     let two_names = |slot| tables.is_kind(slot, DIRECTORY) && tables.file(slot)[LENGTH] > 1;
     let directory = chance.pick_where(SLOTS, two_names)?;
-    let named = |place| tables.dirent_slot(directory, place) != 0;
+    let named = |dirent| tables.dirent_slot(directory, dirent) != 0;
     let one = chance.pick_where(DIRENTS, named)?;
-    let other = chance.pick_where(DIRENTS, |place| place != one && named(place))?;
+    let other = chance.pick_where(DIRENTS, |dirent| dirent != one && named(dirent))?;
     let name = tables.dirent_name(directory, one).to_vec();
     let slot = tables.dirent_slot(directory, other);
     tables.set_dirent(directory, other, &name, slot);
@@ -163,9 +167,9 @@ fn same_name(tables: &mut Tables, chance: &mut Chance) -> Option<()> {
 
 /// A new name for any number, the directory's length right.
 fn name_number(tables: &mut Tables, chance: &mut Chance, number: usize) -> Option<()> {
-    let (directory, place) = dirent(tables, chance, false)?;
+    let (directory, dirent) = dirent(tables, chance, false)?;
     let name = fresh_name(tables, directory);
-    tables.set_dirent(directory, place, &name, number);
+    tables.set_dirent(directory, dirent, &name, number);
     add_to_file(tables, directory, LENGTH, 1);
     Some(())
 }

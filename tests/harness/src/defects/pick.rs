@@ -18,15 +18,15 @@ pub fn slot_in_use(tables: &Tables, chance: &mut Chance) -> Option<usize> {
     chance.pick_where(SLOTS, |slot| !tables.is_kind(slot, FREE))
 }
 
-/// A place of a directory that names something, or one that is empty.
+/// An entry of a directory that names something, or one that is empty.
 pub fn dirent(tables: &Tables, chance: &mut Chance, used: bool) -> Option<(usize, usize)> {
-    let holds = |slot: usize, place: usize| (tables.dirent_slot(slot, place) != 0) == used;
+    let holds = |slot: usize, dirent: usize| (tables.dirent_slot(slot, dirent) != 0) == used;
     let fit = |slot: usize| {
-        tables.is_kind(slot, DIRECTORY) && (0..DIRENTS).any(|place| holds(slot, place))
+        tables.is_kind(slot, DIRECTORY) && (0..DIRENTS).any(|dirent| holds(slot, dirent))
     };
     let directory = chance.pick_where(SLOTS, fit)?;
-    let place = chance.pick_where(DIRENTS, |place| holds(directory, place))?;
-    Some((directory, place))
+    let dirent = chance.pick_where(DIRENTS, |dirent| holds(directory, dirent))?;
+    Some((directory, dirent))
 }
 
 /// A name that the directory does not have.
@@ -38,8 +38,8 @@ pub fn fresh_name(tables: &Tables, directory: usize) -> Vec<u8> {
 }
 
 pub fn open_file(tables: &Tables, chance: &mut Chance, used: bool) -> Option<usize> {
-    chance.pick_where(OPEN_FILES, |entry| {
-        (tables.open_file(entry)[REFERENCES] > 0) == used
+    chance.pick_where(OPEN_FILES, |open_file| {
+        (tables.open_file(open_file)[REFERENCES] > 0) == used
     })
 }
 
@@ -61,15 +61,15 @@ pub fn free_descriptor(tables: &Tables, chance: &mut Chance) -> Option<(usize, u
     Some((process, descriptor))
 }
 
-/// Opens a slot in an entry and descriptor that are free, counts right.
+/// Opens a slot in an open file and descriptor that are free, counts right.
 pub fn open_by_someone(tables: &mut Tables, chance: &mut Chance, slot: usize) -> Option<usize> {
-    let entry = open_file(tables, chance, false)?;
+    let open_file = open_file(tables, chance, false)?;
     let (process, descriptor) = free_descriptor(tables, chance)?;
-    tables.descriptors_mut(process)[descriptor] = entry as u32 + 1;
-    tables.open_file_mut(entry)[SLOT] = slot as u32;
-    tables.open_file_mut(entry)[MODE] = 1;
-    tables.open_file_mut(entry)[REFERENCES] = 1;
-    Some(entry)
+    tables.descriptors_mut(process)[descriptor] = open_file as u32 + 1;
+    tables.open_file_mut(open_file)[SLOT] = slot as u32;
+    tables.open_file_mut(open_file)[MODE] = 1;
+    tables.open_file_mut(open_file)[REFERENCES] = 1;
+    Some(open_file)
 }
 
 /// A word over the limit: just over it, far over it, or wrapping in 8 or 16 bits.

@@ -8,13 +8,13 @@ use mritvelja::Tables;
 
 const ZERO: &str = "the zero bytes";
 
-pub const ZEROS: &[(&str, &str, Break)] = &[
+pub const DEFECTS: &[(&str, &str, Break)] = &[
     (ZERO, "byte past a plain file's length", past_length),
     (ZERO, "byte in a free slot", in_free),
     (ZERO, "byte in the last 256 of a directory", last_half),
     (ZERO, "byte in a name's padding", in_padding),
-    (ZERO, "byte after a place's slot", after_slot),
-    (ZERO, "byte in an empty place", in_empty),
+    (ZERO, "byte after a directory entry's slot", after_slot),
+    (ZERO, "byte in an empty directory entry", in_empty),
 ];
 
 /// Sets one of the bytes from `start` on to something else than 0.
@@ -46,21 +46,21 @@ fn last_half(tables: &mut Tables, chance: &mut Chance) -> Option<()> {
 
 /// Further than one byte from the name's end: one further is a longer name.
 fn in_padding(tables: &mut Tables, chance: &mut Chance) -> Option<()> {
-    let (directory, place) = dirent(tables, chance, true)?;
-    let end = tables.dirent_name(directory, place).len();
-    let padding = &mut tables.dirent_mut(directory, place)[..NAME];
+    let (directory, dirent) = dirent(tables, chance, true)?;
+    let end = tables.dirent_name(directory, dirent).len();
+    let padding = &mut tables.dirent_mut(directory, dirent)[..NAME];
     spoil(padding, end + 1, chance)
 }
 
 fn after_slot(tables: &mut Tables, chance: &mut Chance) -> Option<()> {
-    let (directory, place) = dirent(tables, chance, true)?;
-    spoil(tables.dirent_mut(directory, place), NAME + 1, chance)
+    let (directory, dirent) = dirent(tables, chance, true)?;
+    spoil(tables.dirent_mut(directory, dirent), NAME + 1, chance)
 }
 
-/// Not its slot: with one the place would not be empty.
+/// Not its slot: with one the entry would not be empty.
 fn in_empty(tables: &mut Tables, chance: &mut Chance) -> Option<()> {
-    let (directory, place) = dirent(tables, chance, false)?;
+    let (directory, dirent) = dirent(tables, chance, false)?;
     let at = chance.pick(&[0, 1, 13, 15]);
-    tables.dirent_mut(directory, place)[at] = 1;
+    tables.dirent_mut(directory, dirent)[at] = 1;
     Some(())
 }

@@ -188,11 +188,11 @@ impl Scene<'_> {
         }
     }
 
-    fn write_start(&self, entry: usize) -> usize {
-        let slot = self.tables.open_file(entry)[SLOT] as usize;
-        match self.tables.open_file(entry)[MODE] {
+    fn write_start(&self, open_file: usize) -> usize {
+        let slot = self.tables.open_file(open_file)[SLOT] as usize;
+        match self.tables.open_file(open_file)[MODE] {
             4 => self.tables.file(slot)[LENGTH] as usize,
-            _ => self.tables.open_file(entry)[OFFSET] as usize,
+            _ => self.tables.open_file(open_file)[OFFSET] as usize,
         }
     }
 
@@ -210,7 +210,7 @@ impl Scene<'_> {
         let node = self.node(|scene, node| {
             pass(scene.tables, node.slot)
                 && asked.is_none_or(|right| scene.may(node.parent, right))
-                && scene.may(node.parent, SEARCH)
+                && scene.may(node.parent, EXECUTE)
         });
         paths::written(self.chance, &node.path)
     }
@@ -234,9 +234,9 @@ impl Scene<'_> {
         let full_too = self.chance.one_in(6);
         let node = self.node(|scene, node| {
             scene.tables.is_kind(node.slot, DIRECTORY)
-                && node.depth < DEEPEST
+                && node.depth < NAMES
                 && (full_too || scene.tables.file(node.slot)[LENGTH] < DIRENTS as u32)
-                && scene.may(node.slot, WRITE | SEARCH)
+                && scene.may(node.slot, WRITE | EXECUTE)
         });
         let short = self.chance.one_in(2);
         let mut name = names::name(self.chance, short);
@@ -254,7 +254,7 @@ impl Scene<'_> {
         let mut node = &self.nodes[self.chance.below(self.nodes.len())];
         for _ in 0..24 {
             let favoured = wanted.is_none_or(|slot| node.slot == slot);
-            if careless || (favoured && node.path.len() <= LONGEST_PATH && pass(self, node)) {
+            if careless || (favoured && node.path.len() <= PATH && pass(self, node)) {
                 break;
             }
             node = &self.nodes[self.chance.below(self.nodes.len())];

@@ -2,7 +2,7 @@
 
 pub mod calls;
 pub mod names;
-pub mod opens;
+pub mod open_files;
 pub mod paths;
 pub mod shape;
 pub mod store;

@@ -1,7 +1,7 @@
 //! How a path is written: well formed in several ways, or malformed.
 
 use crate::chance::Chance;
-use mritvelja::layout::LONGEST_PATH;
+use mritvelja::layout::PATH;
 
 /// The path as it stands, or with runs of slashes where they fit.
 pub fn written(chance: &mut Chance, path: &[u8]) -> Vec<u8> {
@@ -16,7 +16,7 @@ pub fn written(chance: &mut Chance, path: &[u8]) -> Vec<u8> {
             longer.extend(vec![b'/'; run]);
         }
     }
-    if longer.len() <= LONGEST_PATH {
+    if longer.len() <= PATH {
         longer
     } else {
         path.to_vec()
@@ -52,12 +52,12 @@ pub fn odd(chance: &mut Chance, path: &[u8]) -> Vec<u8> {
         4 => below(path, b"."),
         5 => below(path, b".."),
         6 => below(path, b"a\0b"),
-        7 => filled(path, LONGEST_PATH),
-        8 => filled(path, LONGEST_PATH + 1),
+        7 => filled(path, PATH),
+        8 => filled(path, PATH + 1),
         9 => b"/a/b/c/d/e/f/g/h".to_vec(),
         10 => b"/a/b/c/d/e/f/g/h/i".to_vec(),
         11 => {
-            let run = chance.between(1, LONGEST_PATH + 1);
+            let run = chance.between(1, PATH + 1);
             vec![b'/'; run]
         }
         12 => {

@@ -30,7 +30,7 @@ pub struct Shape {
     pub directories: usize,
     pub spread: Spread,
     pub processes: usize,
-    pub opens: usize,
+    pub open_files: usize,
     /// Open files without a name among the open ones, at most.
     pub unnamed: usize,
     /// Descriptors are given out process by process, so that some have all.
@@ -49,7 +49,7 @@ impl Shape {
     pub fn random(chance: &mut Chance) -> Shape {
         let processes = chance.pick(&[1, 2, 3, 4, 4, 5, 6, 7, 8]);
         let most_open = (processes * DESCRIPTORS).min(OPEN_FILES);
-        let opens = match chance.below(5) {
+        let open_files = match chance.below(5) {
             0 => 0,
             1 => most_open,
             _ => chance.below(most_open + 1),
@@ -59,7 +59,7 @@ impl Shape {
             directories: chance.pick(&[10, 25, 40, 60]),
             spread: chance.pick(&[Spread::Deep, Spread::Wide, Spread::Even]),
             processes: processes.min(PROCESSES),
-            opens,
+            open_files,
             unnamed: chance.pick(&[0, 1, 2, 5]),
             packed: chance.one_in(3),
             users: chance.pick(&[1, 2, 3, 4]),

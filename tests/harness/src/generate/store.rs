@@ -1,7 +1,7 @@
 //! Sound stores by chance, written straight into the tables.
 
 use super::names::name;
-use super::opens::add_open_files;
+use super::open_files::add_open_files;
 use super::shape::{Shape, Spread, Strictness};
 use crate::building::{add_name, has_name};
 use crate::chance::Chance;
@@ -87,7 +87,7 @@ impl Maker<'_> {
     fn set_root(&mut self) {
         let (owner, bits, label) = (self.user(), self.bits(), self.label());
         self.tables.file_mut(0)[OWNER] = owner;
-        self.tables.file_mut(0)[BITS] = bits | SEARCH;
+        self.tables.file_mut(0)[BITS] = bits | EXECUTE;
         self.tables.file_mut(0)[LABEL] = label;
     }
 
@@ -99,7 +99,7 @@ impl Maker<'_> {
             let Some(slot) = self.free_slots.pop() else {
                 return;
             };
-            let directory = depth < DEEPEST && self.chance.percent(self.shape.directories);
+            let directory = depth < NAMES && self.chance.percent(self.shape.directories);
             if directory {
                 self.directories.push((slot, depth + 1));
             }
@@ -108,7 +108,7 @@ impl Maker<'_> {
         }
     }
 
-    /// A directory with an empty place, and its depth.
+    /// A directory with an empty entry, and its depth.
     fn parent(&mut self) -> Option<(usize, usize)> {
         let tables = &self.tables;
         let roomy = |&(slot, _): &(usize, usize)| tables.file(slot)[LENGTH] < DIRENTS as u32;
@@ -142,11 +142,11 @@ impl Maker<'_> {
         }
     }
 
-    /// Gives the slot a name that is new in the directory, in any empty place.
+    /// Gives the slot a name that is new in the directory, in any empty entry.
     fn name(&mut self, directory: usize, slot: usize) {
         let tables = &self.tables;
-        let empty = |place| tables.dirent_slot(directory, place) == 0;
-        let Some(place) = self.chance.pick_where(DIRENTS, empty) else {
+        let empty = |dirent| tables.dirent_slot(directory, dirent) == 0;
+        let Some(dirent) = self.chance.pick_where(DIRENTS, empty) else {
             return;
         };
         let short = self.shape.spread == Spread::Deep || self.chance.percent(60);
@@ -154,7 +154,7 @@ impl Maker<'_> {
         while has_name(&self.tables, directory, &fresh) {
             fresh = name(self.chance, short);
         }
-        add_name(&mut self.tables, directory, place, &fresh, slot);
+        add_name(&mut self.tables, directory, dirent, &fresh, slot);
     }
 
     /// Further names for some plain files.

@@ -4,7 +4,9 @@ use std::io::{Read, Write};
 
 use reference::Request;
 use stored::answers;
-use stored::tables::{self, blank, Tables, BLOCK, FILE, LABELS, OPEN, PROCESS};
+use stored::tables::{
+    self, blank, Tables, BLOCK, FILE_WIDTH, LABELS, OPEN_FILE_WIDTH, PROCESS_WIDTH,
+};
 
 const LONGEST: usize = 512;
 
@@ -98,9 +100,9 @@ impl Console<'_> {
 
     fn words(&mut self, table: &str) -> Option<(&mut [u32], usize)> {
         match table {
-            "files" => Some((&mut self.tables.files, FILE)),
-            "opens" => Some((&mut self.tables.open_files, OPEN)),
-            "processes" => Some((&mut self.tables.processes, PROCESS)),
+            "files" => Some((&mut self.tables.files, FILE_WIDTH)),
+            "opens" => Some((&mut self.tables.open_files, OPEN_FILE_WIDTH)),
+            "processes" => Some((&mut self.tables.processes, PROCESS_WIDTH)),
             _ => None,
         }
     }

@@ -1,11 +1,11 @@
-use mathlib.Core.Path.{_≡_, refl}
+use mathlib.Core.Path.{_≡_, refl, ap}
 use Prim.Native.Nat.{_-_}
 use borrow.Author.Needs.{needs}
 use Rattle.rules.specs.Layout.{SLOTS, FILE}
 use Rattle.rules.specs.Scan.{first}
 use Rattle.rules.proofs.Scans.{first-yes, first-no, first-done}
 use Rattle.rules.specs.Checks.{slotFree}
-use Rattle.rules.specs.Store.{tab}
+use Rattle.rules.specs.Store.{tab, slot}
 use Rattle.allocation.proofs.free.first_free_slot.Statement.{statement}
 use Rattle.allocation.proofs.free.first_free_slot.Tie as tie
 
@@ -23,8 +23,8 @@ first-free-slot-spec =
     μ-loop
     (λ c. refl)
     (λ c κs. search needs)
-    (λ c. search first-yes)
+    (λ c. ap slot (search first-yes))
     (λ c. search needs)
     (λ c. search needs)
     (λ c. search first-no)
-    (λ c. search first-done))
+    (λ c. ap slot (search first-done)))

@@ -1,10 +1,10 @@
-use mathlib.Core.Path.{_≡_, refl}
+use mathlib.Core.Path.{_≡_, refl, ap}
 use Prim.Native.Nat.{_-_}
 use borrow.Author.Needs.{needs}
 use Rattle.rules.specs.Scan.{first}
 use Rattle.rules.proofs.Scans.{first-yes, first-no, first-done}
 use Rattle.rules.specs.Checks.{pidFree}
-use Rattle.rules.specs.Store.{procOf}
+use Rattle.rules.specs.Store.{procOf, pidOf}
 use Rattle.allocation.proofs.free.free_pid.Statement.{statement}
 use Rattle.allocation.proofs.free.free_pid.Tie as tie
 
@@ -22,8 +22,8 @@ free-pid-spec =
     μ-loop
     (λ c. refl)
     (λ c κs. search needs)
-    (λ c. search first-yes)
+    (λ c. ap pidOf (search first-yes))
     (λ c. search needs)
     (λ c. search needs)
     (λ c. search first-no)
-    (λ c. search first-done))
+    (λ c. ap pidOf (search first-done)))

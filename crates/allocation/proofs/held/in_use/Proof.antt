@@ -5,4 +5,10 @@ use Rattle.allocation.proofs.held.in_use.Tie as tie
 
 pub in-use-spec : {M : Type 1} → statement M
 unfolding inUse
-in-use-spec = tie.close (tie.spec (λ c. search steps) (λ c κs. tt) (λ c. search steps))
+in-use-spec =
+    tie.close
+    (tie.spec
+    (λ c κs. tt)
+    (λ c. search steps)
+    (λ c κs. tt)
+    (λ c. search steps))

@@ -10,5 +10,6 @@ holds-nothing-spec =
     (λ c. search needs)
     (λ c. search needs)
     (λ c. search needs)
+    (λ c. search needs)
     (λ c κs. tt)
     (λ c. cc))

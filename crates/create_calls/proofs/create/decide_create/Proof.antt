@@ -1,15 +1,15 @@
+use Rattle.rules.specs.DecidePaths.{decideCreate}
 use borrow.Author.Needs.{needs}
-use Rattle.create_calls.proofs.Placed.{create-there, create-stopped}
 use Rattle.create_calls.proofs.create.decide_create.Statement.{statement}
 use Rattle.create_calls.proofs.create.decide_create.Tie as tie
 
 pub decide-create-spec : {M : Type 1} → statement M
+unfolding decideCreate
 decide-create-spec =
     tie.close
     (tie.spec
-    (λ c κs. tt)
     (λ c. search needs)
     (λ c κs. tt)
     (λ c. search needs)
-    (λ c. search create-there)
-    (λ c. search create-stopped))
+    (λ c. simp (← c .create-with .ensures, c .before .before .bits .given .1))
+    (λ c. simp (c .enum-told .given .1)))

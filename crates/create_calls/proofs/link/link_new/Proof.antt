@@ -1,5 +1,5 @@
 use borrow.Author.Needs.{needs}
-use Rattle.create_calls.proofs.Placed.{link-there, link-stopped}
+use Rattle.create_calls.proofs.NewName.{link-there, link-stopped}
 use Rattle.create_calls.proofs.link.link_new.Statement.{statement}
 use Rattle.create_calls.proofs.link.link_new.Tie as tie
 

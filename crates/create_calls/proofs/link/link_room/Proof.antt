@@ -5,4 +5,10 @@ use Rattle.create_calls.proofs.link.link_room.Tie as tie
 
 pub link-room-spec : {M : Type 1} → statement M
 unfolding linkRoom
-link-room-spec = tie.close (tie.spec (λ c. search steps) (λ c κs. tt) (λ c. search steps))
+link-room-spec =
+    tie.close
+    (tie.spec
+    (λ c κs. tt)
+    (λ c. search steps)
+    (λ c κs. tt)
+    (λ c. search steps))

@@ -5,4 +5,10 @@ use Rattle.descriptor_calls.proofs.duplicate.duplicate_to.Tie as tie
 
 pub duplicate-to-spec : {M : Type 1} → statement M
 unfolding duplicateTo
-duplicate-to-spec = tie.close (tie.spec (λ c. search steps) (λ c κs. tt) (λ c. search steps))
+duplicate-to-spec =
+    tie.close
+    (tie.spec
+    (λ c κs. tt)
+    (λ c. search steps)
+    (λ c κs. tt)
+    (λ c. search steps))

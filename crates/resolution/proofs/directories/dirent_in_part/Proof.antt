@@ -1,4 +1,4 @@
-use mathlib.Core.Path.{_≡_, refl}
+use mathlib.Core.Path.{_≡_, refl, ap}
 use Prim.Native.Nat.{_-_}
 use borrow.Author.Needs.{needs}
 use Rattle.rules.specs.Scan.{first}
@@ -6,6 +6,7 @@ use Rattle.rules.proofs.Scans.{first-yes, first-no, first-done}
 use Rattle.resolution.specs.Walks.{hasWords}
 use Rattle.resolution.proofs.directories.dirent_in_part.Statement.{statement}
 use Rattle.resolution.proofs.directories.dirent_in_part.Tie as tie
+use Rattle.rules.specs.Store.{entry}
 
 abbrev Inv-loop : tie.InvT-loop
 Inv-loop dir low high i₀ i = first (hasWords dir low high) i 16 ≡ first (hasWords dir low high) 0 16
@@ -21,8 +22,8 @@ dirent-in-part-spec =
     μ-loop
     (λ c. refl)
     (λ c κs. search needs)
-    (λ c. search first-yes)
+    (λ c. ap entry (search first-yes))
     (λ c. search needs)
     (λ c. search needs)
     (λ c. search first-no)
-    (λ c. search first-done))
+    (λ c. ap entry (search first-done)))

@@ -1,4 +1,4 @@
-use mathlib.Core.Path.{_≡_, refl}
+use mathlib.Core.Path.{_≡_, refl, ap}
 use mathlib.Core.Logic.{⊎-elim}
 use Prim.Native.Nat.{_-_}
 use borrow.Author.Needs.{needs}
@@ -8,6 +8,7 @@ use Rattle.resolution.specs.Walks.{hasWords}
 use Rattle.resolution.proofs.ByWords.{both-words, not-low, not-high}
 use Rattle.resolution.proofs.directories.dirent_in_whole.Statement.{statement}
 use Rattle.resolution.proofs.directories.dirent_in_whole.Tie as tie
+use Rattle.rules.specs.Store.{entry}
 
 abbrev Inv-loop : tie.InvT-loop
 Inv-loop dir low high i₀ i = first (hasWords dir low high) i 16 ≡ first (hasWords dir low high) 0 16
@@ -24,8 +25,8 @@ dirent-in-whole-spec =
     (λ c. refl)
     (λ c κs. search needs)
     (λ c κs. search needs)
-    (λ c. first-yes _ _ _ (c .before .before .before .before .before .loop .inv) (c .before .before .before .before .loop-test .taken) refl (search both-words))
+    (λ c. ap entry (first-yes _ _ _ (c .before .before .before .before .before .loop .inv) (c .before .before .before .before .loop-test .taken) refl (search both-words)))
     (λ c. search needs)
     (λ c. search needs)
     (λ c. ⊎-elim (λ w. first-no _ _ _ (c .before .before .before .loop .inv) (c .before .before .loop-test .taken) refl (search not-high)) (λ w. first-no _ _ _ (c .before .before .before .loop .inv) (c .before .before .loop-test .taken) refl (search not-low)) (c .if1 .came))
-    (λ c. search first-done))
+    (λ c. ap entry (search first-done)))

@@ -1,4 +1,4 @@
-use mathlib.Core.Path.{_≡_, refl}
+use mathlib.Core.Path.{_≡_, refl, ap}
 use Prim.Native.Nat.{_-_}
 use borrow.Author.Needs.{needs}
 use Rattle.rules.specs.Scan.{first}
@@ -6,6 +6,7 @@ use Rattle.rules.proofs.Scans.{first-yes, first-no, first-done}
 use Rattle.rules.specs.Directories.{isEmpty}
 use Rattle.resolution.proofs.directories.free_dirent.Statement.{statement}
 use Rattle.resolution.proofs.directories.free_dirent.Tie as tie
+use Rattle.rules.specs.Store.{entry}
 
 abbrev Inv-loop : tie.InvT-loop
 Inv-loop dir i₀ i = first (isEmpty dir) i 16 ≡ first (isEmpty dir) 0 16
@@ -21,8 +22,8 @@ free-dirent-spec =
     μ-loop
     (λ c. refl)
     (λ c κs. search needs)
-    (λ c. search first-yes)
+    (λ c. ap entry (search first-yes))
     (λ c. search needs)
     (λ c. search needs)
     (λ c. search first-no)
-    (λ c. search first-done))
+    (λ c. ap entry (search first-done)))

@@ -21,5 +21,6 @@ has-high-spec =
     (λ c. search needs)
     (λ c. search needs)
     (λ c. search needs)
+    (λ c. search needs)
     (λ c κs. search needs)
-    (λ c. rw (high-at (c .before .before .before .before .before .before .before .before .args .dir .now) (16 * c .before .before .before .before .before .before .before .before .args .i), c .six-of .ensures)))
+    (λ c. rw (high-at (c .before .before .before .before .before .before .before .before .before .args .dir .now) (16 * c .before .before .before .before .before .before .before .before .before .args .i .0), c .six-of .ensures)))

@@ -24,5 +24,6 @@ has-low-spec =
     (λ c. search needs)
     (λ c. search needs)
     (λ c. search needs)
+    (λ c. search needs)
     (λ c κs. search needs)
-    (λ c. rw (low-at (c .before .before .before .before .before .before .before .before .before .before .args .dir .now) (16 * c .before .before .before .before .before .before .before .before .before .before .args .i), c .eight-of .ensures)))
+    (λ c. rw (low-at (c .before .before .before .before .before .before .before .before .before .before .before .args .dir .now) (16 * c .before .before .before .before .before .before .before .before .before .before .before .args .i .0), c .eight-of .ensures)))

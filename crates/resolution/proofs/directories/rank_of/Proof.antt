@@ -10,7 +10,7 @@ use Rattle.resolution.proofs.directories.rank_of.Statement.{statement}
 use Rattle.resolution.proofs.directories.rank_of.Tie as tie
 
 abbrev Inv-loop : tie.InvT-loop
-Inv-loop dir i n₀ j₀ n j = (n ≤ j) × (n + count (isBefore dir i) j 16 ≡ count (isBefore dir i) 0 16)
+Inv-loop dir i n₀ j₀ n j = (n ≤ j) × (n + count (isBefore dir (i .0)) j 16 ≡ count (isBefore dir (i .0)) 0 16)
 
 abbrev μ-loop : tie.MeasureT-loop
 μ-loop dir i n₀ j₀ n j = 16 - j

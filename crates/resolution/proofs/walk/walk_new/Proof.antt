@@ -16,7 +16,7 @@ use Rattle.resolution.specs.declared.walk.Intent.the-variants.{Create}
 use Rattle.resolution.specs.Walks.{walkFor, walkNew, firstNumber, NameStarts}
 use Rattle.resolution.proofs.Spans.{within, span-past}
 use Rattle.resolution.proofs.Names.{no-names, more-names, no-slashes, skip-names}
-use Rattle.resolution.proofs.Walks.{enter-place, create-walk}
+use Rattle.resolution.proofs.Walks.{enter-entry, create-walk}
 use Rattle.resolution.proofs.walk.walk_new.Statement.{statement}
 use Rattle.resolution.proofs.walk.walk_new.Tie as tie
 
@@ -35,7 +35,7 @@ module _ (p : List ℕ) (s : ℕ) (a : s ≡ 0 + span isSlash p) where
 
     none : length p ≤ s → walkFor Create (tree F C) Q who (slot 0) 0 (firstNames (8 + 1) (drop s p)) ≡ walkNew (tree F C) Q who p
     unfolding walkNew walkFor walk onReached
-    none h = rw (no-names p s s (omega (arith, span-past isSlash p s h)) 9 h, no-names p 0 s a 9 h) (sym (enter-place (tree F C) Q who ROOT 0 []))
+    none h = rw (no-names p s s (omega (arith, span-past isSlash p s h)) 9 h, no-names p 0 s a 9 h) (sym (enter-entry (tree F C) Q who ROOT 0 []))
 
     new : (k : ℕ) → k ≡ firstNumber (length p) s → (r : Walk) → r ≡ walkFor Create (tree F C) Q who (slot 0) k (firstNames (8 + 1) (drop s p)) → r ≡ walkNew (tree F C) Q who p
     new k e r d = d ∙ by (decLt s (length p))

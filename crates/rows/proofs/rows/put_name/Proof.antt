@@ -10,11 +10,11 @@ use Rattle.rows.proofs.rows.put_name.Statement.{statement}
 use Rattle.rows.proofs.rows.put_name.Tie as tie
 
 abbrev Inv-loop : tie.InvT-loop
-Inv-loop contents₀ i name at k₀ contents k =
+Inv-loop contents₀ name at k₀ contents k =
     (length contents ≡ length contents₀) × (sets contents (at + k) (padded (NAME - k) (drop k name)) ≡ sets contents₀ at (padded NAME name))
 
 abbrev μ-loop : tie.MeasureT-loop
-μ-loop contents₀ i name at k₀ contents k = NAME - k
+μ-loop contents₀ name at k₀ contents k = NAME - k
 
 pub put-name-spec : {M : Type 1} → statement M
 put-name-spec =
@@ -22,6 +22,7 @@ put-name-spec =
     (tie.spec
     Inv-loop
     μ-loop
+    (λ c. search needs)
     (λ c. search needs)
     (λ c. search needs)
     (λ c. search needs)

@@ -9,10 +9,10 @@ use Rattle.soundness.proofs.directories.name_new.Statement.{statement}
 use Rattle.soundness.proofs.directories.name_new.Tie as tie
 
 abbrev Inv-loop : tie.InvT-loop
-Inv-loop dir i low high j₀ j = all (otherWords dir low high) j i ≡ all (otherThan dir i) 0 i
+Inv-loop dir i low high j₀ j = all (otherWords dir low high) j (i .0) ≡ all (otherThan dir (i .0)) 0 (i .0)
 
 abbrev μ-loop : tie.MeasureT-loop
-μ-loop dir i low high j₀ j = i - j
+μ-loop dir i low high j₀ j = i .0 - j
 
 pub name-new-spec : {M : Type 1} → statement M
 name-new-spec =
@@ -22,7 +22,7 @@ name-new-spec =
     μ-loop
     (λ c κs. tt)
     (λ c κs. tt)
-    (λ c. others-by (c .before .before .before .args .dir .now) (λ k. c .before .before .shared-slice-known .given k .fits) (c .before .before .before .args .i) _ _ (c .before .low-at .ensures) (c .high-at .ensures))
+    (λ c. others-by (c .before .before .before .args .dir .now) (λ k. c .before .before .shared-slice-known .given k .fits) (c .before .before .before .args .i .0) _ _ (c .before .low-at .ensures) (c .high-at .ensures))
     (λ c κs. search needs)
     (λ c. search needs)
     (λ c. search needs)

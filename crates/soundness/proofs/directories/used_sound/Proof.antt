@@ -10,6 +10,7 @@ used-sound-spec =
     (tie.spec
     (λ c κs. tt)
     (λ c. search steps)
+    (λ c κs. tt)
     (λ c. search steps)
     (λ c κs. tt)
     (λ c. search steps))

@@ -10,7 +10,7 @@ use Rattle.soundness.proofs.processes.all_desc_free.Statement.{statemen
 use Rattle.soundness.proofs.processes.all_desc_free.Tie as tie
 
 abbrev Inv-loop : tie.InvT-loop
-Inv-loop processes p i₀ i = all (descFree (descOf processes) p) i DESCRIPTORS ≡ all (descFree (descOf processes) p) 0 DESCRIPTORS
+Inv-loop processes p i₀ i = all (descFree (descOf processes) (p .0)) i DESCRIPTORS ≡ all (descFree (descOf processes) (p .0)) 0 DESCRIPTORS
 
 abbrev μ-loop : tie.MeasureT-loop
 μ-loop processes p i₀ i = DESCRIPTORS - i

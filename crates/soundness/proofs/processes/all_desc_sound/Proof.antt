@@ -10,7 +10,7 @@ use Rattle.soundness.proofs.processes.all_desc_sound.Statement.{stateme
 use Rattle.soundness.proofs.processes.all_desc_sound.Tie as tie
 
 abbrev Inv-loop : tie.InvT-loop
-Inv-loop processes p i₀ i = all (descSound (descOf processes) p) i DESCRIPTORS ≡ all (descSound (descOf processes) p) 0 DESCRIPTORS
+Inv-loop processes p i₀ i = all (descSound (descOf processes) (p .0)) i DESCRIPTORS ≡ all (descSound (descOf processes) (p .0)) 0 DESCRIPTORS
 
 abbrev μ-loop : tie.MeasureT-loop
 μ-loop processes p i₀ i = DESCRIPTORS - i

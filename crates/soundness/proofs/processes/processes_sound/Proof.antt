@@ -10,10 +10,10 @@ use Rattle.soundness.proofs.processes.processes_sound.Statement.{statem
 use Rattle.soundness.proofs.processes.processes_sound.Tie as tie
 
 abbrev Inv-loop : tie.InvT-loop
-Inv-loop files contents opens processes p₀ p = all (procSound (view (store files contents opens processes))) p PROCESSES ≡ all (procSound (view (store files contents opens processes))) 0 PROCESSES
+Inv-loop files contents openFiles processes p₀ p = all (procSound (view (store files contents openFiles processes))) p PROCESSES ≡ all (procSound (view (store files contents openFiles processes))) 0 PROCESSES
 
 abbrev μ-loop : tie.MeasureT-loop
-μ-loop files contents opens processes p₀ p = PROCESSES - p
+μ-loop files contents openFiles processes p₀ p = PROCESSES - p
 
 pub processes-sound-spec : {M : Type 1} → statement M
 processes-sound-spec =

@@ -10,10 +10,10 @@ use Rattle.soundness.proofs.slots.all_slots_sound.Statement.{statement}
 use Rattle.soundness.proofs.slots.all_slots_sound.Tie as tie
 
 abbrev Inv-loop : tie.InvT-loop
-Inv-loop files contents opens processes links parents s₀ s = all (slotSoundBy (view (store files contents opens processes)) links parents) s SLOTS ≡ all (slotSoundBy (view (store files contents opens processes)) links parents) 0 SLOTS
+Inv-loop files contents openFiles processes links parents s₀ s = all (slotSoundBy (view (store files contents openFiles processes)) links parents) s SLOTS ≡ all (slotSoundBy (view (store files contents openFiles processes)) links parents) 0 SLOTS
 
 abbrev μ-loop : tie.MeasureT-loop
-μ-loop files contents opens processes links parents s₀ s = SLOTS - s
+μ-loop files contents openFiles processes links parents s₀ s = SLOTS - s
 
 pub all-slots-sound-spec : {M : Type 1} → statement M
 all-slots-sound-spec =

@@ -6,10 +6,10 @@ use Rattle.soundness.proofs.tree.climbs.Statement.{statement}
 use Rattle.soundness.proofs.tree.climbs.Tie as tie
 
 abbrev Inv-loop : tie.InvT-loop
-Inv-loop parents n d left₀ at₀ left at = climbsBy parents left at ≡ climbsBy parents n d
+Inv-loop parents n left₀ at₀ left at = climbsBy parents left (at .0) ≡ climbsBy parents n (at₀ .0)
 
 abbrev μ-loop : tie.MeasureT-loop
-μ-loop parents n d left₀ at₀ left at = left
+μ-loop parents n left₀ at₀ left at = left
 
 pub climbs-spec : {M : Type 1} → statement M
 climbs-spec =

@@ -1,6 +1,6 @@
 use Rattle.rules.specs.Choice.{some}
-use borrow.Author.Needs.{needs}
 use Rattle.rules.proofs.Choices.{steps}
+use borrow.Author.Needs.{needs}
 use Rattle.soundness.proofs.tree.named_once.Statement.{statement}
 use Rattle.soundness.proofs.tree.named_once.Tie as tie
 
@@ -10,6 +10,7 @@ named-once-spec =
     tie.close
     (tie.spec
     (λ c. search steps)
+    (λ c. search needs)
     (λ c. search needs)
     (λ c. search needs)
     (λ c κs. tt)

@@ -4,4 +4,4 @@ use Rattle.transfer_calls.proofs.open_files.open_appends.Tie as tie
 
 pub open-appends-spec : {M : Type 1} → statement M
 unfolding appends
-open-appends-spec = tie.close (tie.spec (λ c κs. tt) (λ c. cc))
+open-appends-spec = tie.close (tie.spec (λ c κs. tt) (λ c κs. tt) (λ c. cc))

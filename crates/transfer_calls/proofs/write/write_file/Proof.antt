@@ -12,11 +12,12 @@ use Rattle.rules.proofs.Choices.{steps}
 use Rattle.transfer_calls.specs.Stored.{stored}
 use Rattle.transfer_calls.proofs.write.write_file.Statement.{statement}
 use Rattle.transfer_calls.proofs.write.write_file.Tie as tie
+use Rattle.rules.specs.declared.ids.Ofd.{Ofd}
 
 -- what fits is its own word
-stores : (file opened : Table) (e at n : ℕ) (r : Bool) (d : Decision) → r ≡ leb (at + n) 512 → not r ≡ false → d ≡ stored file opened e at (n % 2 ^ 32) n → d ≡ writeFile file opened e at n
+stores : (file openFiles : Table) (e : Ofd) (at n : ℕ) (r : Bool) (d : Decision) → r ≡ leb (at + n) 512 → not r ≡ false → d ≡ stored file openFiles e at (n % 2 ^ 32) n → d ≡ writeFile file openFiles e at n
 unfolding writeFile need
-stores file opened e at n r d q f g =
+stores file openFiles e at n r d q f g =
     let fits : leb (at + n) 512 ≡ true = sym q ∙ not-false r f in
     let w : n % 2 ^ 32 ≡ n = omega (arith, leb-true (at + n) 512 fits) in
     rw fits (rw w at g)

@@ -1,9 +1,0 @@
-use borrow.Author.Needs.{needs}
-use Rattle.rules.proofs.Choices.{steps}
-use Rattle.census.specs.Census.{claimed}
-use Rattle.census.proofs.count.claim.Statement.{statement}
-use Rattle.census.proofs.count.claim.Tie as tie
-
-pub claim-spec : {M : Type 1} → statement M
-unfolding claimed
-claim-spec = tie.close (tie.spec (λ c. search steps) (λ c κs. tt) (λ c. search needs) (λ c. search steps))

@@ -1,0 +1,14 @@
+use Rattle.rules.proofs.Choices.{steps}
+use borrow.Author.Needs.{needs}
+use Rattle.console.proofs.settings.set_words.Statement.{statement}
+use Rattle.console.proofs.settings.set_words.Tie as tie
+
+pub set-words-spec : {M : Type 1} → statement M
+set-words-spec =
+    tie.close
+    (tie.spec
+    (λ c κs. tt)
+    (λ c κs. tt)
+    (λ c. search needs)
+    (λ c. (c .before .before .before .before .before .ends-well .ensures, search steps))
+    (λ c. (c .before .ends-well .ensures, search steps)))

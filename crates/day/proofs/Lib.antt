@@ -1,0 +1,2 @@
+-- What the proof of the run shares.
+pub mod OnConsole

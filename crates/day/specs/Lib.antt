@@ -1,0 +1,2 @@
+-- What a script leaves on the test console.
+pub mod Day

@@ -1,0 +1,19 @@
+use Rattle.rules.specs.Store.{applyAll}
+use Rattle.rules.specs.Effects.{duplicateChanges}
+use borrow.Author.Needs.{needs}
+use Rattle.descriptor_effects.proofs.open_files.duplicate_descriptor.Statement.{statement}
+use Rattle.descriptor_effects.proofs.open_files.duplicate_descriptor.Tie as tie
+
+pub duplicate-descriptor-spec : {M : Type 1} → statement M
+unfolding applyAll duplicateChanges
+duplicate-descriptor-spec =
+    tie.close
+    (tie.spec
+    (λ c κs. tt)
+    (λ c. search needs)
+    (λ c. search needs)
+    (λ c. search needs)
+    (λ c κs. tt)
+    (λ c. search needs)
+    (λ c. search needs)
+    (λ c. λ F C. rw (c .before .before .put .ensures, c .before .before .before .before .before .before .before .put-held .ensures)))

@@ -1,0 +1,131 @@
+-- A file's bits are changed by call 8 alone, by user 0 or the file's owner.
+use mathlib.Core.Path.{_≡_, refl, ap}
+use mathlib.Core.Bool.{true}
+use mathlib.Core.Logic.{_⊎_, inl, inr}
+use mathlib.Core.List.{List}
+use Prim.Native.Nat.{ℕ, _-_}
+use native.Mathlib.Decide.{ℕ-discrete}
+use Rattle.rules.specs.Layout.{KIND, OWNER, BITS, FREE}
+use Rattle.rules.specs.Store.{Store, view, slot, subjectOf}
+use Rattle.rules.specs.Refusals.{GRANTED}
+use Rattle.rules.specs.Rights.{owns}
+use Rattle.rules.specs.Calls.{Call}
+use Rattle.rules.specs.Effects.{carryOut}
+use Rattle.rules.specs.Step.{Outcome, replyTo, storeAfter, outcomeOf, act, step}
+use Rattle.rules.specs.declared.ids.Slot.{Slot}
+use Rattle.rules.specs.declared.rights.Bits.{Bits}
+use Rattle.rules.specs.declared.decision.Unnamed.{Unnamed}
+use Rattle.rules.specs.declared.decision.Unnamed.the-variants as unnamed
+use Rattle.rules.specs.Checks as checks
+use Rattle.rules.specs.declared.decision.Output.{Output}
+use Rattle.rules.specs.declared.decision.Effect.{Effect}
+use Rattle.rules.specs.declared.decision.Effect.the-variants as effect
+use Rattle.rules.specs.declared.decision.Decision.{Decision}
+use Rattle.preservation.specs.Claims.{word, callerUser}
+use Rattle.preservation.proofs.Tests.{split, means-or, means-eq}
+use Rattle.preservation.proofs.Tables.{Tables}
+use Rattle.preservation.proofs.Remake.{remade}
+use Rattle.preservation.proofs.Plain.{wrote}
+use Rattle.preservation.proofs.Open.{handed}
+use Rattle.preservation.proofs.Processes.{shared}
+use Rattle.preservation.proofs.StoreChanges.{tablesOf}
+use Rattle.preservation.proofs.SoundStore.{SoundStore, means-sound}
+use Rattle.preservation.proofs.OpenEffects.{Leaves, open-leaves, truncate-leaves, move-leaves, duplicate-leaves, bits-leaves, execute-leaves, write-leaves}
+use Rattle.preservation.proofs.NameEffects.{link-leaves, create-leaves, unlinkedTables, Unnaming, keeps, frees, unlink-leaves, unnaming-is, remove-leaves}
+use Rattle.preservation.proofs.CloseEffects.{Steady, close-leaves, releasing-is, exit-leaves}
+use Rattle.preservation.proofs.Granted.{Of, fit-of, Fit, granting, refusing, unlinking, Granting, nothing, opens, truncates, creates, unlinks, removes, links, changesBits, closes, stores, reads, seeks, duplicates, forks, exits, executes}
+use Rattle.preservation.proofs.Asked.{Asked, decide-asked}
+use Rattle.preservation.proofs.Decided.{decide-fit}
+use Rattle.preservation.proofs.Preserved.{placed-well, read-fits, forking}
+use Rattle.preservation.proofs.TestedOnce.{step-by}
+
+module _ (s : Store) (h : SoundStore s) (c : Call) (f : ℕ) where
+  -- the effect that changes the bits of f
+  data OfBits : Effect → Type 0 where
+    of-bits : (y : Slot) (b : Bits) → f ≡ y .0 → owns (subjectOf (view s .proc) (c .process)) (view s .tree .file (y .0) OWNER) ≡ true → OfBits (effect.BitsChanged y b)
+
+  -- where f is in use before and in t, and its bits differ, C holds
+  abbrev Differ : Store → Type 0 → Type 0
+  Differ t C = (tablesOf s .file f KIND ≡ FREE → ⊥) → (tablesOf t .file f KIND ≡ FREE → ⊥) → (tablesOf t .file f BITS ≡ tablesOf s .file f BITS → ⊥) → C
+
+  -- slot f is free, or its bits are what they were
+  abbrev Left : Tables → Type 0
+  Left m = (m .file f KIND ≡ FREE) ⊎ (m .file f BITS ≡ tablesOf s .file f BITS)
+
+  left : {C : Type 0} (t : Store) → Left (tablesOf t) → Differ t C
+  left t (inl q) a b n = absurd (b q)
+  left t (inr q) a b n = absurd (n q)
+
+  leaves : {C : Type 0} {t : Store} {m : Tables} → Leaves t m → Left m → Differ t C
+  leaves {t = t} {m = m} l y = left t (rw (l .has .is) y)
+
+  leaves-bits : {C : Type 0} {t : Store} {m : Tables} → Leaves t m → m .file f BITS ≡ tablesOf s .file f BITS → Differ t C
+  leaves-bits l y = leaves l (inr y)
+
+  steadily : {C : Type 0} (t : Store) → Steady (tablesOf s) (tablesOf t) → Differ t C
+  steadily t y = left t (by (y f))
+    where
+      by : (tablesOf t .file f KIND ≡ FREE) ⊎ ((tablesOf t .file f ≡ tablesOf s .file f) × (tablesOf t .byte f ≡ tablesOf s .byte f)) → Left (tablesOf t)
+      by (inl e) = inl e
+      by (inr e) = inr (ap (λ (r : ℕ → ℕ). r BITS) (e .0))
+
+  truncate-bits : (y : ℕ) (row : ℕ → ℕ) (m : Tables) → m .file f BITS ≡ tablesOf s .file f BITS → row BITS ≡ tablesOf s .file y BITS → remade y row (λ _. 0) m .file f BITS ≡ tablesOf s .file f BITS
+  unfolding remade
+  truncate-bits y row m e r = split f y (λ q t. rw (t, q) r) (λ q t. rw t e)
+
+  remove-left : (d : Slot) (i : ℕ) (y : Slot) → Left (unlinkedTables s h d i (unnamed.Freed y (checks.freed (view s .tree .file) y)))
+  unfolding unlinkedTables
+  remove-left d i y = unfold remade in split f (y .0) (λ q t. rw t (inl refl)) (λ q t. rw t (inr refl))
+
+  unlink-left : (d : Slot) (i : ℕ) (y : Slot) {u : Unnamed} → Unnaming s h y u → Left (unlinkedTables s h d i u)
+  unlink-left d i y (keeps a) = unfold unlinkedTables in inr refl
+  unlink-left d i y (frees a b) = remove-left d i y
+
+  -- each effect: all but a change of bits leave the bits of f, or free it; a create gives out a slot that was free
+  changes-bits : {n : ℕ} {o : Output} {e : Effect} → Granting s h c n o e → Differ (carryOut c e s) (OfBits e)
+  unfolding carryOut
+  changes-bits (nothing n o) = λ a b x. absurd (x refl)
+  changes-bits (opens n o) = leaves-bits (open-leaves s h (c .process) n o) (unfold handed in refl)
+  changes-bits (truncates n o) = leaves-bits (truncate-leaves s h (c .process) n o) (truncate-bits (n .slot .0) _ _ (unfold handed in refl) refl)
+  changes-bits (creates d i y kind bits o) = let w = create-leaves s h _ (subjectOf (view s .proc) (c .process)) d i (slot y) kind bits o in
+      split f y (λ q _ a. absurd (a (rw q (o .free)))) (λ q t. leaves-bits w (rw t))
+  changes-bits (unlinks (unlinking d i y n k)) = leaves (unlink-leaves s h d i y n k (unnaming-is s h y)) (unlink-left d i y (unnaming-is s h y))
+  changes-bits (removes d i y n k l) = leaves (remove-leaves s h d i y n k l) (remove-left d i y)
+  changes-bits (links d i y n hy k) = leaves-bits (link-leaves s h _ d i y n hy k) refl
+  changes-bits (changesBits y b hy k l o) = split f (y .0) (λ q _ _ _ _. of-bits y b q o) (λ q t. leaves-bits (bits-leaves s h (y .0) (b .0) hy k l) (rw t))
+  changes-bits (closes i u hi) = steadily _ (close-leaves s h (c .process) i (u .small) hi (u .used) (releasing-is s h (c .process) i (u .small) hi) .steady)
+  changes-bits (stores e at o l) = leaves-bits (write-leaves s h (c .«data») _ (placed-well s h c e at o l)) (unfold wrote in refl)
+  changes-bits (reads e n o l) = leaves-bits (move-leaves s h e _ o (read-fits s h c e n l)) refl
+  changes-bits (seeks e n o l) = leaves-bits (move-leaves s h e n o l) refl
+  changes-bits (duplicates i j e o hj g) = unfold tablesOf in leaves-bits (duplicate-leaves s h (c .process) i j e o hj g) (unfold shared handed in refl)
+  changes-bits (forks q u hq g) = let w = forking s h c q u hq g in leaves-bits (w .leaves) (ap (λ (t : ℕ → ℕ → ℕ). t f BITS) (w .files-same))
+  changes-bits (exits u) = steadily _ (exit-leaves s h (c .process) (u .small) (u .used) .steady)
+  changes-bits (executes l u hl) = leaves-bits (execute-leaves s h (c .process) l u hl) refl
+
+  -- ---- who asks, and by which call
+
+  owner-or-0 : (y : ℕ) → owns (subjectOf (view s .proc) (c .process)) (view s .tree .file y OWNER) ≡ true → (callerUser s c ≡ 0) ⊎ (callerUser s c ≡ word s y OWNER)
+  unfolding owns
+  owner-or-0 y t = by (ℕ-discrete (callerUser s c) 0)
+    where
+      by : Dec (callerUser s c ≡ 0) → (callerUser s c ≡ 0) ⊎ (callerUser s c ≡ view s .tree .file y OWNER)
+      by (yes e) = inl e
+      by (no n) = inr (means-or (means-eq (callerUser s c) 0) (means-eq (callerUser s c) (view s .tree .file y OWNER)) .holds t n)
+
+  asks : (Q : List ℕ) (n : ℕ) (o : Output) {e : Effect} → OfBits e → Asked Q s c (c .call) n o e → (c .call ≡ 8) × ((callerUser s c ≡ 0) ⊎ (callerUser s c ≡ word s f OWNER))
+  unfolding Asked
+  asks Q n p (of-bits y b q o) k = (k, rw q (owner-or-0 (y .0) o))
+
+-- what is claimed of the call that ends in x
+abbrev ByCall8 : Store → Call → ℕ → Outcome → Type 0
+ByCall8 s c f x = (word s f KIND ≡ FREE → ⊥) → (word (x .store) f KIND ≡ FREE → ⊥) → (word (x .store) f BITS ≡ word s f BITS → ⊥) →
+    (x .reply .refusal ≡ GRANTED) × ((c .call ≡ 8) × ((callerUser s c ≡ 0) ⊎ (callerUser s c ≡ word s f OWNER)))
+
+decided : (Q : List ℕ) (s : Store) (h : SoundStore s) (c : Call) (f : ℕ) {d : Decision} → Fit (Granting s h c) d → Fit (Asked Q s c (c .call)) d → ByCall8 s c f (outcomeOf s c d)
+unfolding outcomeOf replyTo storeAfter tablesOf Of
+decided Q s h c f (granting n o e g) k = λ a b x. (refl, asks s h c f Q n o (changes-bits s h c f g a b x) (fit-of k))
+decided Q s h c f (refusing r i) k = λ a b x. absurd (x refl)
+
+pub bits-by-call : (Q : List ℕ) (s : Store) (c : Call) (f : ℕ) → ByCall8 s c f (step Q s c)
+unfolding act
+bits-by-call Q s c f = step-by Q s c (ByCall8 s c f) (λ e. let w = means-sound Q s .holds e in decided Q s (w .1) c f (decide-fit Q s (w .1) c (w .0)) (decide-asked Q s c)) (λ _ a b x. absurd (x refl))

@@ -1,0 +1,4 @@
+-- Laws of words as they are read, of the digest, and of a call on parts of the tables.
+pub mod WordLaws
+pub mod DigestLaws
+pub mod CallLaws

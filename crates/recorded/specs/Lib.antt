@@ -1,0 +1,4 @@
+-- What records say of the tables, and the digest of the tables.
+pub mod Records
+pub mod Digest
+pub mod Called

@@ -1,5 +1,0 @@
-use Rattle.resolution.proofs.walk.place_in.Statement.{statement}
-use Rattle.resolution.proofs.walk.place_in.Tie as tie
-
-pub place-in-spec : {M : Type 1} → statement M
-place-in-spec = tie.close (tie.spec (λ c κs. tt) (λ c κs. tt) (λ c. cc))

@@ -1,0 +1,152 @@
+// The open files. Each function takes the four tables, as the rules' view does.
+ghost use mathlib.Core.Path.{_≡_};
+ghost use mathlib.Core.Bool.{cond};
+ghost use lib.Dec.{eqb, ltb};
+ghost use lib.ListN.{getD};
+ghost use Prim.Native.Nat.{_+_};
+ghost use Rattle.rules.specs.Scan.{all};
+ghost use Rattle.rules.specs.Layout.{OPEN, OPEN-FILES, SLOT, REFERENCES, SLOTS, PLAIN, FILE, KIND, MODE};
+ghost use Rattle.rules.specs.Store.{tab, view, store};
+ghost use Rattle.rules.specs.Sound.{openFree, openUsed, openSound};
+ghost use Rattle.soundness.specs.Counted.{openSoundBy};
+ghost use Rattle.rules.specs.Rights.{modeOf, modeKept};
+use crate::fields::at_most;
+use crate::fields::is_word;
+use counts::count::count_held;
+use rules::ids::Ofd;
+use rules::rights::OpenMode;
+use tables::files::is_plain;
+use tables::ids::is_slot;
+use tables::layout::LENGTH_MAX;
+use tables::layout::MODE;
+use tables::layout::OFFSET;
+use tables::layout::OPEN;
+use tables::layout::OPEN_FILES;
+use tables::layout::REFERENCES;
+use tables::layout::SLOT;
+use tables::open_files::mode;
+use tables::open_files::slot_of;
+use tables::words::get;
+
+// Of descriptors: what holds nothing is 0, what holds open file e is e + 1.
+const HELD: usize = (OPEN_FILES as usize) + 1;
+
+fn references_right(open_files: &[u32], held: &[u32], e: Ofd) -> bool
+    ensures { λ r. ⌜ r ≡ eqb (tab OPEN (now («open_files» .entry)) (e .0) REFERENCES) (getD (now (held .entry)) (e .0 + 1) 0) ⌝ }
+{
+    is_word(
+        open_files,
+        OPEN * (e.0 as usize) + REFERENCES,
+        get(held, (e.0 as usize) + 1),
+    )
+}
+
+fn open_free(open_files: &[u32], e: Ofd) -> bool
+    ensures { λ r. ⌜ r ≡ openFree (tab OPEN (now («open_files» .entry))) (e .0) ⌝ }
+{
+    if !is_word(open_files, OPEN * (e.0 as usize) + SLOT, 0) {
+        return false;
+    }
+    if !is_word(open_files, OPEN * (e.0 as usize) + MODE, 0) {
+        return false;
+    }
+    is_word(open_files, OPEN * (e.0 as usize) + OFFSET, 0)
+}
+
+fn slot_inside(open_files: &[u32], e: Ofd) -> bool
+    ensures { λ r. ⌜ r ≡ ltb (tab OPEN (now («open_files» .entry)) (e .0) SLOT) SLOTS ⌝ }
+{
+    is_slot(slot_of(open_files, e))
+}
+
+fn on_plain(files: &[u32], open_files: &[u32], e: Ofd) -> bool
+    ensures { λ r. ⌜ r ≡ eqb (tab FILE (now (files .entry)) (tab OPEN (now («open_files» .entry)) (e .0) SLOT) KIND) PLAIN ⌝ }
+{
+    is_plain(files, slot_of(open_files, e))
+}
+
+fn mode_sound(open_files: &[u32], e: Ofd) -> bool
+    ensures { λ r. ⌜ r ≡ modeKept (modeOf (tab OPEN (now («open_files» .entry)) (e .0) MODE)) ⌝ }
+{
+    OpenMode::kept(mode(open_files, e).0)
+}
+
+fn open_used(files: &[u32], contents: &[u8], open_files: &[u32], processes: &[u32], e: Ofd) -> bool
+    ensures { λ r. ⌜ r ≡ openUsed (view (store (now (files .entry)) (now (contents .entry)) (now («open_files» .entry)) (now (processes .entry)))) (e .0) ⌝ }
+{
+    if !slot_inside(open_files, e) {
+        return false;
+    }
+    if !on_plain(files, open_files, e) {
+        return false;
+    }
+    if !mode_sound(open_files, e) {
+        return false;
+    }
+    at_most(open_files, OPEN * (e.0 as usize) + OFFSET, LENGTH_MAX)
+}
+
+// A free open file is all zero, any other is on a plain file.
+fn referred_sound(
+    files: &[u32],
+    contents: &[u8],
+    open_files: &[u32],
+    processes: &[u32],
+    e: Ofd,
+) -> bool
+    ensures { λ r. ⌜ r ≡ cond (eqb (tab OPEN (now («open_files» .entry)) (e .0) REFERENCES) 0) (openFree (tab OPEN (now («open_files» .entry))) (e .0)) (openUsed (view (store (now (files .entry)) (now (contents .entry)) (now («open_files» .entry)) (now (processes .entry)))) (e .0)) ⌝ }
+{
+    if is_word(open_files, OPEN * (e.0 as usize) + REFERENCES, 0) {
+        return open_free(open_files, e);
+    }
+    open_used(files, contents, open_files, processes, e)
+}
+
+fn open_sound(
+    files: &[u32],
+    contents: &[u8],
+    open_files: &[u32],
+    processes: &[u32],
+    held: &[u32],
+    e: Ofd,
+) -> bool
+    ensures { λ r. ⌜ r ≡ openSoundBy (view (store (now (files .entry)) (now (contents .entry)) (now («open_files» .entry)) (now (processes .entry)))) (now (held .entry)) (e .0) ⌝ }
+{
+    if !references_right(open_files, held, e) {
+        return false;
+    }
+    referred_sound(files, contents, open_files, processes, e)
+}
+
+fn all_open_files_sound(
+    files: &[u32],
+    contents: &[u8],
+    open_files: &[u32],
+    processes: &[u32],
+    held: &[u32],
+) -> bool
+    ensures { λ r. ⌜ r ≡ all (openSoundBy (view (store (now (files .entry)) (now (contents .entry)) (now («open_files» .entry)) (now (processes .entry)))) (now (held .entry))) 0 OPEN-FILES ⌝ }
+{
+    let mut e = 0;
+    while e < OPEN_FILES {
+        if open_sound(files, contents, open_files, processes, held, Ofd(e)) {
+            e += 1;
+        } else {
+            return false;
+        }
+    }
+    true
+}
+
+pub fn open_files_sound(
+    files: &[u32],
+    contents: &[u8],
+    open_files: &[u32],
+    processes: &[u32],
+) -> bool
+    ensures { λ r. ⌜ r ≡ all (openSound (view (store (now (files .entry)) (now (contents .entry)) (now («open_files» .entry)) (now (processes .entry))))) 0 OPEN-FILES ⌝ }
+{
+    let mut held = [0; HELD];
+    count_held(processes, &mut held);
+    all_open_files_sound(files, contents, open_files, processes, &held)
+}

@@ -1,5 +1,0 @@
-use Rattle.tables.proofs.opens.is_held.Statement.{statement}
-use Rattle.tables.proofs.opens.is_held.Tie as tie
-
-pub is-held-spec : {M : Type 1} → statement M
-is-held-spec = tie.close (tie.spec (λ c κs. tt) (λ c. cc))
