@@ -29,7 +29,7 @@ for m in re.finditer(r'ghost use ([^;{]+)\.\{([^}]*)\};', src):
         ghost[n.strip()] = m.group(1).strip()
 
 def of_fn(fn):
-    m = re.search(r'^( *)(?:pub )?fn ' + re.escape(fn) + r'\b.*?^\1\}\n', src, re.S | re.M)
+    m = re.search(r'^( *)(?:pub(?:\(crate\))? )?fn ' + re.escape(fn) + r'\b.*?^\1\}\n', src, re.S | re.M)
     text = m.group(0) if m else ''
     e = re.search(r'ensures \{ λ r\. ⌜ (?:now )?r ≡ \(?([^\s()]+)', text)
     return (e.group(1) if e else None), text

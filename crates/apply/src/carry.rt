@@ -30,6 +30,7 @@ use rules::decision::Effect;
 use rules::ids::Fd;
 use rules::ids::Pid;
 use rules::request::Request;
+use rules::request::Subject;
 use tables::layout::DESCRIPTORS;
 use tables::layout::OWN;
 use tables::layout::PROCESS;
@@ -109,11 +110,11 @@ fn share_all(open_files: &mut [u32], processes: &mut [u32], p: Pid, q: Pid)
 }
 
 // A child, with its parent's descriptors.
-fn fork(open_files: &mut [u32], processes: &mut [u32], p: Pid, q: Pid, user: u32, label: u32)
-    ensures { λ _. ⌜ ((F C : List ℕ) → store F C (now («open_files» .exit)) (now (processes .exit)) ≡ applyAll (forkChanges q user label) (sharedAll p q (store F C (now («open_files» .entry)) (now (processes .entry))))) ⌝ }
+fn fork(open_files: &mut [u32], processes: &mut [u32], p: Pid, q: Pid, who: Subject)
+    ensures { λ _. ⌜ ((F C : List ℕ) → store F C (now («open_files» .exit)) (now (processes .exit)) ≡ applyAll (forkChanges q who) (sharedAll p q (store F C (now («open_files» .entry)) (now (processes .entry))))) ⌝ }
 {
     share_all(open_files, processes, p, q);
-    make_process(processes, q, user, label);
+    make_process(processes, q, who);
 }
 
 // A process ends.
@@ -157,7 +158,7 @@ pub fn carry_out(
         Effect::Stored(w) => write_bytes(files, contents, open_files, data, w),
         Effect::Moved(o, at) => move_offset(open_files, o, at),
         Effect::Duplicated(i, o, n) => duplicate(open_files, processes, p, i, o, n),
-        Effect::Forked(q, u, l) => fork(open_files, processes, p, q, u, l),
+        Effect::Forked(q, who) => fork(open_files, processes, p, q, who),
         Effect::Exited => exit(files, contents, open_files, processes, p),
         Effect::Relabelled(l) => relabel_process(processes, p, l),
     }

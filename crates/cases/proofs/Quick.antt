@@ -15,7 +15,7 @@ use Rattle.rules.specs.Scan.{turns, fold, all, count, total}
 use Rattle.rules.specs.Layout.{SLOTS, BLOCK, DIRENTS, OPEN-FILES, PROCESSES, FILE, LINKS, OPEN}
 use Rattle.rules.specs.Directories.{direntSlot}
 use Rattle.rules.specs.Walk.{isDirectory}
-use Rattle.rules.specs.Store.{Store, Tree, View, view, slot, block, tab, procOf, descOf, hidden, shownOf}
+use Rattle.rules.specs.Store.{Store, Tree, View, view, slot, block, tab, procOf, descOf, hidden, shownOf, Table}
 use Rattle.rules.specs.Sound.{storeSound, sizesSound, tablesSound, recordSound, linksAt, linksFrom, linksTo, linksSound, kindSound, slotSound, openSound, procSound}
 use Rattle.cases.proofs.Tests.{first-passes, rest-passes}
 
@@ -52,13 +52,14 @@ tally s (e ∷ es) = cond (eqb e s) (1 + tally s es) (tally s es)
 unfoldable pub quickLinks : Tree → List ℕ → ℕ → Bool
 quickLinks t ns s = cond (eqb s 0) (eqb (t .file s LINKS) 0) (eqb (t .file s LINKS) (tally s ns))
 
-unfoldable pub quickSlot : View → List ℕ → ℕ → Bool
-quickSlot v ns s = every (recordSound (v .tree) s ∷ quickLinks (v .tree) ns s ∷ kindSound v s ∷ [])
+unfoldable pub quickSlot : Tree → (openFiles : Table) → List ℕ → ℕ → Bool
+quickSlot t openFiles ns s = every (recordSound (t .file) s ∷ quickLinks t ns s ∷ kindSound t openFiles s ∷ [])
 
 unfoldable pub quickTables : View → Bool
 quickTables v =
     let ns = named (v .tree) 0 SLOTS in
-    every (isDirectory (v .tree .file) (slot 0) ∷ all (quickSlot v ns) 0 SLOTS ∷ all (openSound v) 0 OPEN-FILES ∷ all (procSound v) 0 PROCESSES ∷ [])
+    every (isDirectory (v .tree .file) (slot 0) ∷ all (quickSlot (v .tree) (v .openFiles) ns) 0 SLOTS
+    ∷ all (openSound (v .tree .file) (v .openFiles) (v .desc)) 0 OPEN-FILES ∷ all (procSound (v .proc) (v .desc)) 0 PROCESSES ∷ [])
 
 unfoldable pub quickSound : Store → Bool
 quickSound s = cond (sizesSound s) (quickTables (quickView s)) false
@@ -120,13 +121,13 @@ links-same t s d (suc k) = by (isDirectory (t .file) (slot d)) (turns (λ j n. l
     by true n rest e = rw e (sym (count-entries (t .shown d) s rest))
     by false n rest e = zero-add _ ∙ e
 
-slot-same : (v : View) (s : ℕ) → quickSlot v (named (v .tree) 0 SLOTS) s ≡ slotSound v s
+slot-same : (t : Tree) (openFiles : Table) (s : ℕ) → quickSlot t openFiles (named t 0 SLOTS) s ≡ slotSound t openFiles s
 unfolding quickSlot slotSound quickLinks linksSound linksTo total fold
-slot-same v s = rw (links-same (v .tree) s 0 SLOTS)
+slot-same t openFiles s = rw (links-same t s 0 SLOTS)
 
 tables-same : (v : View) → quickTables v ≡ tablesSound v
 unfolding quickTables tablesSound
-tables-same v = rw (fun-ext (slot-same v))
+tables-same v = rw (fun-ext (slot-same (v .tree) (v .openFiles)))
 
 -- ---- where the sizes are right the quick view is the view; elsewhere neither is looked at
 

@@ -24,7 +24,7 @@ pub fn is_absent(at: Location) -> bool
 pub fn free_in(files: &[u32], contents: &[u8], d: Slot) -> Dirent
     ensures { λ r. ⌜ r ≡ freeDirent (shownOf (now (files .entry)) (now (contents .entry)) (d .0)) ⌝ }
 {
-    resolution::directories::free_dirent(shown(files, contents, d))
+    directories::entries::free_dirent(shown(files, contents, d))
 }
 
 // A directory that gains a name in entry i.

@@ -24,11 +24,7 @@ use tables::processes::subject;
 fn forked_to(who: Subject, q: Pid) -> Decision
     ensures { λ r. ⌜ r ≡ forked who q ⌝ }
 {
-    Decision::Granted(
-        q.0 as u32,
-        Output::Nothing,
-        Effect::Forked(q, who.user, who.label),
-    )
+    Decision::Granted(q.0 as u32, Output::Nothing, Effect::Forked(q, who))
 }
 
 fn fork_to(who: Subject, q: Pid) -> Decision

@@ -6,6 +6,7 @@ ghost use Rattle.rules.specs.Layout.{PROCESS-LABEL};
 ghost use Rattle.rules.specs.Store.{store, procWord, procZero, applyAll};
 ghost use Rattle.rules.specs.Effects.{forkChanges};
 use rules::ids::Pid;
+use rules::request::Subject;
 use tables::layout::PROCESS;
 use tables::layout::PROCESS_LABEL;
 use tables::layout::USED;
@@ -13,13 +14,13 @@ use tables::layout::USER;
 use tables::words::put;
 use tables::words::zero_words;
 
-pub fn make_process(processes: &mut [u32], child: Pid, user: u32, label: u32)
-    ensures { λ _. ⌜ ((F C E : List ℕ) → store F C E (now (processes .exit)) ≡ applyAll (forkChanges child user label) (store F C E (now (processes .entry)))) ⌝ }
+pub fn make_process(processes: &mut [u32], child: Pid, who: Subject)
+    ensures { λ _. ⌜ ((F C E : List ℕ) → store F C E (now (processes .exit)) ≡ applyAll (forkChanges child who) (store F C E (now (processes .entry)))) ⌝ }
 {
     let at = PROCESS * (child.0 as usize);
     put(processes, at + USED, 1);
-    put(processes, at + USER, user);
-    put(processes, at + PROCESS_LABEL, label);
+    put(processes, at + USER, who.user);
+    put(processes, at + PROCESS_LABEL, who.label);
 }
 
 pub fn free_process(processes: &mut [u32], p: Pid)

@@ -5,8 +5,8 @@ ghost use Rattle.rules.specs.Store.{tab, tree};
 ghost use Rattle.rules.specs.Rights.{owns};
 ghost use Rattle.rules.specs.DecidePaths.{changeBitsAt, decideChangeBits};
 ghost use Rattle.rules.specs.declared.rights.BitsNumber.the-variants.{Valid};
-use resolution::rights::label_allows;
 use resolution::walk::walk_path;
+use rights::rights::label_allows;
 use rules::decision::Decision;
 use rules::decision::Effect;
 use rules::decision::Output;
@@ -22,7 +22,7 @@ use tables::files::owner;
 fn owns_file(files: &[u32], who: Subject, s: Slot) -> bool
     ensures { λ r. ⌜ r ≡ owns who (tab FILE (now (files .entry)) (s .0) OWNER) ⌝ }
 {
-    resolution::rights::is_owner(who, owner(files, s))
+    rights::rights::is_owner(who, owner(files, s))
 }
 
 fn change_bits_at(files: &[u32], policy: &[u8], who: Subject, bits: Bits, s: Slot) -> Decision

@@ -11,9 +11,9 @@ ghost use Rattle.rules.specs.DecidePaths.{truncated, newOpen, opening, opened, 
 ghost use Rattle.rules.specs.declared.decision.Effect.the-variants as effect;
 use allocation::free::free_fd;
 use allocation::free::free_ofd;
-use resolution::rights::bits_allow;
-use resolution::rights::label_allows;
 use resolution::walk::walk_path;
+use rights::rights::bits_allow;
+use rights::rights::label_allows;
 use rules::decision::Decision;
 use rules::decision::Effect;
 use rules::decision::NewOpen;

@@ -77,7 +77,7 @@ module _ (Q : List ℕ) (s : Store) (c : Call) where
   Asked k n o (effect.Stored w) = AsksWrite k (w .slot .0)
   Asked k n o (effect.Moved e x) = Unit {0}
   Asked k n o (effect.Duplicated i e r) = Unit {0}
-  Asked k n o (effect.Forked q u l) = Unit {0}
+  Asked k n o (effect.Forked q who) = Unit {0}
   Asked k n o effect.Exited = Unit {0}
   Asked k n o (effect.Relabelled l) = Unit {0}
 

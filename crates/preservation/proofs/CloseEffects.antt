@@ -31,7 +31,8 @@ use Rattle.preservation.proofs.Words.{up-most}
 use Rattle.preservation.proofs.OneWord.{Held}
 use Rattle.preservation.proofs.OneWord as word
 use Rattle.preservation.proofs.Remake.{remade}
-use Rattle.preservation.proofs.Create.{fileRow, freed}
+use Rattle.preservation.proofs.Rows.{freeRow}
+use Rattle.preservation.proofs.Create.{freed}
 use Rattle.preservation.proofs.Open.{handed, close-keeps, close-named, close-open, close-frees, slot-small}
 use Rattle.preservation.proofs.Processes.{retire-sound}
 use Rattle.preservation.proofs.StoreChanges.{tablesOf, Has, has-clearTo, has-openRow, has-openZero, has-descTo, has-procZero, desc-past}
@@ -156,7 +157,7 @@ close-leaves s h p i hp hi u (frees e d r l none) = from-leaves {m = freed (tabl
       (view s .openFiles e SLOT) (words (checks.freed (view s .tree .file) (slot (view s .openFiles e SLOT)))) (slot-small (tablesOf s) (h .tables) (p .0) (i .0) e hp hi (λ z. omega (arith, u, z)) d) refl;
   sound = close-frees (tablesOf s) (h .tables) (p .0) (i .0) e hp hi (λ z. omega (arith, u, z)) d r l none (up (tablesOf s .file (tablesOf s .openFiles e SLOT) VERSION)) (up-most (tablesOf s .file (tablesOf s .openFiles e SLOT) VERSION));
 }) (unfold freed remade in refl) (unfold freed remade in refl)
-    (unfold freed in steady-freed (handed (p .0) (i .0) 0 e (λ _. 0) (tablesOf s)) (tablesOf s .openFiles e SLOT) (fileRow FREE 0 0 0 0 0 (up (tablesOf s .file (tablesOf s .openFiles e SLOT) VERSION))) (λ _. 0) refl)
+    (unfold freed in steady-freed (handed (p .0) (i .0) 0 e (λ _. 0) (tablesOf s)) (tablesOf s .openFiles e SLOT) (freeRow (up (tablesOf s .file (tablesOf s .openFiles e SLOT) VERSION))) (λ _. 0) refl)
 
 -- ---- exit
 

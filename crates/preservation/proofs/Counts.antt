@@ -1,14 +1,14 @@
 -- How the counts change where one row of a table changes.
 use mathlib.Core.Path.{_≡_, refl, ap}
 use mathlib.Core.Bool.{_&&_}
-use Prim.Native.Nat.{ℕ, _+_, _≤_, _<_}
+use Prim.Native.Nat.{ℕ, _+_, _<_}
 use native.Mathlib.Omega.{arith}
 use lib.Dec.{eqb, ltb}
 use borrow.Author.Tests.{eq-eqb, ne-eqb}
 use Rattle.preservation.proofs.Tests.{split, updRow}
 use Rattle.preservation.proofs.Sums.{count2, ind, sum-change, sum2-change, sum2-at, ind-true}
-use Rattle.preservation.proofs.Sound.{holderCount, openCount, File, OpenFile}
-use Rattle.rules.specs.Layout.{SLOTS, BLOCK, OPEN-FILES, PROCESSES, DESCRIPTORS, FREE, PLAIN, KIND-MAX, USER-MAX, BITS-MAX, LABEL-MAX, MODE-MAX, WORD-MAX}
+use Rattle.preservation.proofs.Sound.{holderCount, openCount}
+use Rattle.rules.specs.Layout.{OPEN-FILES, PROCESSES, DESCRIPTORS}
 
 pub updRow-same : (f : ℕ → ℕ → ℕ) (j c v : ℕ) → updRow f j c v j c ≡ v
 updRow-same f j c v = rw (eq-eqb j j refl, eq-eqb c c refl)
@@ -42,31 +42,3 @@ pub openCount-change : (slot refs slot′ refs′ : ℕ → ℕ) (e s : ℕ) →
 unfolding openCount
 openCount-change slot refs slot′ refs′ e s he a b =
     sum-change OPEN-FILES (λ i. ind (eqb (slot i) s && ltb 0 (refs i))) (λ i. ind (eqb (slot′ i) s && ltb 0 (refs′ i))) e he (λ i _ n. rw (a i n, b i n))
-
--- ---- a row that is in use: nothing is owed of a free one
-
-pub file-used : {kind owner bits label length links version : ℕ} → (kind ≡ FREE → ⊥) → kind ≤ KIND-MAX → owner ≤ USER-MAX → bits ≤ BITS-MAX → label ≤ LABEL-MAX → version ≤ WORD-MAX → File kind owner bits label length links version
-file-used u k o b l t = record {
-  kind-most = k;
-  owner-most = o;
-  bits-most = b;
-  label-most = l;
-  version-most = t;
-  owner-zero = λ z. absurd (u z);
-  bits-zero = λ z. absurd (u z);
-  label-zero = λ z. absurd (u z);
-  length-zero = λ z. absurd (u z);
-  links-zero = λ z. absurd (u z);
-}
-
-pub open-used : {kind : ℕ → ℕ} {slot mode offset refs : ℕ} → (refs ≡ 0 → ⊥) → slot < SLOTS → kind slot ≡ PLAIN → 0 < mode → mode ≤ MODE-MAX → offset ≤ BLOCK → OpenFile kind slot mode offset refs
-open-used u s k ml mm p = record {
-  slot-zero = λ z. absurd (u z);
-  mode-zero = λ z. absurd (u z);
-  offset-zero = λ z. absurd (u z);
-  slot-small = λ _. s;
-  plain = λ _. k;
-  mode-least = λ _. ml;
-  mode-most = λ _. mm;
-  offset-most = λ _. p;
-}

@@ -4,22 +4,16 @@ use mathlib.Core.Bool.{true, false}
 use Prim.Native.Nat.{ℕ, _+_, _-_, _*_, _≤_, _<_}
 use native.Mathlib.Omega.{arith}
 use native.Mathlib.Decide.{ℕ-discrete}
-use mathlib.Core.List.{[], _∷_}
-use lib.ListN.{getD}
 use lib.Dec.{eqb}
 use borrow.Author.Tests.{eq-eqb, ne-eqb}
 use Rattle.preservation.proofs.Tables.{Tables, col, direntRow}
-use Rattle.preservation.proofs.Sound.{Sound, SoundBut, validRow, sameRow, openCount}
-use Rattle.preservation.proofs.Counts.{file-used}
+use Rattle.preservation.proofs.Sound.{Sound, SoundBut, File, validRow, sameRow, openCount}
+use Rattle.preservation.proofs.Rows.{freeRow, file-free}
 use Rattle.preservation.proofs.Dirents.{placed, Fits, used-at}
 use Rattle.preservation.proofs.Link.{loosen, tighten, linked, linked-sound}
 use Rattle.preservation.proofs.Unlink.{unlinked, unlinked-sound}
 use Rattle.preservation.proofs.Remake.{remade, remade-sound, remade-depths, Bare, Fresh}
-use Rattle.rules.specs.Layout.{SLOTS, BLOCK, DIRENTS, DIRENT, OPEN-FILES, NAME, NAMES, KIND, LENGTH, LINKS, VERSION, FREE, PLAIN, DIRECTORY, SLOT, REFERENCES, KIND-MAX, USER-MAX, BITS-MAX, LABEL-MAX, WORD-MAX}
-
--- a record by its words
-abbrev pub fileRow : (kind owner bits label length links version : ℕ) → ℕ → ℕ
-fileRow kind owner bits label length links version c = getD (kind ∷ owner ∷ bits ∷ label ∷ length ∷ links ∷ version ∷ []) c 0
+use Rattle.rules.specs.Layout.{SLOTS, BLOCK, DIRENTS, DIRENT, OPEN-FILES, NAME, NAMES, KIND, LENGTH, LINKS, FREE, PLAIN, DIRECTORY, SLOT, REFERENCES, WORD-MAX}
 
 -- ---- a name as a granted call has it
 
@@ -57,53 +51,57 @@ name-fits m d p r t y n ht hy n0 u = record {
 
 pub link-sound : (m : Tables) → Sound m → (d p : ℕ) (r : ℕ → ℕ) (t y : ℕ) → Name m d p r y → t ≤ WORD-MAX → y < SLOTS → m .file y KIND ≡ PLAIN → Sound (linked d p r t y m)
 link-sound m h d p r t y n ht hy k =
-    linked-sound m d p r t y (loosen y m h) (name-fits m d p r t y n ht hy (λ z. omega (arith, h .root-kind, rw z at k)) (λ z. omega arith)) (n .row-slot) (n .dirent-empty)
-    (λ z. omega (arith, n .dir-kind, rw (← z) at k)) (h .depths) (λ z. absurd (omega arith))
+    linked-sound m d p r t y (loosen y m h) (name-fits m d p r t y n ht hy (λ z. omega (arith, h .slots .root-kind, rw z at k)) (λ z. omega arith)) (n .row-slot) (n .dirent-empty)
+    (λ z. omega (arith, n .dir-kind, rw (← z) at k)) (h .tree .depths) (λ z. absurd (omega arith))
 
--- ---- create: kind k is 1 or 2
+-- ---- create
 
-unfoldable pub created : (d p : ℕ) → (ℕ → ℕ) → (t y k owner bits label : ℕ) → Tables → Tables
-created d p r t y k owner bits label m = linked d p r t y (remade y (fileRow k owner bits label 0 0 (m .file y VERSION)) (m .byte y) m)
+-- the record of a new file that has no name yet
+pub record NewFile (row : ℕ → ℕ) : Type 0 where
+  pub file-row : File row
+  pub used : row KIND ≡ FREE → ⊥
+  pub no-length : row LENGTH ≡ 0
+  pub no-links : row LINKS ≡ 0
 
-module _ (m : Tables) (h : Sound m) (d p : ℕ) (r : ℕ → ℕ) (t y k owner bits label : ℕ) (n : Name m d p r y) (ht : t ≤ WORD-MAX) (hy : y < SLOTS) (free : m .file y KIND ≡ FREE)
-    (k1 : 0 < k) (k2 : k ≤ KIND-MAX) (ho : owner ≤ USER-MAX) (hb : bits ≤ BITS-MAX) (hl : label ≤ LABEL-MAX) (deep : k ≡ DIRECTORY → h .depths .depth d < NAMES) where
-  abbrev row : ℕ → ℕ
-  row = fileRow k owner bits label 0 0 (m .file y VERSION)
+unfoldable pub created : (d p : ℕ) → (ℕ → ℕ) → (t y : ℕ) → (ℕ → ℕ) → Tables → Tables
+created d p r t y row m = linked d p r t y (remade y row (m .byte y) m)
 
+module _ (m : Tables) (h : Sound m) (d p : ℕ) (r : ℕ → ℕ) (t y : ℕ) (row : ℕ → ℕ) (n : Name m d p r y) (ht : t ≤ WORD-MAX) (hy : y < SLOTS) (free : m .file y KIND ≡ FREE)
+    (new : NewFile row) (deep : row KIND ≡ DIRECTORY → h .tree .depths .depth d < NAMES) where
   not-root : y ≡ 0 → ⊥
-  not-root z = omega (arith, h .root-kind, rw z at free)
+  not-root z = omega (arith, h .slots .root-kind, rw z at free)
 
   not-dir : d ≡ y → ⊥
   not-dir z = omega (arith, n .dir-kind, rw (← z) at free)
 
   zeros : (b : ℕ) → b < BLOCK → m .byte y b ≡ 0
-  zeros b l = h .blocks y hy .past-zero (λ z. omega arith) b l (omega (arith, h .files y hy .length-zero free))
+  zeros b l = h .slots .blocks y hy .past-zero (λ z. omega arith) b l (omega (arith, h .slots .files y hy .length-zero free))
 
   bare : Bare m y
   bare = record {
     small = hy;
     not-root = not-root;
-    no-links = h .files y hy .links-zero free;
+    no-links = h .slots .files y hy .links-zero free;
     no-dirents = λ z. absurd (omega arith);
-    not-open = λ e he o z. omega (arith, rw z at (h .open-files e he .plain o));
+    not-open = λ e he o z. omega (arith, rw z at (h .opens .open-files e he .plain o));
   }
 
   fresh : Fresh row (m .byte y)
   fresh = record {
-    file-row = file-used (λ z. omega arith) k2 ho hb hl (h .files y hy .version-most);
-    links-row = refl;
-    empty-length = λ _. refl;
+    file-row = new .file-row;
+    links-row = new .no-links;
+    empty-length = λ _. new .no-length;
     empty-bytes = λ _ b l. zeros b (omega arith);
-    block-row = record { length-most = λ _. omega arith; past-zero = λ _ b l _. zeros b l; tail-zero = λ _ b l _. zeros b l };
+    block-row = record { length-most = λ _. omega (arith, new .no-length); past-zero = λ _ b l _. zeros b l; tail-zero = λ _ b l _. zeros b l };
   }
 
-  pub create-sound : Sound (created d p r t y k owner bits label m)
+  pub create-sound : Sound (created d p r t y row m)
   unfolding created remade remade-depths
   create-sound = linked-sound (remade y row (m .byte y) m) d p r t y (remade-sound m y row (m .byte y) (loosen y m h) bare fresh)
-      (name-fits (remade y row (m .byte y) m) d p r t y name ht hy not-root (rw (eq-eqb y y refl) (λ z. omega arith)))
-      (n .row-slot) (name .dirent-empty) not-dir (remade-depths m y row (m .byte y) (loosen y m h) bare fresh (h .depths))
+      (name-fits (remade y row (m .byte y) m) d p r t y name ht hy not-root (rw (eq-eqb y y refl) (new .used)))
+      (n .row-slot) (name .dirent-empty) not-dir (remade-depths m y row (m .byte y) (loosen y m h) bare fresh (h .tree .depths))
       (rw (eq-eqb y y refl) (λ z. record {
-        no-links = rw (eq-eqb y y refl);
+        no-links = rw (eq-eqb y y refl) (new .no-links);
         no-dirents = λ q hq. rw (eq-eqb y y refl) (zeros (DIRENT * q + NAME) (omega arith));
         not-deep = rw (ne-eqb d y not-dir) (deep z);
       }))
@@ -127,13 +125,13 @@ module _ (m : Tables) (h : Sound m) (d p : ℕ) (r : ℕ → ℕ) (t y k owner b
 -- ---- free a slot: its version goes to t
 
 unfoldable pub freed : (y t : ℕ) → Tables → Tables
-freed y t m = remade y (fileRow FREE 0 0 0 0 0 t) (λ _. 0) m
+freed y t m = remade y (freeRow t) (λ _. 0) m
 
 pub freed-sound : (m : Tables) (y t : ℕ) → SoundBut y m → Bare m y → t ≤ WORD-MAX → Sound (freed y t m)
 unfolding freed remade
 freed-sound m y t h a ht = tighten y (freed y t m)
-    (remade-sound m y (fileRow FREE 0 0 0 0 0 t) (λ _. 0) h a (record {
-      file-row = record { kind-most = omega arith; owner-most = omega arith; bits-most = omega arith; label-most = omega arith; version-most = ht; owner-zero = λ _. refl; bits-zero = λ _. refl; label-zero = λ _. refl; length-zero = λ _. refl; links-zero = λ _. refl };
+    (remade-sound m y (freeRow t) (λ _. 0) h a (record {
+      file-row = file-free t ht;
       block-row = record { length-most = λ _. omega arith; past-zero = λ _ b l _. refl; tail-zero = λ _ b l _. refl };
       links-row = refl;
       empty-length = λ _. refl;
@@ -145,7 +143,7 @@ freed-sound m y t h a ht = tighten y (freed y t m)
 
 module _ (m : Tables) (h : Sound m) (d p t y : ℕ) (hd : d < SLOTS) (kd : m .file d KIND ≡ DIRECTORY) (hp : p < DIRENTS) (e : direntRow (m .byte) d p NAME ≡ y) (n0 : y ≡ 0 → ⊥) (ht : t ≤ WORD-MAX) where
   pub target-small : y < SLOTS
-  target-small = rw e at (h .dirs d hd kd .dirents p hp .slot-small)
+  target-small = rw e at (h .tree .dirs d hd kd .dirents p hp .slot-small)
 
   -- the file keeps a name, or is open
   pub unlink-sound : m .file y KIND ≡ PLAIN → 0 < m .file y LINKS - 1 + openCount (col (m .openFiles) SLOT) (col (m .openFiles) REFERENCES) y → Sound (unlinked d p t y m)
@@ -172,16 +170,16 @@ remove-sound m h d p t y t′ hd kd hp e n0 ht k z0 ht′ =
     freed-sound (unlinked d p t y m) y t′ (unlinked-sound m d p t y (loosen y m h) hd kd hp e n0 ht) (record {
       small = hy;
       not-root = n0;
-      no-links = rw (eq-eqb y y refl) (omega (arith, h .once y hy (λ z. omega (arith, hy)) k n0));
-      not-open = λ i hi o z. omega (arith, rw z at (h .open-files i hi .plain o));
+      no-links = rw (eq-eqb y y refl) (omega (arith, h .live .once y hy (λ z. omega (arith, hy)) k n0));
+      not-open = λ i hi o z. omega (arith, rw z at (h .opens .open-files i hi .plain o));
       no-dirents = λ _ q hq. rw (ne-eqb y d other) (empty q hq);
     }) ht′
   where
     hy : y < SLOTS
-    hy = rw e at (h .dirs d hd kd .dirents p hp .slot-small)
+    hy = rw e at (h .tree .dirs d hd kd .dirents p hp .slot-small)
 
     empty : (q : ℕ) → q < DIRENTS → direntRow (m .byte) y q NAME ≡ 0
-    empty q hq = elim (ℕ-discrete (direntRow (m .byte) y q NAME) 0) [ yes z ↦ z | no z ↦ absurd (omega (arith, used-at (direntRow (m .byte) y) q hq z, h .lengths y hy k)) ]
+    empty q hq = elim (ℕ-discrete (direntRow (m .byte) y q NAME) 0) [ yes z ↦ z | no z ↦ absurd (omega (arith, used-at (direntRow (m .byte) y) q hq z, h .tree .lengths y hy k)) ]
 
     other : y ≡ d → ⊥
     other z = n0 (sym e ∙ rw z at (empty p hp))

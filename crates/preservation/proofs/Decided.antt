@@ -46,6 +46,7 @@ use Rattle.preservation.proofs.Words.{offsets-most, length-most}
 use Rattle.preservation.proofs.StoreChanges.{tablesOf}
 use Rattle.preservation.proofs.SoundStore.{SoundStore}
 use Rattle.preservation.proofs.OpenEffects.{Caller, Opens, held-open}
+use Rattle.preservation.proofs.Rows.{file-used}
 use Rattle.preservation.proofs.NameEffects.{Creates}
 use Rattle.preservation.proofs.PathNames.{GoodPath, path-good, below-root, last-good}
 use Rattle.preservation.proofs.NewName.{new-name}
@@ -151,22 +152,26 @@ module _ (Q : List ℕ) (s : Store) (h : SoundStore s) (c : Call) (safe : policy
     where
       made : (at : Location) → Parent s h Q (subjectOf (view s .proc) (c .process)) (c .path) at → nameAbsent (view s .tree) (at .slot) (lastName (names (c .path))) ≡ true → isSlot (freeSlot (view s .tree .file)) ≡ true →
           isDirent (freeDirent (view s .tree .shown (at .slot .0))) ≡ true →
-          Creates s h (lastName (names (c .path))) (at .slot) (freeDirent (view s .tree .shown (at .slot .0)) .0) (freeSlot (view s .tree .file)) kind (subjectOf (view s .proc) (c .process) .user) (b .0) (tablesOf s .file (at .slot .0) LABEL)
+          Creates s h (lastName (names (c .path))) (subjectOf (view s .proc) (c .process)) (at .slot) (freeDirent (view s .tree .shown (at .slot .0)) .0) (freeSlot (view s .tree .file)) kind (b .0)
       made at f a t i = record {
         naming = new-name s h (at .slot) hd (f .kind) (lastName (names (c .path))) (freeDirent (view s .tree .shown (at .slot .0)) .0) (freeSlot (view s .tree .file)) (last-good (c .path) g some-names)
             (ltb-true (freeDirent (view s .tree .shown (at .slot .0)) .0) DIRENTS i) (dirent-free s h (at .slot .0) i) a (ltb-true (freeSlot (view s .tree .file) .0) SLOTS t);
-        small = ltb-true (freeSlot (view s .tree .file) .0) SLOTS t;
+        small = hy;
         free = slot-free s h t;
-        kind-least = k1;
-        kind-most = k2;
-        owner-most = unfold tablesOf in user-most;
-        bits-most = hb;
-        label-most = h .tables .files (at .slot .0) hd .label-most;
+        new = unfold tablesOf in record {
+          file-row = file-used (λ z. omega arith) k2 user-most hb (h .tables .slots .files (at .slot .0) hd .label-most) (h .tables .slots .files (freeSlot (view s .tree .file) .0) hy .version-most);
+          used = λ z. omega arith;
+          no-length = refl;
+          no-links = refl;
+        };
         not-deep = λ _. omega (arith, reach-depth (tablesOf s) (h .tables) (f .found .reach) (f .kind), g .short, some-names);
       }
         where
           hd : at .slot .0 < SLOTS
           hd = found-small s h Q (subjectOf (view s .proc) (c .process)) (f .found)
+
+          hy : freeSlot (view s .tree .file) .0 < SLOTS
+          hy = ltb-true (freeSlot (view s .tree .file) .0) SLOTS t
 
   -- ---- 4. Unlink, 5. Remove directory
 
@@ -233,7 +238,7 @@ module _ (Q : List ℕ) (s : Store) (h : SoundStore s) (c : Call) (safe : policy
       within : (e : ℕ) → Held (tablesOf s) e → tablesOf s .openFiles e OFFSET + min size (remaining (view s .tree .file) (view s .openFiles) (ofdOf e)) ≤ BLOCK
       within e o =
           let a : tablesOf s .openFiles e OFFSET ≤ BLOCK = offsets-most SLOTS (tablesOf s) (h .tables) e (o .small) in
-          let b : tablesOf s .file (tablesOf s .openFiles e SLOT) LENGTH ≤ BLOCK = length-most SLOTS (tablesOf s) (h .tables) (tablesOf s .openFiles e SLOT) (h .tables .open-files e (o .small) .slot-small (o .open-refs)) in
+          let b : tablesOf s .file (tablesOf s .openFiles e SLOT) LENGTH ≤ BLOCK = length-most SLOTS (tablesOf s) (h .tables) (tablesOf s .openFiles e SLOT) (h .tables .opens .open-files e (o .small) .slot-small (o .open-refs)) in
           unfold tablesOf in (omega (arith, a, b))
 
   write-fit : (i : Fd) → Fit (Granting s h c) (decideWrite (view s .tree .file) (view s .openFiles) (view s .desc) (c .process) i (length (c .«data»)))
@@ -272,7 +277,7 @@ module _ (Q : List ℕ) (s : Store) (h : SoundStore s) (c : Call) (safe : policy
           own = h .tables .procs (c .process .0) (u .small) .label-most
 
           program : tablesOf s .file (at .slot .0) LABEL ≤ LABEL-MAX
-          program = h .tables .files (at .slot .0) l .label-most
+          program = h .tables .slots .files (at .slot .0) l .label-most
 
   -- ---- every call
 

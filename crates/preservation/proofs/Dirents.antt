@@ -6,12 +6,13 @@ use native.Mathlib.Omega.{arith}
 use native.Mathlib.Decide.{decLt}
 use lib.Dec.{eqb, ltb}
 use borrow.Author.Tests.{eq-eqb, ne-eqb, lt-ltb, le-ltb}
-use Rattle.preservation.proofs.Tests.{split, upd, upd-elim, upd-same, upd-other, means-all, means-eq}
+use Rattle.preservation.proofs.Tests.{split, upd, upd2, upd-elim, upd-same, upd-other, means-all, means-eq}
 use Rattle.preservation.proofs.Sums.{ind, count, sum-change, sum2-change, sum2-at, sum-at, sum-none}
 use Rattle.preservation.proofs.Tables.{Tables, col, direntRow, rowsOf, fill, fileTo, bytesTo}
-use Rattle.preservation.proofs.Sound.{All, SoundBut, File, Block, Dirent, Directory, naming, linkCount, nameCount, sameRow}
-use Rattle.preservation.proofs.Counts.{ind-eq, file-used}
-use Rattle.rules.specs.Layout.{SLOTS, DIRENTS, DIRENT, NAME, KIND, OWNER, BITS, LABEL, LENGTH, LINKS, VERSION, FREE, DIRECTORY, WORD-MAX}
+use Rattle.preservation.proofs.Sound.{All, Slots, Directories, SoundBut, File, Block, Dirent, Directory, Depths, naming, linkCount, nameCount, sameRow}
+use Rattle.preservation.proofs.Rows.{length-to, links-to, version-to}
+use Rattle.preservation.proofs.Counts.{ind-eq}
+use Rattle.rules.specs.Layout.{SLOTS, DIRENTS, DIRENT, NAME, KIND, LENGTH, LINKS, VERSION, FREE, DIRECTORY, WORD-MAX}
 
 -- ---- a block with one entry changed, as rows
 
@@ -105,39 +106,38 @@ module _ (x : ℕ) (m : Tables) (h : SoundBut x m) (d p : ℕ) (r : ℕ → ℕ)
   abbrev pub byte′ : ℕ → ℕ → ℕ
   byte′ = upd (m .byte) d (fill (m .byte d) p r)
 
-  pub placed-files : All SLOTS (λ i. File (m .file i KIND) (m .file i OWNER) (m .file i BITS) (m .file i LABEL) (upd (col (m .file) LENGTH) d z i) (upd (col (m .file) LINKS) y c i) (upd (col (m .file) VERSION) d t i))
-  placed-files i hi = split i d (λ q e. used (λ k. omega (arith, f .dir-kind, ap (λ (j : ℕ). m .file j KIND) q)))
-      (λ _ a. split i y (λ q e. used (λ k. f .file-used (rw q at k))) (λ _ b. rw (a, b) (h .files i hi)))
+  placed-files : All SLOTS (λ i. File (upd2 (upd2 (upd2 (m .file) d LENGTH z) d VERSION t) y LINKS c i))
+  placed-files = links-to (upd2 (upd2 (m .file) d LENGTH z) d VERSION t) (version-to (upd2 (m .file) d LENGTH z) (length-to (m .file) (h .slots .files) d z used) d t used (f .version-small)) y c (f .file-used)
     where
-      used : (m .file i KIND ≡ FREE → ⊥) → File (m .file i KIND) (m .file i OWNER) (m .file i BITS) (m .file i LABEL) (upd (col (m .file) LENGTH) d z i) (upd (col (m .file) LINKS) y c i) (upd (col (m .file) VERSION) d t i)
-      used u = let w = h .files i hi in file-used u (w .kind-most) (w .owner-most) (w .bits-most) (w .label-most) (upd-elim (λ v. v ≤ WORD-MAX) (col (m .file) VERSION) d t i (λ _. f .version-small) (λ _. w .version-most))
+      used : m .file d KIND ≡ FREE → ⊥
+      used k = omega (arith, f .dir-kind)
 
-  pub placed-blocks : All SLOTS (λ i. Block (m .file i KIND) (upd (col (m .file) LENGTH) d z i) (byte′ i))
+  placed-blocks : All SLOTS (λ i. Block (m .file i KIND) (upd (col (m .file) LENGTH) d z i) (byte′ i))
   placed-blocks i hi = split i d
       (λ q e. let k : m .file i KIND ≡ DIRECTORY = rw q (f .dir-kind) in rw e (record {
         length-most = λ n. absurd (n k);
         past-zero = λ n. absurd (n k);
-        tail-zero = λ _ b hb l. tail-fill (m .byte d) p r b (f .dirent-small) l ∙ h .blocks d (f .dir-small) .tail-zero (f .dir-kind) b hb l;
+        tail-zero = λ _ b hb l. tail-fill (m .byte d) p r b (f .dirent-small) l ∙ h .slots .blocks d (f .dir-small) .tail-zero (f .dir-kind) b hb l;
       }))
-      (λ q e. rw e (h .blocks i hi))
+      (λ q e. rw e (h .slots .blocks i hi))
 
-  pub placed-dirs : All SLOTS (λ i. m .file i KIND ≡ DIRECTORY → Directory (col (m .file) KIND) (direntRow byte′ i))
+  placed-dirs : All SLOTS (λ i. m .file i KIND ≡ DIRECTORY → Directory (col (m .file) KIND) (direntRow byte′ i))
   placed-dirs i hi k = split i d
-      (λ q e. rw (e, rows-fill (m .byte d) p r (f .row-end)) (dir-fill (col (m .file) KIND) (direntRow (m .byte) d) p r (h .dirs d (f .dir-small) (f .dir-kind)) (f .row-dirent) (f .row-new)))
-      (λ q e. rw e (h .dirs i hi k))
+      (λ q e. rw (e, rows-fill (m .byte d) p r (f .row-end)) (dir-fill (col (m .file) KIND) (direntRow (m .byte) d) p r (h .tree .dirs d (f .dir-small) (f .dir-kind)) (f .row-dirent) (f .row-new)))
+      (λ q e. rw e (h .tree .dirs i hi k))
 
-  pub placed-lengths : z + ind (not (eqb (direntRow (m .byte) d p NAME) 0)) ≡ m .file d LENGTH + ind (not (eqb (r NAME) 0)) → All SLOTS (λ i. m .file i KIND ≡ DIRECTORY → upd (col (m .file) LENGTH) d z i ≡ nameCount (direntRow byte′ i))
+  placed-lengths : z + ind (not (eqb (direntRow (m .byte) d p NAME) 0)) ≡ m .file d LENGTH + ind (not (eqb (r NAME) 0)) → All SLOTS (λ i. m .file i KIND ≡ DIRECTORY → upd (col (m .file) LENGTH) d z i ≡ nameCount (direntRow byte′ i))
   placed-lengths a i hi k = split i d
-      (λ q e. rw (e, rows-fill (m .byte d) p r (f .row-end)) (omega (arith, used-to (direntRow (m .byte) d) p r (f .dirent-small), h .lengths d (f .dir-small) (f .dir-kind))))
-      (λ q e. rw e (h .lengths i hi k))
+      (λ q e. rw (e, rows-fill (m .byte d) p r (f .row-end)) (omega (arith, used-to (direntRow (m .byte) d) p r (f .dirent-small), h .tree .lengths d (f .dir-small) (f .dir-kind))))
+      (λ q e. rw e (h .tree .lengths i hi k))
 
   -- the entries of the changed tables
-  pub placed-other : (i j : ℕ) → (i ≡ d → j ≡ p → ⊥) → direntRow byte′ i j ≡ direntRow (m .byte) i j
+  placed-other : (i j : ℕ) → (i ≡ d → j ≡ p → ⊥) → direntRow byte′ i j ≡ direntRow (m .byte) i j
   placed-other i j n = split i d
       (λ q e. rw (e, rows-fill (m .byte d) p r (f .row-end), upd-other (direntRow (m .byte) d) p r j (n q), q))
       (λ q e. rw e)
 
-  pub placed-here : direntRow byte′ d p ≡ r
+  placed-here : direntRow byte′ d p ≡ r
   placed-here = rw (eq-eqb d d refl, rows-fill (m .byte d) p r (f .row-end), upd-same (direntRow (m .byte) d) p r)
 
   -- and their slots
@@ -147,9 +147,24 @@ module _ (x : ℕ) (m : Tables) (h : SoundBut x m) (d p : ℕ) (r : ℕ → ℕ)
   pub placed-here-slot : direntRow byte′ d p NAME ≡ r NAME
   placed-here-slot = ap (λ (row : ℕ → ℕ). row NAME) placed-here
 
-  pub placed-links : All SLOTS (λ s. (s ≡ 0 → ⊥) → upd (col (m .file) LINKS) y c s + ind (eqb (direntRow (m .byte) d p NAME) s) ≡ m .file s LINKS + ind (eqb (r NAME) s)) →
+  placed-links : All SLOTS (λ s. (s ≡ 0 → ⊥) → upd (col (m .file) LINKS) y c s + ind (eqb (direntRow (m .byte) d p NAME) s) ≡ m .file s LINKS + ind (eqb (r NAME) s)) →
       All SLOTS (λ s. (s ≡ 0 → ⊥) → upd (col (m .file) LINKS) y c s ≡ linkCount (col (m .file) KIND) (direntRow byte′) s)
   placed-links a s hs n =
       let b = naming-change (col (m .file) KIND) (direntRow (m .byte)) (direntRow byte′) d p s (f .dir-small) (f .dirent-small) (f .dir-kind) placed-other-slot in
       let e : ind (eqb (direntRow byte′ d p NAME) s) ≡ ind (eqb (r NAME) s) = ap (λ (v : ℕ). ind (eqb v s)) placed-here-slot in
-      omega (arith, a s hs n, h .links s hs n)
+      omega (arith, a s hs n, h .tree .links s hs n)
+
+  -- the groups
+
+  pub placed-slots : Slots (upd2 (upd2 (upd2 (m .file) d LENGTH z) d VERSION t) y LINKS c) byte′
+  placed-slots = record {
+    files = placed-files;
+    root-kind = h .slots .root-kind;
+    root-links = upd-other (col (m .file) LINKS) y c 0 (λ q. f .file-root (sym q)) ∙ h .slots .root-links;
+    blocks = placed-blocks;
+  }
+
+  pub placed-tree : z + ind (not (eqb (direntRow (m .byte) d p NAME) 0)) ≡ m .file d LENGTH + ind (not (eqb (r NAME) 0)) →
+      All SLOTS (λ s. (s ≡ 0 → ⊥) → upd (col (m .file) LINKS) y c s + ind (eqb (direntRow (m .byte) d p NAME) s) ≡ m .file s LINKS + ind (eqb (r NAME) s)) →
+      Depths (col (m .file) KIND) (direntRow byte′) → Directories (col (m .file) KIND) (upd (col (m .file) LENGTH) d z) (upd (col (m .file) LINKS) y c) (direntRow byte′)
+  placed-tree a b e = record { dirs = placed-dirs; lengths = placed-lengths a; links = placed-links b; depths = e }

@@ -111,7 +111,7 @@ module _ (p q : Pid) (u l : ℕ) (hp : p .0 < PROCESSES) (hq : q .0 < PROCESSES)
     pub files-same : tables .file ≡ tablesOf s .file
     pub bytes-same : tables .byte ≡ tablesOf s .byte
 
-  pub fork-leaves : (s : Store) → SoundStore s → tablesOf s .proc (q .0) USED ≡ 0 → u ≤ USER-MAX → l ≤ LABEL-MAX → Forks s (applyAll (forkChanges q u l) (sharedAll p q s))
+  pub fork-leaves : (s : Store) → SoundStore s → tablesOf s .proc (q .0) USED ≡ 0 → u ≤ USER-MAX → l ≤ LABEL-MAX → Forks s (applyAll (forkChanges q (record { user = u; label = l })) (sharedAll p q s))
   unfolding forkChanges sharedAll applyAll
   fork-leaves s h f hu hl = record {
     tables = spawned (tablesOf (repeat (effects.shared p q) 0 DESCRIPTORS s));

@@ -9,7 +9,7 @@ use lib.Dec.{eqb}
 use lib.ListN.{length, getD, List·getD-eq-default}
 use borrow.Author.Tests.{eqb-true, eqb-false, ltb-true}
 use Rattle.rules.specs.Layout.{SLOTS, BLOCK, DIRENTS, OPEN-FILES, PROCESSES, DESCRIPTORS, RIGHTS, LABELS, NONE, BITS-MAX, LABEL-MAX}
-use Rattle.rules.specs.Layout.{KIND, OWNER, LABEL, LENGTH, LINKS, SLOT, OFFSET, REFERENCES, USED, FREE, PLAIN, DIRECTORY}
+use Rattle.rules.specs.Layout.{KIND, OWNER, LENGTH, LINKS, SLOT, OFFSET, REFERENCES, USED, FREE, PLAIN, DIRECTORY}
 use Rattle.rules.specs.Scan.{all}
 use Rattle.rules.specs.Store.{Store, view, slot, isSlot, isPid, isFd, ofdOf, isOfd, entry, isDirent, bitsAt, subjectOf, up, plus}
 use Rattle.rules.specs.Paths.{names, lastName}
@@ -87,7 +87,7 @@ module _ (s : Store) (h : SoundStore s) (c : Call) where
     nothing : (n : ℕ) (o : Output) → Granting n o effect.Nothing
     opens : (n : NewOpen) → Opens (tablesOf s) (c .process) n → Granting (n .fd .0) output.Nothing (effect.Opened n)
     truncates : (n : NewOpen) → Opens (tablesOf s) (c .process) n → Granting (n .fd .0) output.Nothing (effect.Truncated n (truncated (view s .tree .file) (n .slot)))
-    creates : (d : Slot) (i y kind bits : ℕ) → Creates s h (lastName (names (c .path))) d i (slot y) kind (subjectOf (view s .proc) (c .process) .user) bits (tablesOf s .file (d .0) LABEL) →
+    creates : (d : Slot) (i y kind bits : ℕ) → Creates s h (lastName (names (c .path))) (subjectOf (view s .proc) (c .process)) d i (slot y) kind bits →
         Granting y output.Nothing (effect.Created (gains (view s .tree .file) d (entry i)) (slot y) (newRecord (view s .tree .file) (subjectOf (view s .proc) (c .process)) kind (bitsAt bits) d (slot y)))
     unlinks : {n : ℕ} {o : Output} {e : Effect} → Unlinking n o e → Granting n o e
     removes : (d : Slot) (i : ℕ) (y : Slot) → Names s h d i y → tablesOf s .file (y .0) KIND ≡ DIRECTORY → tablesOf s .file (y .0) LENGTH ≡ 0 →
@@ -103,7 +103,7 @@ module _ (s : Store) (h : SoundStore s) (c : Call) where
     duplicates : (i j : Fd) (e : ℕ) → Holds (tablesOf s) (c .process) i e → j .0 < DESCRIPTORS → tablesOf s .desc (c .process .0) (j .0) ≡ 0 →
         Granting (j .0) output.Nothing (effect.Duplicated j (ofdOf e) (up (view s .openFiles e REFERENCES)))
     forks : (q : Pid) → Caller (tablesOf s) (c .process) → q .0 < PROCESSES → tablesOf s .proc (q .0) USED ≡ 0 →
-        Granting (q .0) output.Nothing (effect.Forked q (subjectOf (view s .proc) (c .process) .user) (subjectOf (view s .proc) (c .process) .label))
+        Granting (q .0) output.Nothing (effect.Forked q (subjectOf (view s .proc) (c .process)))
     exits : Caller (tablesOf s) (c .process) → Granting 0 output.Nothing effect.Exited
     executes : (l : ℕ) → Caller (tablesOf s) (c .process) → l ≤ LABEL-MAX → Granting 0 output.Nothing (effect.Relabelled l)
 

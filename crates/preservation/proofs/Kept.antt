@@ -1,8 +1,6 @@
 -- What a change leaves of slot f: its bytes, and its record in some columns.
 use mathlib.Core.Path.{_≡_, refl, sym, ap, _∙_}
-use mathlib.Core.Bool.{Bool, true, false, cond}
 use Prim.Native.Nat.{ℕ, _<_}
-use lib.Dec.{eqb}
 use lib.Seq.{ext-getD}
 use borrow.Author.Tests.{ne-eqb}
 use Rattle.rules.specs.Layout.{SLOTS, KIND, LENGTH, LINKS, VERSION, FREE}
@@ -11,7 +9,7 @@ use Rattle.rules.specs.declared.ids.Slot.{Slot}
 use Rattle.rules.specs.declared.decision.Record.{Record}
 use Rattle.rules.specs.declared.decision.Unnamed.{Unnamed}
 use Rattle.rules.specs.declared.decision.Unnamed.the-variants as unnamed
-use Rattle.preservation.proofs.Tests.{split, upd2, upd-other}
+use Rattle.preservation.proofs.Tests.{split, upd2, upd2-elim, upd-other}
 use Rattle.preservation.proofs.Tables.{Tables, fileTo, bytesTo, fileRowTo}
 use Rattle.preservation.proofs.Remake.{remade}
 use Rattle.preservation.proofs.StoreChanges.{tablesOf, Sized}
@@ -24,13 +22,9 @@ pub record Kept (K : ℕ → Type 0) (f : ℕ) (m n : Tables) : Type 0 where
   pub words : (k : ℕ) → K k → n .file f k ≡ m .file f k
   pub bytes : n .byte f ≡ m .byte f
 
-same-both : {A : Type 0} (b : Bool) (x : A) → cond b x x ≡ x
-same-both true x = refl
-same-both false x = refl
-
 -- another row of a changed table
 row-other : (t : ℕ → ℕ → ℕ) (j c v i k : ℕ) → (i ≡ j → ⊥) → upd2 t j c v i k ≡ t i k
-row-other t j c v i k n = rw (ne-eqb i j n) (same-both (eqb k c) (t i k))
+row-other t j c v i k n = upd2-elim (λ row. row k ≡ t i k) t j c v i (λ q. absurd (n q)) (λ _. refl)
 
 module _ {K : ℕ → Type 0} (f : ℕ) where
   pub kept-both : {a b c : Tables} → Kept K f a b → Kept K f b c → Kept K f a c

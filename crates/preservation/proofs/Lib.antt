@@ -6,6 +6,7 @@ pub mod Scans
 -- the store as tables, what sound means of them, and how its counts change
 pub mod Tables
 pub mod Sound
+pub mod Rows
 pub mod Counts
 pub mod Words
 pub mod Columns

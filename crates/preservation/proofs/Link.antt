@@ -10,41 +10,31 @@ use Rattle.preservation.proofs.Sums.{ind}
 use Rattle.preservation.proofs.Tables.{Tables, col, direntRow, fill}
 use Rattle.preservation.proofs.Sound.{All, Sound, SoundBut, Depths, openCount}
 use Rattle.preservation.proofs.Counts.{ind-eq, ind-ne}
-use Rattle.preservation.proofs.Dirents.{placed, Fits, placed-files, placed-blocks, placed-dirs, placed-lengths, placed-links, placed-other-slot, placed-here-slot, naming-at}
+use Rattle.preservation.proofs.Dirents.{placed, Fits, placed-slots, placed-tree, placed-other-slot, placed-here-slot, naming-at}
 use Rattle.rules.specs.Layout.{SLOTS, DIRENTS, NAME, NAMES, KIND, LENGTH, LINKS, PLAIN, DIRECTORY, SLOT, REFERENCES}
 
 pub loosen : (x : ℕ) (m : Tables) → Sound m → SoundBut x m
 loosen x m h = record {
-  files = h .files;
-  root-kind = h .root-kind;
-  root-links = h .root-links;
-  blocks = h .blocks;
-  dirs = h .dirs;
-  lengths = h .lengths;
-  links = h .links;
-  once = λ i hi _. h .once i hi (λ e. omega arith);
-  depths = h .depths;
-  alive = λ i hi _. h .alive i hi (λ e. omega arith);
-  open-files = h .open-files;
-  refs = h .refs;
+  slots = h .slots;
+  tree = h .tree;
+  live = record {
+    once = λ i hi _. h .live .once i hi (λ e. omega arith);
+    alive = λ i hi _. h .live .alive i hi (λ e. omega arith);
+  };
+  opens = h .opens;
   procs = h .procs;
 }
 
 -- slot x is a directory named once, or a plain file that is named or open
 pub tighten : (x : ℕ) (m : Tables) → SoundBut x m → (m .file x KIND ≡ DIRECTORY → (x ≡ 0 → ⊥) → m .file x LINKS ≡ 1) → (m .file x KIND ≡ PLAIN → 0 < m .file x LINKS + openCount (col (m .openFiles) SLOT) (col (m .openFiles) REFERENCES) x) → Sound m
 tighten x m h a b = record {
-  files = h .files;
-  root-kind = h .root-kind;
-  root-links = h .root-links;
-  blocks = h .blocks;
-  dirs = h .dirs;
-  lengths = h .lengths;
-  links = h .links;
-  once = λ i hi _. split i x (λ q _. rw q a) (λ n _. h .once i hi n);
-  depths = h .depths;
-  alive = λ i hi _. split i x (λ q _. rw q b) (λ n _. h .alive i hi n);
-  open-files = h .open-files;
-  refs = h .refs;
+  slots = h .slots;
+  tree = h .tree;
+  live = record {
+    once = λ i hi _. split i x (λ q _. rw q a) (λ n _. h .live .once i hi n);
+    alive = λ i hi _. split i x (λ q _. rw q b) (λ n _. h .live .alive i hi n);
+  };
+  opens = h .opens;
   procs = h .procs;
 }
 
@@ -59,7 +49,7 @@ ind-some n e = rw (ne-eqb n 0 e)
 unfoldable pub linked : (d p : ℕ) → (ℕ → ℕ) → (t y : ℕ) → Tables → Tables
 linked d p r t y m = placed d p r (m .file d LENGTH + 1) t y (m .file y LINKS + 1) m
 
--- what a new directory owes: it is empty, has no name yet, and stands at most 8 names deep
+-- what a new directory owes: it is empty, has no name yet, and stands at most NAMES deep
 pub record Leaf (m : Tables) (deep : ℕ) (y : ℕ) : Type 0 where
   pub no-links : m .file y LINKS ≡ 0
   pub no-dirents : All DIRENTS (λ q. direntRow (m .byte) y q NAME ≡ 0)
@@ -83,7 +73,7 @@ module _ (m : Tables) (d p : ℕ) (r : ℕ → ℕ) (t y : ℕ) (h : SoundBut y 
 
       old : (u : ℕ) → u < SLOTS → m .file u KIND ≡ DIRECTORY → (q : ℕ) → q < DIRENTS → (direntRow (m .byte) u q NAME ≡ 0 → ⊥) → m .file (direntRow (m .byte) u q NAME) KIND ≡ DIRECTORY → upd D y (suc (D d)) (direntRow (m .byte) u q NAME) ≡ suc (upd D y (suc (D d)) u)
       old u hu ku q hq n k =
-          let a : direntRow (m .byte) u q NAME ≡ y → ⊥ = λ z. omega (arith, leaf (rw z at k) .no-links, h .links y (rw z at (h .dirs u hu ku .dirents q hq .slot-small)) (f .file-root), naming-at (col (m .file) KIND) (direntRow (m .byte)) u q y hu hq ku z) in
+          let a : direntRow (m .byte) u q NAME ≡ y → ⊥ = λ z. omega (arith, leaf (rw z at k) .no-links, h .tree .links y (rw z at (h .tree .dirs u hu ku .dirents q hq .slot-small)) (f .file-root), naming-at (col (m .file) KIND) (direntRow (m .byte)) u q y hu hq ku z) in
           let g : u ≡ y → ⊥ = λ z. n (rw (← z) at (leaf (rw z at ku) .no-dirents q hq)) in
           upd-other D y (suc (D d)) (direntRow (m .byte) u q NAME) a ∙ c .depth-step u hu ku q hq n k ∙ ap suc (sym (upd-other D y (suc (D d)) u g))
 
@@ -97,19 +87,17 @@ module _ (m : Tables) (d p : ℕ) (r : ℕ → ℕ) (t y : ℕ) (h : SoundBut y 
   pub linked-sound : Sound (linked d p r t y m)
   unfolding linked placed
   linked-sound = record {
-    files = placed-files y m h d p r (m .file d LENGTH + 1) t y (m .file y LINKS + 1) f;
-    root-kind = h .root-kind;
-    root-links = upd-other (col (m .file) LINKS) y (m .file y LINKS + 1) 0 (λ q. f .file-root (sym q)) ∙ h .root-links;
-    blocks = placed-blocks y m h d p r (m .file d LENGTH + 1) t y (m .file y LINKS + 1) f;
-    dirs = placed-dirs y m h d p r (m .file d LENGTH + 1) t y (m .file y LINKS + 1) f;
-    lengths = placed-lengths y m h d p r (m .file d LENGTH + 1) t y (m .file y LINKS + 1) f (omega (arith, ind-zero (direntRow (m .byte) d p NAME) empty, ind-some (r NAME) (rw e (f .file-root))));
-    links = placed-links y m h d p r (m .file d LENGTH + 1) t y (m .file y LINKS + 1) f (λ s hs n. split s y
+    slots = placed-slots y m h d p r (m .file d LENGTH + 1) t y (m .file y LINKS + 1) f;
+    tree = placed-tree y m h d p r (m .file d LENGTH + 1) t y (m .file y LINKS + 1) f
+        (omega (arith, ind-zero (direntRow (m .byte) d p NAME) empty, ind-some (r NAME) (rw e (f .file-root))))
+        (λ s hs n. split s y
         (λ q w. rw (w, q) (omega (arith, ind-ne (direntRow (m .byte) d p NAME) y (λ z. f .file-root (sym z ∙ empty)), ind-eq (r NAME) y e)))
-        (λ q w. rw w (omega (arith, ind-ne (direntRow (m .byte) d p NAME) s (λ z. n (sym z ∙ empty)), ind-ne (r NAME) s (λ z. q (sym z ∙ e))))));
-    once = λ i hi _ k n. split i y (λ q w. rw w (omega (arith, leaf (rw q at k) .no-links))) (λ q w. rw w (h .once i hi q k n));
-    depths = linked-depths;
-    alive = λ i hi _ k. split i y (λ q w. rw w (omega arith)) (λ q w. rw w (h .alive i hi q k));
-    open-files = h .open-files;
-    refs = h .refs;
+        (λ q w. rw w (omega (arith, ind-ne (direntRow (m .byte) d p NAME) s (λ z. n (sym z ∙ empty)), ind-ne (r NAME) s (λ z. q (sym z ∙ e))))))
+        linked-depths;
+    live = record {
+      once = λ i hi _ k n. split i y (λ q w. rw w (omega (arith, leaf (rw q at k) .no-links))) (λ q w. rw w (h .live .once i hi q k n));
+      alive = λ i hi _ k. split i y (λ q w. rw w (omega arith)) (λ q w. rw w (h .live .alive i hi q k));
+    };
+    opens = h .opens;
     procs = h .procs;
   }

@@ -9,7 +9,7 @@ use lib.ListN.{length, getD}
 use Rattle.rules.specs.Layout.{SLOTS, BLOCK, DIRENT, DIRENTS, NAME, OPEN-FILES, PROCESSES, DESCRIPTORS, FILE, OPEN, PROCESS}
 use Rattle.rules.specs.Layout.{KIND, OWNER, BITS, LABEL, LENGTH, LINKS, VERSION, SLOT, MODE, OFFSET, REFERENCES, USED, USER, PROCESS-LABEL, FREE, PLAIN}
 use Rattle.rules.specs.Layout.{KIND-MAX, USER-MAX, BITS-MAX, LABEL-MAX, MODE-MAX, WORD-MAX}
-use Rattle.rules.specs.Store.{Store, Tree, View}
+use Rattle.rules.specs.Store.{Store, Table}
 use Rattle.rules.specs.Rights.{bitsKnown, modeOf, modeKept}
 use Rattle.rules.specs.Directories.{direntAt}
 use Rattle.rules.specs.Sound.{sizesSound, recordFree, recordSound, direntSound, differs, isNew, direntsSound}
@@ -43,12 +43,12 @@ means-mode n = rw mode-kept (means-every (means-and (means-le 1 n) (means-last (
 
 -- ---- a file's record
 
-pub means-record : (t : Tree) (s : ℕ) → Means (recordSound t s) (File (t .file s KIND) (t .file s OWNER) (t .file s BITS) (t .file s LABEL) (t .file s LENGTH) (t .file s LINKS) (t .file s VERSION))
+pub means-record : (file : Table) (s : ℕ) → Means (recordSound file s) (File (file s))
 unfolding recordSound recordFree
-means-record t s = means-same
-    (means-every (means-and (means-le (t .file s KIND) KIND-MAX) (means-and (means-le (t .file s OWNER) USER-MAX) (means-and (means-bits (t .file s BITS)) (means-and (means-le (t .file s LABEL) LABEL-MAX)
-    (means-and (means-le (t .file s VERSION) WORD-MAX) (means-last (means-imp (means-eq (t .file s KIND) FREE)
-    (means-every (means-and (means-eq (t .file s OWNER) 0) (means-and (means-eq (t .file s BITS) 0) (means-and (means-eq (t .file s LABEL) 0) (means-and (means-eq (t .file s LENGTH) 0) (means-last (means-eq (t .file s LINKS) 0)))))))))))))))
+means-record file s = means-same
+    (means-every (means-and (means-le (file s KIND) KIND-MAX) (means-and (means-le (file s OWNER) USER-MAX) (means-and (means-bits (file s BITS)) (means-and (means-le (file s LABEL) LABEL-MAX)
+    (means-and (means-le (file s VERSION) WORD-MAX) (means-last (means-imp (means-eq (file s KIND) FREE)
+    (means-every (means-and (means-eq (file s OWNER) 0) (means-and (means-eq (file s BITS) 0) (means-and (means-eq (file s LABEL) 0) (means-and (means-eq (file s LENGTH) 0) (means-last (means-eq (file s LINKS) 0)))))))))))))))
     (λ w. record {
       kind-most = w .0;
       owner-most = w .1 .0;
@@ -65,7 +65,7 @@ means-record t s = means-same
 
 -- ---- a directory's entries: D its bytes, rows its entries
 
-module _ (t : Tree) (D : List ℕ) (rows : ℕ → ℕ → ℕ) (agree : (i k : ℕ) → k < DIRENT → getD (direntAt D i) k 0 ≡ rows i k) where
+module _ (file : Table) (D : List ℕ) (rows : ℕ → ℕ → ℕ) (agree : (i k : ℕ) → k < DIRENT → getD (direntAt D i) k 0 ≡ rows i k) where
   means-differs : (i j : ℕ) → Means (differs D i j) ((rows i NAME ≡ 0 → ⊥) → (rows j NAME ≡ 0 → ⊥) → sameRow (rows i) (rows j) ≡ true → ⊥)
   unfolding differs
   means-differs i j = means-or3 (means-empty D rows agree i) (means-empty D rows agree j) (rw (same-row D rows agree i j) (means-not (means-test (sameRow (rows i) (rows j)))))
@@ -74,16 +74,16 @@ module _ (t : Tree) (D : List ℕ) (rows : ℕ → ℕ → ℕ) (agree : (i k : 
   unfolding isNew
   means-new i = means-all i (differs D i) (λ j. (rows i NAME ≡ 0 → ⊥) → (rows j NAME ≡ 0 → ⊥) → sameRow (rows i) (rows j) ≡ true → ⊥) (means-differs i)
 
-  pub means-dirents : (n : ℕ) → Means (direntsSound t D n) (Directory (col (t .file) KIND) rows × ((n ≡ nameCount rows) × ((b : ℕ) → b < length D → DIRENTS * DIRENT ≤ b → getD D b 0 ≡ 0)))
+  pub means-dirents : (n : ℕ) → Means (direntsSound file D n) (Directory (col file KIND) rows × ((n ≡ nameCount rows) × ((b : ℕ) → b < length D → DIRENTS * DIRENT ≤ b → getD D b 0 ≡ 0)))
   unfolding direntsSound
   means-dirents n = means-same w
       (λ u. (record { dirents = u .0; different = λ p hp q hq ne. apart (u .1 .0) p hp q hq ne (decLt p q) }, u .1 .1))
       (λ u. (u .0 .dirents, ((λ i hi j hj. u .0 .different i hi j (omega arith) (λ e. omega arith)), u .1)))
     where
-      w : Means (direntsSound t D n) (All DIRENTS (λ i. Dirent (col (t .file) KIND) (rows i))
+      w : Means (direntsSound file D n) (All DIRENTS (λ i. Dirent (col file KIND) (rows i))
           × (All DIRENTS (λ i. All i (λ j. (rows i NAME ≡ 0 → ⊥) → (rows j NAME ≡ 0 → ⊥) → sameRow (rows i) (rows j) ≡ true → ⊥))
           × ((n ≡ nameCount rows) × ((b : ℕ) → b < length D → DIRENTS * DIRENT ≤ b → getD D b 0 ≡ 0))))
-      w = rw (names-counted D rows agree) (means-every (means-and (means-all DIRENTS (direntSound t D) _ (means-dirent D rows agree t)) (means-and (means-all DIRENTS (isNew D) _ means-new)
+      w = rw (names-counted D rows agree) (means-every (means-and (means-all DIRENTS (direntSound file D) _ (means-dirent D rows agree file)) (means-and (means-all DIRENTS (isNew D) _ means-new)
           (means-and (means-eq n (nameCount rows)) (means-last (means-zeros D (DIRENTS * DIRENT)))))))
 
       apart : All DIRENTS (λ i. All i (λ j. (rows i NAME ≡ 0 → ⊥) → (rows j NAME ≡ 0 → ⊥) → sameRow (rows i) (rows j) ≡ true → ⊥)) →
@@ -93,10 +93,10 @@ module _ (t : Tree) (D : List ℕ) (rows : ℕ → ℕ → ℕ) (agree : (i k : 
 
 -- ---- open files and processes
 
-pub means-open-file : (v : View) (e : ℕ) → Means (openSound v e)
-    ((v .openFiles e REFERENCES ≡ holderCount (v .desc) e) × OpenFile (col (v .tree .file) KIND) (v .openFiles e SLOT) (v .openFiles e MODE) (v .openFiles e OFFSET) (v .openFiles e REFERENCES))
+pub means-open-file : (file openFiles desc : Table) (e : ℕ) → Means (openSound file openFiles desc e)
+    ((openFiles e REFERENCES ≡ holderCount desc e) × OpenFile (col file KIND) (openFiles e))
 unfolding openSound openFree openUsed
-means-open-file v e = means-same w
+means-open-file file openFiles desc e = means-same w
     (λ u. (
       u .0,
       record {
@@ -112,28 +112,29 @@ means-open-file v e = means-same w
     ))
     (λ u. let o = u .1 in (u .0, ((λ z. (o .slot-zero z, (o .mode-zero z, o .offset-zero z))), λ n. (o .slot-small n, (o .plain n, ((o .mode-least n, o .mode-most n), o .offset-most n))))))
   where
-    w : Means (openSound v e) ((v .openFiles e REFERENCES ≡ holderCount (v .desc) e)
-        × ((v .openFiles e REFERENCES ≡ 0 → (v .openFiles e SLOT ≡ 0) × ((v .openFiles e MODE ≡ 0) × (v .openFiles e OFFSET ≡ 0)))
-        × ((v .openFiles e REFERENCES ≡ 0 → ⊥) → (v .openFiles e SLOT < SLOTS) × ((v .tree .file (v .openFiles e SLOT) KIND ≡ PLAIN) × (((1 ≤ v .openFiles e MODE) × (v .openFiles e MODE ≤ MODE-MAX)) × (v .openFiles e OFFSET ≤ BLOCK))))))
-    w = rw (holders-counted (v .desc) e) (means-every (means-and (means-eq (v .openFiles e REFERENCES) (holderCount (v .desc) e)) (means-last (means-cond (means-eq (v .openFiles e REFERENCES) 0)
-        (means-every (means-and (means-eq (v .openFiles e SLOT) 0) (means-and (means-eq (v .openFiles e MODE) 0) (means-last (means-eq (v .openFiles e OFFSET) 0)))))
-        (means-every (means-and (means-lt (v .openFiles e SLOT) SLOTS) (means-and (means-eq (v .tree .file (v .openFiles e SLOT) KIND) PLAIN) (means-and (means-mode (v .openFiles e MODE)) (means-last (means-le (v .openFiles e OFFSET) BLOCK))))))))))
+    w : Means (openSound file openFiles desc e) ((openFiles e REFERENCES ≡ holderCount desc e)
+        × ((openFiles e REFERENCES ≡ 0 → (openFiles e SLOT ≡ 0) × ((openFiles e MODE ≡ 0) × (openFiles e OFFSET ≡ 0)))
+        × ((openFiles e REFERENCES ≡ 0 → ⊥) → (openFiles e SLOT < SLOTS) × ((file (openFiles e SLOT) KIND ≡ PLAIN) × (((1 ≤ openFiles e MODE) × (openFiles e MODE ≤ MODE-MAX)) × (openFiles e OFFSET ≤ BLOCK))))))
+    w = rw (holders-counted desc e) (means-every (means-and (means-eq (openFiles e REFERENCES) (holderCount desc e)) (means-last (means-cond (means-eq (openFiles e REFERENCES) 0)
+        (means-every (means-and (means-eq (openFiles e SLOT) 0) (means-and (means-eq (openFiles e MODE) 0) (means-last (means-eq (openFiles e OFFSET) 0)))))
+        (means-every (means-and (means-lt (openFiles e SLOT) SLOTS) (means-and (means-eq (file (openFiles e SLOT) KIND) PLAIN) (means-and (means-mode (openFiles e MODE)) (means-last (means-le (openFiles e OFFSET) BLOCK))))))))))
 
-pub means-process : (v : View) (p : ℕ) → Means (procSound v p) (Process (v .proc p USED) (v .proc p USER) (v .proc p PROCESS-LABEL) (v .desc p))
+-- The test goes by whether the process is in use: of a free one the limits are left out, since its words are 0, and of a used one the zeros.
+pub means-process : (proc desc : Table) (p : ℕ) → Means (procSound proc desc p) (Process (proc p) (desc p))
 unfolding procSound procFree procUsed descFree descSound
-means-process v p = means-same w (λ u. from u (ℕ-discrete (v .proc p USED) 0))
+means-process proc desc p = means-same w (λ u. from u (ℕ-discrete (proc p USED) 0))
     (λ u. ((λ z. (u .user-zero z, (u .label-zero z, u .desc-zero z))), λ n. ((omega (arith, u .active-most, n)), (u .user-most, (u .label-most, u .desc-most)))))
   where
     Parts : Type 0
-    Parts = (v .proc p USED ≡ 0 → (v .proc p USER ≡ 0) × ((v .proc p PROCESS-LABEL ≡ 0) × All DESCRIPTORS (λ k. v .desc p k ≡ 0)))
-        × ((v .proc p USED ≡ 0 → ⊥) → (v .proc p USED ≡ 1) × ((v .proc p USER ≤ USER-MAX) × ((v .proc p PROCESS-LABEL ≤ LABEL-MAX) × All DESCRIPTORS (λ k. v .desc p k ≤ OPEN-FILES))))
+    Parts = (proc p USED ≡ 0 → (proc p USER ≡ 0) × ((proc p PROCESS-LABEL ≡ 0) × All DESCRIPTORS (λ k. desc p k ≡ 0)))
+        × ((proc p USED ≡ 0 → ⊥) → (proc p USED ≡ 1) × ((proc p USER ≤ USER-MAX) × ((proc p PROCESS-LABEL ≤ LABEL-MAX) × All DESCRIPTORS (λ k. desc p k ≤ OPEN-FILES))))
 
-    w : Means (procSound v p) Parts
-    w = means-cond (means-eq (v .proc p USED) 0)
-        (means-every (means-and (means-eq (v .proc p USER) 0) (means-and (means-eq (v .proc p PROCESS-LABEL) 0) (means-last (means-all DESCRIPTORS (descFree (v .desc) p) (λ k. v .desc p k ≡ 0) (λ k. means-eq (v .desc p k) 0))))))
-        (means-every (means-and (means-eq (v .proc p USED) 1) (means-and (means-le (v .proc p USER) USER-MAX) (means-and (means-le (v .proc p PROCESS-LABEL) LABEL-MAX) (means-last (means-all DESCRIPTORS (descSound (v .desc) p) (λ k. v .desc p k ≤ OPEN-FILES) (λ k. means-le (v .desc p k) OPEN-FILES)))))))
+    w : Means (procSound proc desc p) Parts
+    w = means-cond (means-eq (proc p USED) 0)
+        (means-every (means-and (means-eq (proc p USER) 0) (means-and (means-eq (proc p PROCESS-LABEL) 0) (means-last (means-all DESCRIPTORS (descFree desc p) (λ k. desc p k ≡ 0) (λ k. means-eq (desc p k) 0))))))
+        (means-every (means-and (means-eq (proc p USED) 1) (means-and (means-le (proc p USER) USER-MAX) (means-and (means-le (proc p PROCESS-LABEL) LABEL-MAX) (means-last (means-all DESCRIPTORS (descSound desc p) (λ k. desc p k ≤ OPEN-FILES) (λ k. means-le (desc p k) OPEN-FILES)))))))
 
-    from : Parts → Dec (v .proc p USED ≡ 0) → Process (v .proc p USED) (v .proc p USER) (v .proc p PROCESS-LABEL) (v .desc p)
+    from : Parts → Dec (proc p USED ≡ 0) → Process (proc p) (desc p)
     from u (yes z) = let a = u .0 z in record {
       active-most = omega arith;
       user-most = omega (arith, a .0);

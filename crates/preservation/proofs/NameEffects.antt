@@ -2,14 +2,14 @@
 use mathlib.Core.Path.{_≡_, refl, sym, subst, _∙_}
 use mathlib.Core.Bool.{Bool, true, false, cond, not, false≢true}
 use mathlib.Core.List.{[], _∷_}
-use Prim.Native.Nat.{ℕ, _+_, _-_, _≤_, _<_}
+use Prim.Native.Nat.{ℕ, _+_, _-_, _<_}
 use native.Mathlib.Omega.{arith}
 use native.Mathlib.Decide.{decLt, ℕ-discrete}
 use lib.Dec.{eqb}
 use lib.ListN.{length, getD}
 use borrow.Author.Tests.{eq-eqb, ne-eqb}
-use Rattle.rules.specs.Layout.{SLOTS, DIRENTS, DIRENT, OPEN-FILES, NAME, NAMES, KIND-MAX, USER-MAX, BITS-MAX, LABEL-MAX}
-use Rattle.rules.specs.Layout.{KIND, LABEL, LENGTH, LINKS, VERSION, SLOT, REFERENCES, FREE, PLAIN, DIRECTORY}
+use Rattle.rules.specs.Layout.{SLOTS, DIRENTS, DIRENT, OPEN-FILES, NAME, NAMES}
+use Rattle.rules.specs.Layout.{KIND, LENGTH, LINKS, VERSION, SLOT, REFERENCES, FREE, PLAIN, DIRECTORY}
 use Rattle.rules.specs.Choice.{every}
 use Rattle.rules.specs.Store.{Store, view, entry, bitsAt, up, zeros, applyAll}
 use Rattle.rules.specs.Paths as paths
@@ -32,7 +32,8 @@ use Rattle.preservation.proofs.Dirents.{placed}
 use Rattle.preservation.proofs.Link.{linked}
 use Rattle.preservation.proofs.Unlink.{unlinked, noRow}
 use Rattle.preservation.proofs.Remake.{remade, openCount-at}
-use Rattle.preservation.proofs.Create.{Name, fileRow, link-sound, created, create-sound, freed, unlink-sound, unlink-frees, remove-sound, target-small}
+use Rattle.preservation.proofs.Rows.{freeRow}
+use Rattle.preservation.proofs.Create.{Name, NewFile, link-sound, created, create-sound, freed, unlink-sound, unlink-frees, remove-sound, target-small}
 use Rattle.preservation.proofs.FlatList.{upd-same-value, length-zeros, getD-zeros}
 use Rattle.preservation.proofs.StoreChanges.{tablesOf, Has, has-fileWord, has-fileTo, has-clearTo, has-dirent}
 use Rattle.preservation.proofs.Counted.{means-open}
@@ -68,7 +69,7 @@ module _ (s : Store) (h : SoundStore s) where
         (d .0) LENGTH (tablesOf s .file (d .0) LENGTH + 1) hd (omega arith)) (d .0) VERSION (up (tablesOf s .file (d .0) VERSION)) hd (omega arith));
     sound = same-columns SLOTS (linked (d .0) i (rowOf name y) (up (tablesOf s .file (d .0) VERSION)) (y .0) (tablesOf s))
         (direntTo (d .0) i (rowOf name y) (tablesOf s .file (d .0) LENGTH + 1) (up (tablesOf s .file (d .0) VERSION)) (fileTo (y .0) LINKS (tablesOf s .file (y .0) LINKS + 1) (tablesOf s)) .file)
-        (record { kind = λ i. refl; owner = λ i. refl; bits = λ i. refl; label = λ i. refl; length = λ i. refl; links = λ i. refl; version = λ i. refl })
+        (λ i. refl)
         (link-sound (tablesOf s) (h .tables) (d .0) i (rowOf name y) (up (tablesOf s .file (d .0) VERSION)) (y .0) (n .fits) (up-most (tablesOf s .file (d .0) VERSION)) hy k);
   }
     where
@@ -77,33 +78,33 @@ module _ (s : Store) (h : SoundStore s) where
 
   -- ---- create and make directory
 
-  pub record Creates (name : paths.Name) (d : Slot) (i : ℕ) (y : Slot) (kind owner bits label : ℕ) : Type 0 where
+  -- the record that the rules give a new file
+  abbrev pub newRow : (who : Subject) (kind bits : ℕ) (d y : Slot) → ℕ → ℕ
+  newRow who kind bits d y c = getD (words (newRecord (view s .tree .file) who kind (bitsAt bits) d y)) c 0
+
+  pub record Creates (name : paths.Name) (who : Subject) (d : Slot) (i : ℕ) (y : Slot) (kind bits : ℕ) : Type 0 where
     pub naming : Naming (tablesOf s) name d i y
     pub small : y .0 < SLOTS
     pub free : tablesOf s .file (y .0) KIND ≡ FREE
-    pub kind-least : 0 < kind
-    pub kind-most : kind ≤ KIND-MAX
-    pub owner-most : owner ≤ USER-MAX
-    pub bits-most : bits ≤ BITS-MAX
-    pub label-most : label ≤ LABEL-MAX
-    pub not-deep : kind ≡ DIRECTORY → h .tables .depths .depth (d .0) < NAMES
+    pub new : NewFile (upd (newRow who kind bits d y) LINKS 0)
+    pub not-deep : kind ≡ DIRECTORY → h .tables .tree .depths .depth (d .0) < NAMES
 
-  abbrev pub withFile : (name : paths.Name) (d : Slot) (i : ℕ) (y : Slot) (kind owner bits label : ℕ) → Tables
-  withFile name d i y kind owner bits label = direntTo (d .0) i (rowOf name y) (tablesOf s .file (d .0) LENGTH + 1) (up (tablesOf s .file (d .0) VERSION))
-      (fileRowTo (y .0) (fileRow kind owner bits label 0 1 (tablesOf s .file (y .0) VERSION)) (tablesOf s))
+  abbrev pub withFile : (name : paths.Name) (who : Subject) (d : Slot) (i : ℕ) (y : Slot) (kind bits : ℕ) → Tables
+  withFile name who d i y kind bits = direntTo (d .0) i (rowOf name y) (tablesOf s .file (d .0) LENGTH + 1) (up (tablesOf s .file (d .0) VERSION)) (fileRowTo (y .0) (newRow who kind bits d y) (tablesOf s))
 
-  pub create-leaves : (name : paths.Name) (who : Subject) (d : Slot) (i : ℕ) (y : Slot) (kind bits : ℕ) → Creates name d i y kind (who .user) bits (tablesOf s .file (d .0) LABEL) →
-      Leaves (applyAll (createChanges name (gains (view s .tree .file) d (entry i)) y (newRecord (view s .tree .file) who kind (bitsAt bits) d y)) s) (withFile name d i y kind (who .user) bits (tablesOf s .file (d .0) LABEL))
+  -- The store writes the record with its link, `created` adds the link after: the columns agree. The slot's bytes, 0 already, are not written.
+  pub create-leaves : (name : paths.Name) (who : Subject) (d : Slot) (i : ℕ) (y : Slot) (kind bits : ℕ) → Creates name who d i y kind bits →
+      Leaves (applyAll (createChanges name (gains (view s .tree .file) d (entry i)) y (newRecord (view s .tree .file) who kind (bitsAt bits) d y)) s) (withFile name who d i y kind bits)
   unfolding createChanges nameChanges applyAll tablesOf linked placed created remade
   create-leaves name who d i y kind bits c = record {
     has = rw (longer (d .0) hd)
         (has-fileWord (has-fileWord (has-dirent (has-fileTo (its-tables s h) (y .0) (words (newRecord (view s .tree .file) who kind (bitsAt bits) d y)) (c .small) refl) (d .0) i (dirent name y) (rowOf name y) hd (n .dirent-small) (c .naming .bytes) (λ k. refl))
         (d .0) LENGTH (tablesOf s .file (d .0) LENGTH + 1) hd (omega arith)) (d .0) VERSION (up (tablesOf s .file (d .0) VERSION)) hd (omega arith));
-    sound = subst (λ (b : ℕ → ℕ → ℕ). Sound (record { file = withFile name d i y kind owner bits label .file; byte = upd b (d .0) (fill (b (d .0)) i (rowOf name y)); openFiles = tablesOf s .openFiles; proc = tablesOf s .proc; desc = tablesOf s .desc }))
+    sound = subst (λ (b : ℕ → ℕ → ℕ). Sound (record { file = withFile name who d i y kind bits .file; byte = upd b (d .0) (fill (b (d .0)) i (rowOf name y)); openFiles = tablesOf s .openFiles; proc = tablesOf s .proc; desc = tablesOf s .desc }))
         (upd-same-value (tablesOf s .byte) (y .0))
-        (same-columns SLOTS (created (d .0) i (rowOf name y) t (y .0) kind owner bits label (tablesOf s)) (withFile name d i y kind owner bits label .file) columns
-        (create-sound (tablesOf s) (h .tables) (d .0) i (rowOf name y) t (y .0) kind owner bits label n (up-most (tablesOf s .file (d .0) VERSION)) (c .small) (c .free)
-        (c .kind-least) (c .kind-most) (c .owner-most) (c .bits-most) (c .label-most) (c .not-deep)));
+        (same-columns SLOTS (created (d .0) i (rowOf name y) t (y .0) (upd (newRow who kind bits d y) LINKS 0) (tablesOf s)) (withFile name who d i y kind bits .file) columns
+        (create-sound (tablesOf s) (h .tables) (d .0) i (rowOf name y) t (y .0) (upd (newRow who kind bits d y) LINKS 0) n (up-most (tablesOf s .file (d .0) VERSION)) (c .small) (c .free)
+        (c .new) (c .not-deep)));
   }
     where
       n : Name (tablesOf s) (d .0) i (rowOf name y) (y .0)
@@ -115,26 +116,12 @@ module _ (s : Store) (h : SoundStore s) where
       t : ℕ
       t = up (tablesOf s .file (d .0) VERSION)
 
-      owner : ℕ
-      owner = who .user
-
-      label : ℕ
-      label = tablesOf s .file (d .0) LABEL
-
       other : eqb (d .0) (y .0) ≡ false
       other = ne-eqb (d .0) (y .0) (λ z. omega (arith, n .dir-kind, rw (← z) at (c .free)))
 
-      columns : Columns (created (d .0) i (rowOf name y) (up (tablesOf s .file (d .0) VERSION)) (y .0) kind (who .user) bits (tablesOf s .file (d .0) LABEL) (tablesOf s) .file)
-          (withFile name d i y kind (who .user) bits (tablesOf s .file (d .0) LABEL) .file)
-      columns = record {
-        kind = λ j. split j (y .0) (λ q e. rw e) (λ q e. rw e);
-        owner = λ j. split j (y .0) (λ q e. rw e) (λ q e. rw e);
-        bits = λ j. split j (y .0) (λ q e. rw e) (λ q e. rw e);
-        label = λ j. split j (y .0) (λ q e. rw e) (λ q e. rw e);
-        length = λ j. rw other (split j (y .0) (λ q e. rw e) (λ q e. rw e));
-        links = λ j. rw (eq-eqb (y .0) (y .0) refl) (split j (y .0) (λ q e. rw e) (λ q e. rw e));
-        version = λ j. split j (y .0) (λ q e. rw e) (λ q e. rw e);
-      }
+      columns : Columns (created (d .0) i (rowOf name y) (up (tablesOf s .file (d .0) VERSION)) (y .0) (upd (newRow who kind bits d y) LINKS 0) (tablesOf s) .file)
+          (withFile name who d i y kind bits .file)
+      columns j = rw (other, eq-eqb (y .0) (y .0) refl) (split j (y .0) (λ q e. rw e) (λ q e. rw e))
 
   -- ---- unlink and remove directory: entry i of directory d names slot y
 
@@ -189,15 +176,7 @@ module _ (s : Store) (h : SoundStore s) where
   unlinkedTables d i (unnamed.Freed y r) = remade (y .0) (λ c. getD (words r) c 0) (λ _. 0) (withoutName d i)
 
   freeColumns : (d : Slot) (i : ℕ) (y : Slot) (c : ℕ) (row : ℕ → ℕ) → Columns (upd (upd2 (withoutName d i .file) (y .0) LINKS c) (y .0) row) (upd (withoutName d i .file) (y .0) row)
-  freeColumns d i y c row = record {
-    kind = λ j. split j (y .0) (λ q e. rw e) (λ q e. rw e);
-    owner = λ j. split j (y .0) (λ q e. rw e) (λ q e. rw e);
-    bits = λ j. split j (y .0) (λ q e. rw e) (λ q e. rw e);
-    label = λ j. split j (y .0) (λ q e. rw e) (λ q e. rw e);
-    length = λ j. split j (y .0) (λ q e. rw e) (λ q e. rw e);
-    links = λ j. split j (y .0) (λ q e. rw e) (λ q e. rw (e, e));
-    version = λ j. split j (y .0) (λ q e. rw e) (λ q e. rw e);
-  }
+  freeColumns d i y c row j = split j (y .0) (λ q e. rw e) (λ q e. rw (e, e))
 
   pub unlink-leaves : (d : Slot) (i : ℕ) (y : Slot) → Names d i y → tablesOf s .file (y .0) KIND ≡ PLAIN → {u : Unnamed} → Unnaming y u →
       Leaves (applyAll (unlinkChanges (loses (view s .tree .file) d (entry i)) u) s) (unlinkedTables d i u)
@@ -209,8 +188,8 @@ module _ (s : Store) (h : SoundStore s) where
   unlink-leaves d i y n k (frees l o) = record {
     has = has-clearTo (has-unnamed d i y n) (y .0) (words (checks.freed (view s .tree .file) y)) (named-small d i y n) refl;
     sound = unfold freed remade in same-columns SLOTS (freed (y .0) (up (tablesOf s .file (y .0) VERSION)) (unlinked (d .0) i (up (tablesOf s .file (d .0) VERSION)) (y .0) (tablesOf s)))
-        (upd (withoutName d i .file) (y .0) (fileRow FREE 0 0 0 0 0 (up (tablesOf s .file (y .0) VERSION))))
-        (freeColumns d i y (tablesOf s .file (y .0) LINKS - 1) (fileRow FREE 0 0 0 0 0 (up (tablesOf s .file (y .0) VERSION))))
+        (upd (withoutName d i .file) (y .0) (freeRow (up (tablesOf s .file (y .0) VERSION))))
+        (freeColumns d i y (tablesOf s .file (y .0) LINKS - 1) (freeRow (up (tablesOf s .file (y .0) VERSION))))
         (unlink-frees (tablesOf s) (h .tables) (d .0) i (up (tablesOf s .file (d .0) VERSION)) (y .0) (n .dir-small) (n .dir-kind) (n .dirent-small) (n .there) (n .not-root) (up-most (tablesOf s .file (d .0) VERSION)) k l o
         (up (tablesOf s .file (y .0) VERSION)) (up-most (tablesOf s .file (y .0) VERSION)));
   }
@@ -221,8 +200,8 @@ module _ (s : Store) (h : SoundStore s) where
   remove-leaves d i y n k l = record {
     has = has-clearTo (has-unnamed d i y n) (y .0) (words (checks.freed (view s .tree .file) y)) (named-small d i y n) refl;
     sound = unfold freed remade in same-columns SLOTS (freed (y .0) (up (tablesOf s .file (y .0) VERSION)) (unlinked (d .0) i (up (tablesOf s .file (d .0) VERSION)) (y .0) (tablesOf s)))
-        (upd (withoutName d i .file) (y .0) (fileRow FREE 0 0 0 0 0 (up (tablesOf s .file (y .0) VERSION))))
-        (freeColumns d i y (tablesOf s .file (y .0) LINKS - 1) (fileRow FREE 0 0 0 0 0 (up (tablesOf s .file (y .0) VERSION))))
+        (upd (withoutName d i .file) (y .0) (freeRow (up (tablesOf s .file (y .0) VERSION))))
+        (freeColumns d i y (tablesOf s .file (y .0) LINKS - 1) (freeRow (up (tablesOf s .file (y .0) VERSION))))
         (remove-sound (tablesOf s) (h .tables) (d .0) i (up (tablesOf s .file (d .0) VERSION)) (y .0) (up (tablesOf s .file (y .0) VERSION)) (n .dir-small) (n .dir-kind) (n .dirent-small) (n .there) (n .not-root)
         (up-most (tablesOf s .file (d .0) VERSION)) k l (up-most (tablesOf s .file (y .0) VERSION)));
   }

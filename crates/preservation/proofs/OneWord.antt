@@ -2,10 +2,11 @@
 use mathlib.Core.Path.{_≡_}
 use Prim.Native.Nat.{ℕ, _+_, _≤_, _<_}
 use native.Mathlib.Omega.{arith}
-use Rattle.preservation.proofs.Tests.{split}
-use Rattle.preservation.proofs.Tables.{Tables, fileTo, openTo}
-use Rattle.preservation.proofs.Sound.{SoundBut}
-use Rattle.preservation.proofs.Counts.{holders-at, file-used, open-used}
+use Rattle.preservation.proofs.Tests.{upd2-elim}
+use Rattle.preservation.proofs.Tables.{Tables, col, fileTo, openTo}
+use Rattle.preservation.proofs.Sound.{SoundBut, OpenFile}
+use Rattle.preservation.proofs.Rows.{bits-to, offset-to}
+use Rattle.preservation.proofs.Counts.{holders-at}
 use Rattle.rules.specs.Layout.{BLOCK, OPEN-FILES, PROCESSES, DESCRIPTORS, KIND, BITS, FREE, OFFSET, REFERENCES, BITS-MAX}
 
 -- the open file that a descriptor holds is in use
@@ -16,27 +17,19 @@ pub record Held (m : Tables) (e : ℕ) : Type 0 where
 pub held : (x : ℕ) (m : Tables) (h : SoundBut x m) (p k e : ℕ) → p < PROCESSES → k < DESCRIPTORS → m .desc p k ≡ e + 1 → Held m e
 held x m h p k e hp hk q =
     let l : e < OPEN-FILES = omega (arith, h .procs p hp .desc-most k hk) in
-    record { small = l; open-refs = λ z. omega (arith, holders-at (m .desc) p k e hp hk q, h .refs e l) }
+    record { small = l; open-refs = λ z. omega (arith, holders-at (m .desc) p k e hp hk q, h .opens .refs e l) }
 
 -- ---- seek
 
 pub seek-sound : (x : ℕ) (m : Tables) → SoundBut x m → (e v : ℕ) → (m .openFiles e REFERENCES ≡ 0 → ⊥) → v ≤ BLOCK → SoundBut x (openTo e OFFSET v m)
 seek-sound x m h e v o l = record {
-  files = h .files;
-  root-kind = h .root-kind;
-  root-links = h .root-links;
-  blocks = h .blocks;
-  dirs = h .dirs;
-  lengths = h .lengths;
-  links = h .links;
-  once = h .once;
-  depths = h .depths;
-  alive = h .alive;
-  open-files = λ i hi. split i e
-      (λ q t. let o′ : m .openFiles i REFERENCES ≡ 0 → ⊥ = rw q o in let r = h .open-files i hi in
-      rw t (open-used o′ (r .slot-small o′) (r .plain o′) (r .mode-least o′) (r .mode-most o′) l))
-      (λ q t. rw t (h .open-files i hi));
-  refs = h .refs;
+  slots = h .slots;
+  tree = h .tree;
+  live = h .live;
+  opens = record {
+    open-files = λ i hi. upd2-elim (λ row. OpenFile (col (m .file) KIND) row) (m .openFiles) e OFFSET v i (λ q. offset-to (col (m .file) KIND) (m .openFiles i) (h .opens .open-files i hi) v (rw q o) l) (λ _. h .opens .open-files i hi);
+    refs = h .opens .refs;
+  };
   procs = h .procs;
 }
 
@@ -44,19 +37,14 @@ seek-sound x m h e v o l = record {
 
 pub bits-sound : (x : ℕ) (m : Tables) → SoundBut x m → (s v : ℕ) → (m .file s KIND ≡ FREE → ⊥) → v ≤ BITS-MAX → SoundBut x (fileTo s BITS v m)
 bits-sound x m h s v u l = record {
-  files = λ i hi. split i s
-      (λ q t. let r = h .files i hi in rw t (file-used (rw q u) (r .kind-most) (r .owner-most) l (r .label-most) (r .version-most)))
-      (λ q t. rw t (h .files i hi));
-  root-kind = h .root-kind;
-  root-links = h .root-links;
-  blocks = h .blocks;
-  dirs = h .dirs;
-  lengths = h .lengths;
-  links = h .links;
-  once = h .once;
-  depths = h .depths;
-  alive = h .alive;
-  open-files = h .open-files;
-  refs = h .refs;
+  slots = record {
+    files = bits-to (m .file) (h .slots .files) s v u l;
+    root-kind = h .slots .root-kind;
+    root-links = h .slots .root-links;
+    blocks = h .slots .blocks;
+  };
+  tree = h .tree;
+  live = h .live;
+  opens = h .opens;
   procs = h .procs;
 }

@@ -11,12 +11,13 @@ use Rattle.preservation.proofs.Tests.{split, upd, updRow, upd-elim}
 use Rattle.preservation.proofs.Sums.{ind}
 use Rattle.preservation.proofs.Tables.{Tables, col}
 use Rattle.preservation.proofs.Sound.{All, Sound, SoundBut, OpenFile, openCount}
-use Rattle.preservation.proofs.Counts.{ind-eq, ind-ne, holders-to, openCount-change, open-used}
+use Rattle.preservation.proofs.Rows.{open-used, open-free, references-to, process-desc}
+use Rattle.preservation.proofs.Counts.{ind-eq, ind-ne, holders-to, openCount-change}
 use Rattle.preservation.proofs.OneWord.{Held, held}
 use Rattle.preservation.proofs.Link.{loosen, tighten}
 use Rattle.preservation.proofs.Remake.{openCount-at}
 use Rattle.preservation.proofs.Create.{freed, freed-sound}
-use Rattle.rules.specs.Layout.{SLOTS, OPEN-FILES, PROCESSES, DESCRIPTORS, KIND, LINKS, PLAIN, SLOT, MODE, OFFSET, REFERENCES, USED, MODE-MAX, WORD-MAX}
+use Rattle.rules.specs.Layout.{SLOTS, OPEN-FILES, PROCESSES, DESCRIPTORS, KIND, LINKS, PLAIN, SLOT, REFERENCES, USED, MODE-MAX, WORD-MAX}
 
 -- an open file by its words
 abbrev pub openRow : (slot mode offset refs : ℕ) → ℕ → ℕ
@@ -26,33 +27,24 @@ openRow slot mode offset refs c = getD (slot ∷ mode ∷ offset ∷ refs ∷ []
 unfoldable pub handed : (p k v e : ℕ) → (ℕ → ℕ) → Tables → Tables
 handed p k v e row m = record { file = m .file; byte = m .byte; openFiles = upd (m .openFiles) e row; proc = m .proc; desc = updRow (m .desc) p k v }
 
-pub handed-sound : (x : ℕ) (m : Tables) → SoundBut x m → (p k v e : ℕ) (row : ℕ → ℕ) → p < PROCESSES → k < DESCRIPTORS → (m .proc p USED ≡ 0 → ⊥) → v ≤ OPEN-FILES → OpenFile (col (m .file) KIND) (row SLOT) (row MODE) (row OFFSET) (row REFERENCES) →
+-- A change of the open file and of the descriptor: files and tree stand; what the counts owe is supposed, and each row is the old one or the new.
+pub handed-sound : (x : ℕ) (m : Tables) → SoundBut x m → (p k v e : ℕ) (row : ℕ → ℕ) → p < PROCESSES → k < DESCRIPTORS → (m .proc p USED ≡ 0 → ⊥) → v ≤ OPEN-FILES → OpenFile (col (m .file) KIND) row →
     All OPEN-FILES (λ i. upd (m .openFiles) e row i REFERENCES + ind (eqb (m .desc p k) (i + 1)) ≡ m .openFiles i REFERENCES + ind (eqb v (i + 1))) →
     All SLOTS (λ s. (s ≡ x → ⊥) → openCount (col (m .openFiles) SLOT) (col (m .openFiles) REFERENCES) s ≤ openCount (col (upd (m .openFiles) e row) SLOT) (col (upd (m .openFiles) e row) REFERENCES) s) → SoundBut x (handed p k v e row m)
 unfolding handed
 handed-sound x m h p k v e row hp hk u hv w counts more = record {
-  files = h .files;
-  root-kind = h .root-kind;
-  root-links = h .root-links;
-  blocks = h .blocks;
-  dirs = h .dirs;
-  lengths = h .lengths;
-  links = h .links;
-  once = h .once;
-  depths = h .depths;
-  alive = λ s hs n q. omega (arith, h .alive s hs n q, more s hs n);
-  open-files = λ i hi. split i e (λ q t. rw t w) (λ q t. rw t (h .open-files i hi));
-  refs = λ i hi. omega (arith, counts i hi, holders-to (m .desc) p k v i hp hk, h .refs i hi);
+  slots = h .slots;
+  tree = h .tree;
+  live = record {
+    once = h .live .once;
+    alive = λ s hs n q. omega (arith, h .live .alive s hs n q, more s hs n);
+  };
+  opens = record {
+    open-files = λ i hi. split i e (λ q t. rw t w) (λ q t. rw t (h .opens .open-files i hi));
+    refs = λ i hi. omega (arith, counts i hi, holders-to (m .desc) p k v i hp hk, h .opens .refs i hi);
+  };
   procs = λ i hi. split i p
-      (λ q t. let r = h .procs i hi in let s = h .procs p hp in rw t (record {
-        active-most = r .active-most;
-        user-most = r .user-most;
-        label-most = r .label-most;
-        desc-most = λ c hc. upd-elim (λ y. y ≤ OPEN-FILES) (m .desc p) k v c (λ _. hv) (λ _. s .desc-most c hc);
-        user-zero = r .user-zero;
-        label-zero = r .label-zero;
-        desc-zero = λ z. absurd (u (rw q at z));
-      }))
+      (λ q t. rw t (process-desc (h .procs i hi) (λ z. u (rw q at z)) (λ c hc. upd-elim (λ y. y ≤ OPEN-FILES) (m .desc p) k v c (λ _. hv) (λ _. h .procs p hp .desc-most c hc))))
       (λ q t. rw t (h .procs i hi));
 }
 
@@ -87,10 +79,10 @@ module _ (m : Tables) (h : Sound m) (p k e : ℕ) (hp : p < PROCESSES) (hk : k <
   but-its-file = loosen (m .openFiles e SLOT) m h
 
   pub slot-small : m .openFiles e SLOT < SLOTS
-  slot-small = h .open-files e (is-open .small) .slot-small (is-open .open-refs)
+  slot-small = h .opens .open-files e (is-open .small) .slot-small (is-open .open-refs)
 
   pub slot-plain : m .file (m .openFiles e SLOT) KIND ≡ PLAIN
-  slot-plain = h .open-files e (is-open .small) .plain (is-open .open-refs)
+  slot-plain = h .opens .open-files e (is-open .small) .plain (is-open .open-refs)
 
   false-and : (b : Bool) → ind (b && ltb 0 0) ≡ 0
   false-and true = refl
@@ -104,18 +96,17 @@ module _ (m : Tables) (h : Sound m) (p k e : ℕ) (hp : p < PROCESSES) (hk : k <
   -- other references remain
   pub close-keeps : 1 < m .openFiles e REFERENCES → Sound (handed p k 0 e (upd (m .openFiles e) REFERENCES (m .openFiles e REFERENCES - 1)) m)
   close-keeps l =
-      let r = h .open-files e (is-open .small) in
       let a : ltb 0 (m .openFiles e REFERENCES) ≡ true = lt-ltb 0 (m .openFiles e REFERENCES) (omega (arith, is-open .open-refs)) in
       let b : ltb 0 (m .openFiles e REFERENCES - 1) ≡ true = lt-ltb 0 (m .openFiles e REFERENCES - 1) (omega arith) in
       handed-sound SLOTS m h p k 0 e (upd (m .openFiles e) REFERENCES (m .openFiles e REFERENCES - 1)) hp hk u (omega arith)
-      (open-used (λ z. omega arith) (r .slot-small (is-open .open-refs)) (r .plain (is-open .open-refs)) (r .mode-least (is-open .open-refs)) (r .mode-most (is-open .open-refs)) (r .offset-most (is-open .open-refs)))
+      (references-to (col (m .file) KIND) (m .openFiles e) (h .opens .open-files e (is-open .small)) (m .openFiles e REFERENCES - 1) (is-open .open-refs) (λ z. omega arith))
       (counts (upd (m .openFiles e) REFERENCES (m .openFiles e REFERENCES - 1)) (omega arith))
       (λ s hs n. omega (arith, rw (a, b) at (openCount-row m e (upd (m .openFiles e) REFERENCES (m .openFiles e REFERENCES - 1)) s (is-open .small))))
 
   -- the open file goes: sound, but for the file that it was on
   last : m .openFiles e REFERENCES ≡ 1 → SoundBut (m .openFiles e SLOT) (handed p k 0 e (λ _. 0) m)
   last q = handed-sound (m .openFiles e SLOT) m but-its-file p k 0 e (λ _. 0) hp hk u (omega arith)
-      (record { slot-zero = λ _. refl; mode-zero = λ _. refl; offset-zero = λ _. refl; slot-small = λ n. absurd (n refl); plain = λ n. absurd (n refl); mode-least = λ n. absurd (n refl); mode-most = λ n. absurd (n refl); offset-most = λ n. absurd (n refl) })
+      open-free
       (counts (λ _. 0) (omega arith))
       (λ s hs n. omega (arith, rw (ne-eqb (m .openFiles e SLOT) s (λ z. n (sym z))) at (openCount-row m e (λ _. 0) s (is-open .small)), false-and (eqb 0 s)))
 
@@ -138,7 +129,7 @@ module _ (m : Tables) (h : Sound m) (p k e : ℕ) (hp : p < PROCESSES) (hk : k <
   unfolding handed
   close-frees q l none t ht = freed-sound (handed p k 0 e (λ _. 0) m) (m .openFiles e SLOT) t (last q) (record {
     small = slot-small;
-    not-root = λ z. omega (arith, h .root-kind, rw z at slot-plain);
+    not-root = λ z. omega (arith, h .slots .root-kind, rw z at slot-plain);
     no-links = l;
     not-open = λ i hi. split i e (λ g t. rw t (λ r. absurd (r refl))) (λ g t. rw t (none i hi g));
     no-dirents = λ z. absurd (omega (arith, z, slot-plain));

@@ -9,7 +9,7 @@ use lib.Dec.{ltb}
 use lib.ListN.{length, getD}
 use borrow.Author.Tests.{eq-eqb, lt-ltb, le-ltb}
 use Rattle.rules.specs.Layout.{SLOTS, BLOCK, OPEN-FILES, PROCESSES, DESCRIPTORS, BITS-MAX, LABEL-MAX, MODE-MAX}
-use Rattle.rules.specs.Layout.{KIND, OWNER, BITS, LABEL, LENGTH, LINKS, VERSION, SLOT, OFFSET, REFERENCES, USED, PROCESS-LABEL, FREE, PLAIN}
+use Rattle.rules.specs.Layout.{KIND, BITS, LENGTH, VERSION, SLOT, OFFSET, REFERENCES, USED, PROCESS-LABEL, FREE, PLAIN}
 use Rattle.rules.specs.Store as rules
 use Rattle.rules.specs.Store.{Store, change, view, ofdOf, up, zeros, applyAll, fileWord, openWord, procWord}
 use Rattle.rules.specs.DecidePaths.{truncated}
@@ -25,8 +25,7 @@ use Rattle.preservation.proofs.Sound.{Sound}
 use Rattle.preservation.proofs.Words.{up-is, up-most, references-most}
 use Rattle.preservation.proofs.OneWord.{held, Held, seek-sound, bits-sound}
 use Rattle.preservation.proofs.Remake.{remade}
-use Rattle.preservation.proofs.Create.{fileRow}
-use Rattle.preservation.proofs.Plain.{wrote, wrote-sound, truncated-sound}
+use Rattle.preservation.proofs.Plain.{wrote, wrote-sound, cutRow, truncated-sound}
 use Rattle.preservation.proofs.Open.{openRow, handed, open-sound}
 use Rattle.preservation.proofs.Processes.{shared, shared-sound, execute-sound}
 use Rattle.preservation.proofs.FlatList.{overRow, upd-twice, length-zeros, getD-zeros}
@@ -77,7 +76,7 @@ open-leaves s h p n o = record {
 -- ---- an open that truncates
 
 abbrev pub cutTo : Slot → Tables → Tables → Tables
-cutTo s m n = remade (s .0) (fileRow PLAIN (m .file (s .0) OWNER) (m .file (s .0) BITS) (m .file (s .0) LABEL) 0 (m .file (s .0) LINKS) (up (m .file (s .0) VERSION))) (λ _. 0) n
+cutTo s m n = remade (s .0) (cutRow (m .file (s .0)) (up (m .file (s .0) VERSION))) (λ _. 0) n
 
 pub truncate-leaves : (s : Store) → SoundStore s → (p : Pid) (n : NewOpen) → Opens (tablesOf s) p n →
     Leaves (applyAll (truncateChanges p n (truncated (view s .tree .file) (n .slot))) s) (cutTo (n .slot) (tablesOf s) (withOpen p n (tablesOf s)))
@@ -156,6 +155,7 @@ pub record Writes (m : Tables) (bytes : List ℕ) (w : Placement) : Type 0 where
 abbrev pub written : Tables → List ℕ → Placement → ℕ → ℕ
 written m bytes w = overRow (overRow (m .byte (w .slot .0)) (w .end) (zeros (w .gap))) (w .at) bytes
 
+-- Two stores into one block are one, whose row is `written`: past the new length neither has put a byte, and the old block was 0 there.
 pub write-leaves : (s : Store) → SoundStore s → (bytes : List ℕ) (w : Placement) → Writes (tablesOf s) bytes w →
     Leaves (applyAll (storeChanges bytes w) s) (openTo (w .ofd .0) OFFSET (w .offset) (wrote (w .slot .0) (written (tablesOf s) bytes w) (w .length) (w .version) (tablesOf s)))
 unfolding storeChanges applyAll wrote
@@ -173,13 +173,13 @@ write-leaves s h bytes w o = record {
     g = written (tablesOf s) bytes w
 
     small : w .slot .0 < SLOTS
-    small = rw (o .on) at (h .tables .open-files (w .ofd .0) (o .ofd .small) .slot-small (o .ofd .open-refs))
+    small = rw (o .on) at (h .tables .opens .open-files (w .ofd .0) (o .ofd .small) .slot-small (o .ofd .open-refs))
 
     plain : tablesOf s .file (w .slot .0) KIND ≡ PLAIN
-    plain = rw (o .on) at (h .tables .open-files (w .ofd .0) (o .ofd .small) .plain (o .ofd .open-refs))
+    plain = rw (o .on) at (h .tables .opens .open-files (w .ofd .0) (o .ofd .small) .plain (o .ofd .open-refs))
 
     end-most : w .end ≤ BLOCK
-    end-most = rw (o .end-is) (h .tables .blocks (w .slot .0) small .length-most (λ z. omega (arith, plain, z)))
+    end-most = rw (o .end-is) (h .tables .slots .blocks (w .slot .0) small .length-most (λ z. omega (arith, plain, z)))
 
     gap : Has (change (rules.bytesTo (w .slot .0) (w .end) (zeros (w .gap))) s) (bytesTo (w .slot .0) (overRow (tablesOf s .byte (w .slot .0)) (w .end) (zeros (w .gap))) (tablesOf s))
     gap = has-bytesTo (its-tables s h) (w .slot .0) (w .end) (zeros (w .gap)) small (omega (arith, length-zeros (w .gap), o .gap-is, o .fits, end-most))
@@ -202,4 +202,4 @@ write-leaves s h bytes w o = record {
         behind : Dec (k < w .end + length (zeros (w .gap))) → cond (ltb k (w .end + length (zeros (w .gap)))) (getD (zeros (w .gap)) (k - w .end) 0) (tablesOf s .byte (w .slot .0) k) ≡ 0
         behind (yes q) = rw (lt-ltb k (w .end + length (zeros (w .gap))) q) (getD-zeros (w .gap) (k - w .end))
         behind (no q) = rw (le-ltb k (w .end + length (zeros (w .gap))) (omega arith))
-            (h .tables .blocks (w .slot .0) small .past-zero (λ z. omega (arith, plain, z)) k hk (omega (arith, o .length-is, l, o .end-is)))
+            (h .tables .slots .blocks (w .slot .0) small .past-zero (λ z. omega (arith, plain, z)) k hk (omega (arith, o .length-is, l, o .end-is)))

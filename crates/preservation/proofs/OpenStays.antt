@@ -62,7 +62,7 @@ on-file s f t =
     record { ofd = a .at; small = a .small; used = w .1 .0; on = w .1 .1 }
 
 on-plain : (m : Tables) → Sound m → (f : ℕ) → OnFile (m .openFiles) f → m .file f KIND ≡ PLAIN
-on-plain m h f o = rw (o .on) at (h .open-files (o .ofd) (o .small) .plain (o .used))
+on-plain m h f o = rw (o .on) at (h .opens .open-files (o .ofd) (o .small) .plain (o .used))
 
 pub open-plain : (s : Store) → SoundStore s → (f : ℕ) → IsOpen s f → tablesOf s .file f KIND ≡ PLAIN
 open-plain s h f t = on-plain (tablesOf s) (h .tables) f (on-file s f t)

@@ -54,7 +54,7 @@ module _ (s : Store) (h : SoundStore s) (c : Call) where
   read-fits e n l = rw (plus-is (view s .openFiles e OFFSET) n (omega (arith, l))) l
 
   pub forking : (q : Pid) (u : Caller (tablesOf s) (c .process)) (hq : q .0 < PROCESSES) → tablesOf s .proc (q .0) USED ≡ 0 → let who = subjectOf (view s .proc) (c .process) in
-      Forks (c .process) q (who .user) (who .label) (u .small) hq s (applyAll (forkChanges q (who .user) (who .label)) (sharedAll (c .process) q s))
+      Forks (c .process) q (who .user) (who .label) (u .small) hq s (applyAll (forkChanges q who) (sharedAll (c .process) q s))
   forking q u hq f = fork-leaves (c .process) q (subjectOf (view s .proc) (c .process) .user) (subjectOf (view s .proc) (c .process) .label) (u .small) hq s h f (caller-user u) (caller-label u)
 
   pub effect-keeps : {n : ℕ} {o : Output} {e : Effect} → Granting s h c n o e → SoundStore (carryOut c e s)

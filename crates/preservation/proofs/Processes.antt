@@ -8,12 +8,13 @@ use lib.ListN.{getD}
 use lib.Dec.{ltb}
 use borrow.Author.Tests.{lt-ltb}
 use Rattle.preservation.proofs.Tests.{split, upd}
-use Rattle.preservation.proofs.Tables.{Tables, procTo, procRowTo}
+use Rattle.preservation.proofs.Tables.{Tables, col, procTo, procRowTo}
 use Rattle.preservation.proofs.Sound.{All, SoundBut, Process}
-use Rattle.preservation.proofs.Counts.{ind-eq, ind-ne, open-used}
+use Rattle.preservation.proofs.Rows.{references-to, process-used, process-free}
+use Rattle.preservation.proofs.Counts.{ind-eq, ind-ne}
 use Rattle.preservation.proofs.OneWord.{Held, held}
 use Rattle.preservation.proofs.Open.{handed, handed-sound, openCount-row}
-use Rattle.rules.specs.Layout.{OPEN-FILES, PROCESSES, DESCRIPTORS, REFERENCES, USED, USER, PROCESS-LABEL, USER-MAX, LABEL-MAX}
+use Rattle.rules.specs.Layout.{PROCESSES, DESCRIPTORS, KIND, REFERENCES, USED, PROCESS-LABEL, USER-MAX, LABEL-MAX}
 
 -- ---- the words of process p
 
@@ -21,45 +22,26 @@ use Rattle.rules.specs.Layout.{OPEN-FILES, PROCESSES, DESCRIPTORS, REFERENCES, 
 abbrev pub procRow : (active user label : ℕ) → ℕ → ℕ
 procRow active user label c = getD (active ∷ user ∷ label ∷ []) c 0
 
-pub process-sound : (x : ℕ) (m : Tables) → SoundBut x m → (p : ℕ) (row : ℕ → ℕ) → Process (row USED) (row USER) (row PROCESS-LABEL) (m .desc p) → SoundBut x (procRowTo p row m)
+pub process-sound : (x : ℕ) (m : Tables) → SoundBut x m → (p : ℕ) (row : ℕ → ℕ) → Process row (m .desc p) → SoundBut x (procRowTo p row m)
 process-sound x m h p row w = record {
-  files = h .files;
-  root-kind = h .root-kind;
-  root-links = h .root-links;
-  blocks = h .blocks;
-  dirs = h .dirs;
-  lengths = h .lengths;
-  links = h .links;
-  once = h .once;
-  depths = h .depths;
-  alive = h .alive;
-  open-files = h .open-files;
-  refs = h .refs;
+  slots = h .slots;
+  tree = h .tree;
+  live = h .live;
+  opens = h .opens;
   procs = λ i hi. split i p (λ q t. rw (t, q) w) (λ q t. rw t (h .procs i hi));
 }
 
-pub proc-active : {active user label : ℕ} {desc : ℕ → ℕ} → active ≡ 1 → user ≤ USER-MAX → label ≤ LABEL-MAX → All DESCRIPTORS (λ k. desc k ≤ OPEN-FILES) → Process active user label desc
-proc-active a u l d = record { active-most = omega arith; user-most = u; label-most = l; desc-most = d; user-zero = λ z. absurd (omega arith); label-zero = λ z. absurd (omega arith); desc-zero = λ z. absurd (omega arith) }
-
 -- execute: the label moves to l
 pub execute-sound : (x : ℕ) (m : Tables) → SoundBut x m → (p l : ℕ) → p < PROCESSES → m .proc p USED ≡ 1 → l ≤ LABEL-MAX → SoundBut x (procTo p PROCESS-LABEL l m)
-execute-sound x m h p l hp a hl = let w = h .procs p hp in process-sound x m h p (upd (m .proc p) PROCESS-LABEL l) (proc-active a (w .user-most) hl (w .desc-most))
+execute-sound x m h p l hp a hl = let w = h .procs p hp in process-sound x m h p (upd (m .proc p) PROCESS-LABEL l) (process-used a (w .user-most) hl (w .desc-most))
 
 -- fork: process q, which is free, is in use
 pub spawn-sound : (x : ℕ) (m : Tables) → SoundBut x m → (q u l : ℕ) → q < PROCESSES → u ≤ USER-MAX → l ≤ LABEL-MAX → SoundBut x (procRowTo q (procRow 1 u l) m)
-spawn-sound x m h q u l hq hu hl = process-sound x m h q (procRow 1 u l) (proc-active refl hu hl (h .procs q hq .desc-most))
+spawn-sound x m h q u l hq hu hl = process-sound x m h q (procRow 1 u l) (process-used refl hu hl (h .procs q hq .desc-most))
 
 -- exit: process q, which holds nothing, is free
 pub retire-sound : (x : ℕ) (m : Tables) → SoundBut x m → (q : ℕ) → All DESCRIPTORS (λ k. m .desc q k ≡ 0) → SoundBut x (procRowTo q (λ _. 0) m)
-retire-sound x m h q z = process-sound x m h q (λ _. 0) (record {
-  active-most = omega arith;
-  user-most = omega arith;
-  label-most = omega arith;
-  desc-most = λ k hk. omega (arith, z k hk);
-  user-zero = λ _. refl;
-  label-zero = λ _. refl;
-  desc-zero = λ _. z;
-})
+retire-sound x m h q z = process-sound x m h q (λ _. 0) (process-free z)
 
 -- ---- descriptor k of q holds the open file e that descriptor j of p holds: duplicate, with q = p, and each step of fork
 
@@ -69,11 +51,10 @@ shared q k e m = handed q k (e + 1) e (upd (m .openFiles e) REFERENCES (m .openF
 pub shared-sound : (x : ℕ) (m : Tables) → SoundBut x m → (p j q k e : ℕ) → p < PROCESSES → j < DESCRIPTORS → q < PROCESSES → k < DESCRIPTORS → (m .proc q USED ≡ 0 → ⊥) → m .desc p j ≡ e + 1 → m .desc q k ≡ 0 → SoundBut x (shared q k e m)
 unfolding shared
 shared-sound x m h p j q k e hp hj hq hk u d f =
-    let r = h .open-files e (o .small) in
     let a : ltb 0 (m .openFiles e REFERENCES) ≡ true = lt-ltb 0 (m .openFiles e REFERENCES) (omega (arith, o .open-refs)) in
     let b : ltb 0 (m .openFiles e REFERENCES + 1) ≡ true = lt-ltb 0 (m .openFiles e REFERENCES + 1) (omega arith) in
     handed-sound x m h q k (e + 1) e (upd (m .openFiles e) REFERENCES (m .openFiles e REFERENCES + 1)) hq hk u (omega (arith, o .small))
-    (open-used (λ z. omega arith) (r .slot-small (o .open-refs)) (r .plain (o .open-refs)) (r .mode-least (o .open-refs)) (r .mode-most (o .open-refs)) (r .offset-most (o .open-refs)))
+    (references-to (col (m .file) KIND) (m .openFiles e) (h .opens .open-files e (o .small)) (m .openFiles e REFERENCES + 1) (o .open-refs) (λ z. omega arith))
     (λ i hi. split i e
     (λ g t. rw (t, g) (omega (arith, ind-eq (e + 1) (e + 1) refl, ind-ne (m .desc q k) (e + 1) (λ z. omega arith))))
     (λ g t. rw t (omega (arith, ind-ne (e + 1) (i + 1) (λ z. g (omega arith)), ind-ne (m .desc q k) (i + 1) (λ z. omega arith)))))

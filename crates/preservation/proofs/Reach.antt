@@ -13,14 +13,14 @@ pub data Reach (m : Tables) : ℕ → ℕ → Type 0 where
 
 pub reach-small : (m : Tables) → Sound m → {k d : ℕ} → Reach m k d → d < SLOTS
 reach-small m h root = omega arith
-reach-small m h (down {u = u} p r ku hp n) = h .dirs u (reach-small m h r) ku .dirents p hp .slot-small
+reach-small m h (down {u = u} p r ku hp n) = h .tree .dirs u (reach-small m h r) ku .dirents p hp .slot-small
 
 -- a directory's depth is the number of names that lead to it
-pub reach-depth : (m : Tables) (h : Sound m) {k d : ℕ} → Reach m k d → m .file d KIND ≡ DIRECTORY → h .depths .depth d ≡ k
-reach-depth m h root _ = h .depths .depth-root
-reach-depth m h (down {u = u} p r ku hp n) kd = h .depths .depth-step u (reach-small m h r) ku p hp n kd ∙ ap suc (reach-depth m h r ku)
+pub reach-depth : (m : Tables) (h : Sound m) {k d : ℕ} → Reach m k d → m .file d KIND ≡ DIRECTORY → h .tree .depths .depth d ≡ k
+reach-depth m h root _ = h .tree .depths .depth-root
+reach-depth m h (down {u = u} p r ku hp n) kd = h .tree .depths .depth-step u (reach-small m h r) ku p hp n kd ∙ ap suc (reach-depth m h r ku)
 
 -- what is reached is in use
 pub reach-used : (m : Tables) (h : Sound m) {k d : ℕ} → Reach m k d → m .file d KIND ≡ FREE → ⊥
-reach-used m h root z = omega (arith, h .root-kind, z)
-reach-used m h (down {u = u} p r ku hp n) z = h .dirs u (reach-small m h r) ku .dirents p hp .slot-used n z
+reach-used m h root z = omega (arith, h .slots .root-kind, z)
+reach-used m h (down {u = u} p r ku hp n) z = h .tree .dirs u (reach-small m h r) ku .dirents p hp .slot-used n z

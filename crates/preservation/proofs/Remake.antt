@@ -10,7 +10,7 @@ use Rattle.preservation.proofs.Sums.{ind, sum2-same, sum-at}
 use Rattle.preservation.proofs.Tables.{Tables, col, direntRow, rowsOf}
 use Rattle.preservation.proofs.Sound.{All, SoundBut, File, Block, Directory, Depths, OpenFile, naming, linkCount, openCount}
 use Rattle.preservation.proofs.Dirents.{naming-at, used-none}
-use Rattle.rules.specs.Layout.{SLOTS, DIRENTS, DIRENT, OPEN-FILES, NAME, KIND, OWNER, BITS, LABEL, LENGTH, LINKS, VERSION, DIRECTORY, SLOT, REFERENCES}
+use Rattle.rules.specs.Layout.{SLOTS, DIRENTS, DIRENT, OPEN-FILES, NAME, KIND, LENGTH, LINKS, DIRECTORY, SLOT, REFERENCES}
 
 -- ---- a group over other columns
 
@@ -46,7 +46,7 @@ dir-empty kind rows z = record {
   };
 }
 
-pub open-kinds : {kind kind′ : ℕ → ℕ} {s p o r : ℕ} → OpenFile kind s p o r → ((r ≡ 0 → ⊥) → kind′ s ≡ kind s) → OpenFile kind′ s p o r
+pub open-kinds : {kind kind′ row : ℕ → ℕ} → OpenFile kind row → ((row REFERENCES ≡ 0 → ⊥) → kind′ (row SLOT) ≡ kind (row SLOT)) → OpenFile kind′ row
 open-kinds w e = record {
   slot-zero = w .slot-zero;
   mode-zero = w .mode-zero;
@@ -80,7 +80,7 @@ pub record Bare (m : Tables) (y : ℕ) : Type 0 where
 
 -- the record and the bytes that it gets
 pub record Fresh (row g : ℕ → ℕ) : Type 0 where
-  pub file-row : File (row KIND) (row OWNER) (row BITS) (row LABEL) (row LENGTH) (row LINKS) (row VERSION)
+  pub file-row : File row
   pub block-row : Block (row KIND) (row LENGTH) g
   pub links-row : row LINKS ≡ 0
   pub empty-length : row KIND ≡ DIRECTORY → row LENGTH ≡ 0
@@ -97,7 +97,7 @@ module _ (m : Tables) (y : ℕ) (row g : ℕ → ℕ) (h : SoundBut y m) (a : Ba
   kind-other i q = rw (ne-eqb i y q)
 
   pub unnamed : (u : ℕ) → u < SLOTS → m .file u KIND ≡ DIRECTORY → (q : ℕ) → q < DIRENTS → direntRow (m .byte) u q NAME ≡ y → ⊥
-  unnamed u hu ku q hq e = omega (arith, naming-at (col (m .file) KIND) (direntRow (m .byte)) u q y hu hq ku e, h .links y (a .small) (a .not-root), a .no-links)
+  unnamed u hu ku q hq e = omega (arith, naming-at (col (m .file) KIND) (direntRow (m .byte)) u q y hu hq ku e, h .tree .links y (a .small) (a .not-root), a .no-links)
 
   pub new-rows : row KIND ≡ DIRECTORY → (q k : ℕ) → q < DIRENTS → k < DIRENT → rowsOf g q k ≡ 0
   new-rows r q k hq hk = rw (lt-ltb k DIRENT hk) (n .empty-bytes r (DIRENT * q + k) (omega arith))
@@ -118,26 +118,35 @@ module _ (m : Tables) (y : ℕ) (row g : ℕ → ℕ) (h : SoundBut y m) (a : Ba
     depth-most = λ i hi. split i y (λ q t. rw t (λ _. omega arith)) (λ q t. rw t (c .depth-most i hi));
   }
 
+  -- Each sentence by cases: slot y has the new row, another slot the row that it had; and no entry or open file reads y's kind.
   pub remade-sound : SoundBut y (remade y row g m)
   unfolding remade
   remade-sound = record {
-    files = λ i hi. split i y (λ q t. rw t (n .file-row)) (λ q t. rw t (h .files i hi));
-    root-kind = rw (ne-eqb 0 y (λ q. a .not-root (sym q))) (h .root-kind);
-    root-links = rw (ne-eqb 0 y (λ q. a .not-root (sym q))) (h .root-links);
-    blocks = λ i hi. split i y (λ q t. rw t (n .block-row)) (λ q t. rw t (h .blocks i hi));
-    dirs = λ i hi. split i y
-        (λ q t. rw t (λ k. dir-empty (col file′ KIND) (rowsOf g) (new-rows k)))
-        (λ q t. rw t (λ k. dir-kinds (col (m .file) KIND) (col file′ KIND) (direntRow (m .byte) i) (h .dirs i hi k) (λ p hp _. kind-other (direntRow (m .byte) i p NAME) (unnamed i hi k p hp))));
-    lengths = λ i hi. split i y
-        (λ q t. rw t (λ k. n .empty-length k ∙ sym (used-none (rowsOf g) (λ p hp. new-rows k p NAME hp (omega arith)))))
-        (λ q t. rw t (h .lengths i hi));
-    links = λ s hs n0. rw (naming-same (col (m .file) KIND) (col file′ KIND) (direntRow (m .byte)) (direntRow byte′) s (naming-eq s n0)) (split s y
-        (λ q t. rw t (n .links-row ∙ sym (a .no-links) ∙ rw (← q) (h .links s hs n0)))
-        (λ q t. rw t (h .links s hs n0)));
-    once = λ i hi q. rw (ne-eqb i y q) (h .once i hi q);
-    depths = remade-depths (h .depths);
-    alive = λ i hi q. rw (ne-eqb i y q) (h .alive i hi q);
-    open-files = λ i hi. open-kinds (h .open-files i hi) (λ r. kind-other (m .openFiles i SLOT) (a .not-open i hi r));
-    refs = h .refs;
+    slots = record {
+      files = λ i hi. split i y (λ q t. rw t (n .file-row)) (λ q t. rw t (h .slots .files i hi));
+      root-kind = rw (ne-eqb 0 y (λ q. a .not-root (sym q))) (h .slots .root-kind);
+      root-links = rw (ne-eqb 0 y (λ q. a .not-root (sym q))) (h .slots .root-links);
+      blocks = λ i hi. split i y (λ q t. rw t (n .block-row)) (λ q t. rw t (h .slots .blocks i hi));
+    };
+    tree = record {
+      dirs = λ i hi. split i y
+          (λ q t. rw t (λ k. dir-empty (col file′ KIND) (rowsOf g) (new-rows k)))
+          (λ q t. rw t (λ k. dir-kinds (col (m .file) KIND) (col file′ KIND) (direntRow (m .byte) i) (h .tree .dirs i hi k) (λ p hp _. kind-other (direntRow (m .byte) i p NAME) (unnamed i hi k p hp))));
+      lengths = λ i hi. split i y
+          (λ q t. rw t (λ k. n .empty-length k ∙ sym (used-none (rowsOf g) (λ p hp. new-rows k p NAME hp (omega arith)))))
+          (λ q t. rw t (h .tree .lengths i hi));
+      links = λ s hs n0. rw (naming-same (col (m .file) KIND) (col file′ KIND) (direntRow (m .byte)) (direntRow byte′) s (naming-eq s n0)) (split s y
+          (λ q t. rw t (n .links-row ∙ sym (a .no-links) ∙ rw (← q) (h .tree .links s hs n0)))
+          (λ q t. rw t (h .tree .links s hs n0)));
+      depths = remade-depths (h .tree .depths);
+    };
+    live = record {
+      once = λ i hi q. rw (ne-eqb i y q) (h .live .once i hi q);
+      alive = λ i hi q. rw (ne-eqb i y q) (h .live .alive i hi q);
+    };
+    opens = record {
+      open-files = λ i hi. open-kinds (h .opens .open-files i hi) (λ r. kind-other (m .openFiles i SLOT) (a .not-open i hi r));
+      refs = h .opens .refs;
+    };
     procs = h .procs;
   }

@@ -12,7 +12,7 @@ use borrow.Author.Tests.{eqb-true, eq-eqb, ne-eqb}
 use Rattle.rules.specs.Layout.{SLOTS, BLOCK, DIRENT, NAME, POINT, FILE, KIND, LENGTH, FREE, PLAIN}
 use Rattle.rules.specs.Choice.{every, some}
 use Rattle.rules.specs.Scan.{all}
-use Rattle.rules.specs.Store.{Tree, tab, block, hidden, shownOf}
+use Rattle.rules.specs.Store.{Tree, tab, block, hidden, shownOf, Table}
 use Rattle.rules.specs.Paths.{sameName, sameAt, isDots}
 use Rattle.rules.specs.Directories.{direntAt, direntSlot, isEmpty, isPadding}
 use Rattle.rules.specs.Sound.{allZero, nameByteSound, nameSound, usedSound, direntSound}
@@ -119,9 +119,10 @@ module _ (D : List ℕ) (rows : ℕ → ℕ → ℕ) (agree : (i k : ℕ) → k 
   unfolding isEmpty
   means-empty i = rw (slot-row i) (means-eq (rows i NAME) 0)
 
-  pub means-dirent : (t : Tree) (i : ℕ) → Means (direntSound t D i) (Dirent (col (t .file) KIND) (rows i))
+  -- Test by test over the row's bytes. Only a used entry's slot is tested to be small: an empty one's is 0.
+  pub means-dirent : (file : Table) (i : ℕ) → Means (direntSound file D i) (Dirent (col file KIND) (rows i))
   unfolding direntSound usedSound
-  means-dirent t i = means-same w
+  means-dirent file i = means-same w
       (λ u. record {
         last-zero = u .0;
         slot-small = small u (decLt (rows i NAME) SLOTS);
@@ -137,16 +138,16 @@ module _ (D : List ℕ) (rows : ℕ → ℕ → ℕ) (agree : (i k : ℕ) → k 
       padding : (k : ℕ) → k < NAME → Means (isPadding (direntAt D i) k) (rows i k ≡ 0)
       padding k h = unfold isPadding in rw (agree i k (omega arith)) (means-eq (rows i k) 0)
 
-      used : Means (every (nameSound (direntAt D i) ∷ ltb (direntSlot D i) SLOTS ∷ not (eqb (t .file (direntSlot D i) KIND) FREE) ∷ []))
-          ((validRow (rows i) ≡ true) × ((rows i NAME < SLOTS) × (t .file (rows i NAME) KIND ≡ FREE → ⊥)))
-      used = rw (slot-row i, valid-row) (means-every (means-and (means-test (validRow (rows i))) (means-and (means-lt (rows i NAME) SLOTS) (means-last (means-not (means-eq (t .file (rows i NAME) KIND) FREE))))))
+      used : Means (every (nameSound (direntAt D i) ∷ ltb (direntSlot D i) SLOTS ∷ not (eqb (file (direntSlot D i) KIND) FREE) ∷ []))
+          ((validRow (rows i) ≡ true) × ((rows i NAME < SLOTS) × (file (rows i NAME) KIND ≡ FREE → ⊥)))
+      used = rw (slot-row i, valid-row) (means-every (means-and (means-test (validRow (rows i))) (means-and (means-lt (rows i NAME) SLOTS) (means-last (means-not (means-eq (file (rows i NAME) KIND) FREE))))))
 
-      w : Means (direntSound t D i) ((rows i (NAME + 1) ≡ 0) × ((rows i NAME ≡ 0 → All NAME (λ k. rows i k ≡ 0))
-          × ((rows i NAME ≡ 0 → ⊥) → (validRow (rows i) ≡ true) × ((rows i NAME < SLOTS) × (t .file (rows i NAME) KIND ≡ FREE → ⊥)))))
+      w : Means (direntSound file D i) ((rows i (NAME + 1) ≡ 0) × ((rows i NAME ≡ 0 → All NAME (λ k. rows i k ≡ 0))
+          × ((rows i NAME ≡ 0 → ⊥) → (validRow (rows i) ≡ true) × ((rows i NAME < SLOTS) × (file (rows i NAME) KIND ≡ FREE → ⊥)))))
       w = rw (agree i (NAME + 1) (omega arith)) (means-every (means-and (means-eq (rows i (NAME + 1)) 0)
           (means-last (means-cond (means-empty i) (means-within NAME (isPadding (direntAt D i)) (λ k. rows i k ≡ 0) padding) used))))
 
       small : ((rows i (NAME + 1) ≡ 0) × ((rows i NAME ≡ 0 → All NAME (λ k. rows i k ≡ 0))
-          × ((rows i NAME ≡ 0 → ⊥) → (validRow (rows i) ≡ true) × ((rows i NAME < SLOTS) × (t .file (rows i NAME) KIND ≡ FREE → ⊥))))) → Dec (rows i NAME < SLOTS) → rows i NAME < SLOTS
+          × ((rows i NAME ≡ 0 → ⊥) → (validRow (rows i) ≡ true) × ((rows i NAME < SLOTS) × (file (rows i NAME) KIND ≡ FREE → ⊥))))) → Dec (rows i NAME < SLOTS) → rows i NAME < SLOTS
       small u (yes l) = l
       small u (no l) = absurd (l (u .1 .1 (λ q. l (omega arith)) .1 .0))

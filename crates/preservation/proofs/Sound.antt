@@ -1,5 +1,5 @@
 -- What the soundness test means: a record of statements about the tables as functions, one for each group of the paper's sentences. A group that
--- speaks of one row is a record over that row's words; a group that counts, or follows names, is over just the columns that it reads.
+-- speaks of one row is a record over that row; a group that counts, or follows names, is over just the columns that it reads.
 use mathlib.Core.Path.{_≡_}
 use mathlib.Core.Bool.{Bool, true, not, cond, _&&_}
 use Prim.Native.Nat.{ℕ, zero, suc, _+_, _*_, _≤_, _<_}
@@ -19,26 +19,26 @@ All n P = (i : ℕ) → i < n → P i
 
 -- ---- a file's record: fields in range; a free record is zero but for its version
 
-pub record File (kind owner bits label length links version : ℕ) : Type 0 where
-  pub kind-most : kind ≤ KIND-MAX
-  pub owner-most : owner ≤ USER-MAX
-  pub bits-most : bits ≤ BITS-MAX
-  pub label-most : label ≤ LABEL-MAX
-  pub version-most : version ≤ WORD-MAX
-  pub owner-zero : kind ≡ FREE → owner ≡ 0
-  pub bits-zero : kind ≡ FREE → bits ≡ 0
-  pub label-zero : kind ≡ FREE → label ≡ 0
-  pub length-zero : kind ≡ FREE → length ≡ 0
-  pub links-zero : kind ≡ FREE → links ≡ 0
+pub record File (row : ℕ → ℕ) : Type 0 where
+  pub kind-most : row KIND ≤ KIND-MAX
+  pub owner-most : row OWNER ≤ USER-MAX
+  pub bits-most : row BITS ≤ BITS-MAX
+  pub label-most : row LABEL ≤ LABEL-MAX
+  pub version-most : row VERSION ≤ WORD-MAX
+  pub owner-zero : row KIND ≡ FREE → row OWNER ≡ 0
+  pub bits-zero : row KIND ≡ FREE → row BITS ≡ 0
+  pub label-zero : row KIND ≡ FREE → row LABEL ≡ 0
+  pub length-zero : row KIND ≡ FREE → row LENGTH ≡ 0
+  pub links-zero : row KIND ≡ FREE → row LINKS ≡ 0
 
--- ---- lengths of plain files, and the zero bytes: past a plain file's length, of a free slot, and the last 256 of a directory
+-- ---- lengths of plain files, and the zero bytes: past a plain file's length, of a free slot, and past a directory's entries
 
 pub record Block (kind length : ℕ) (bytes : ℕ → ℕ) : Type 0 where
   pub length-most : (kind ≡ DIRECTORY → ⊥) → length ≤ BLOCK
   pub past-zero : (kind ≡ DIRECTORY → ⊥) → All BLOCK (λ b. length ≤ b → bytes b ≡ 0)
   pub tail-zero : kind ≡ DIRECTORY → All BLOCK (λ b. DIRENTS * DIRENT ≤ b → bytes b ≡ 0)
 
--- ---- a directory's entries, as rows of 16 bytes
+-- ---- a directory's entries, as rows of DIRENT bytes
 
 -- byte k of a name is no slash, and after a 0 comes 0
 unfoldable pub validByte : (ℕ → ℕ) → ℕ → Bool
@@ -47,7 +47,7 @@ validByte r k = every (not (eqb (r k) SLASH) ∷ implies (eqb (r k) 0) (some (eq
 unfoldable pub sameRow : (ℕ → ℕ) → (ℕ → ℕ) → Bool
 sameRow r t = all (λ k. eqb (r k) (t k)) 0 NAME
 
--- 1 to 14 bytes other than 0 and slash, then 0; neither "." nor ".."
+-- 1 to NAME bytes other than 0 and slash, then 0; neither "." nor ".."
 unfoldable pub validRow : (ℕ → ℕ) → Bool
 validRow r =
     every (not (eqb (r 0) 0) ∷ all (validByte r) 0 NAME
@@ -97,15 +97,15 @@ pub record Depths (kind : ℕ → ℕ) (direntRow : ℕ → ℕ → ℕ → ℕ)
 
 -- ---- open files: a free one is all zero; any other is on a plain file
 
-pub record OpenFile (kind : ℕ → ℕ) (slot mode offset refs : ℕ) : Type 0 where
-  pub slot-zero : refs ≡ 0 → slot ≡ 0
-  pub mode-zero : refs ≡ 0 → mode ≡ 0
-  pub offset-zero : refs ≡ 0 → offset ≡ 0
-  pub slot-small : (refs ≡ 0 → ⊥) → slot < SLOTS
-  pub plain : (refs ≡ 0 → ⊥) → kind slot ≡ PLAIN
-  pub mode-least : (refs ≡ 0 → ⊥) → 0 < mode
-  pub mode-most : (refs ≡ 0 → ⊥) → mode ≤ MODE-MAX
-  pub offset-most : (refs ≡ 0 → ⊥) → offset ≤ BLOCK
+pub record OpenFile (kind row : ℕ → ℕ) : Type 0 where
+  pub slot-zero : row REFERENCES ≡ 0 → row SLOT ≡ 0
+  pub mode-zero : row REFERENCES ≡ 0 → row MODE ≡ 0
+  pub offset-zero : row REFERENCES ≡ 0 → row OFFSET ≡ 0
+  pub slot-small : (row REFERENCES ≡ 0 → ⊥) → row SLOT < SLOTS
+  pub plain : (row REFERENCES ≡ 0 → ⊥) → kind (row SLOT) ≡ PLAIN
+  pub mode-least : (row REFERENCES ≡ 0 → ⊥) → 0 < row MODE
+  pub mode-most : (row REFERENCES ≡ 0 → ⊥) → row MODE ≤ MODE-MAX
+  pub offset-most : (row REFERENCES ≡ 0 → ⊥) → row OFFSET ≤ BLOCK
 
 -- how many open files are on slot s
 unfoldable pub openCount : (slot refs : ℕ → ℕ) → ℕ → ℕ
@@ -117,32 +117,47 @@ holderCount desc e = count2 PROCESSES DESCRIPTORS (λ p k. eqb (desc p k) (e + 1
 
 -- ---- processes: a free one is all zero
 
-pub record Process (active user label : ℕ) (desc : ℕ → ℕ) : Type 0 where
-  pub active-most : active ≤ 1
-  pub user-most : user ≤ USER-MAX
-  pub label-most : label ≤ LABEL-MAX
+pub record Process (row desc : ℕ → ℕ) : Type 0 where
+  pub active-most : row USED ≤ 1
+  pub user-most : row USER ≤ USER-MAX
+  pub label-most : row PROCESS-LABEL ≤ LABEL-MAX
   pub desc-most : All DESCRIPTORS (λ k. desc k ≤ OPEN-FILES)
-  pub user-zero : active ≡ 0 → user ≡ 0
-  pub label-zero : active ≡ 0 → label ≡ 0
-  pub desc-zero : active ≡ 0 → All DESCRIPTORS (λ k. desc k ≡ 0)
+  pub user-zero : row USED ≡ 0 → row USER ≡ 0
+  pub label-zero : row USED ≡ 0 → row PROCESS-LABEL ≡ 0
+  pub desc-zero : row USED ≡ 0 → All DESCRIPTORS (λ k. desc k ≡ 0)
 
--- ---- all of it
+-- ---- all of it: groups of sentences, each over the columns that it reads, so that a change of other columns hands it on as it is
 
--- sound but for slot x, of which it is not said that it has a name or is open: so a store stands between the parts of one call
+-- each slot's record and bytes, and the root's
+pub record Slots (file byte : ℕ → ℕ → ℕ) : Type 0 where
+  pub files : All SLOTS (λ s. File (file s))
+  pub root-kind : file 0 KIND ≡ DIRECTORY
+  pub root-links : file 0 LINKS ≡ 0
+  pub blocks : All SLOTS (λ s. Block (file s KIND) (file s LENGTH) (byte s))
+
+-- the directories, and the names in them
+pub record Directories (kind length named : ℕ → ℕ) (direntRow : ℕ → ℕ → ℕ → ℕ) : Type 0 where
+  pub dirs : All SLOTS (λ d. kind d ≡ DIRECTORY → Directory kind (direntRow d))
+  pub lengths : All SLOTS (λ d. kind d ≡ DIRECTORY → length d ≡ nameCount (direntRow d))
+  pub links : All SLOTS (λ s. (s ≡ 0 → ⊥) → named s ≡ linkCount kind direntRow s)
+  pub depths : Depths kind direntRow
+
+-- a directory has one name, and a plain file has one or is open, but for slot x, of which it is not said; opened s: how many open files are on s
+pub record Live (x : ℕ) (kind named opened : ℕ → ℕ) : Type 0 where
+  pub once : All SLOTS (λ d. (d ≡ x → ⊥) → kind d ≡ DIRECTORY → (d ≡ 0 → ⊥) → named d ≡ 1)
+  pub alive : All SLOTS (λ s. (s ≡ x → ⊥) → kind s ≡ PLAIN → 0 < named s + opened s)
+
+pub record OpenFiles (kind : ℕ → ℕ) (openFiles desc : ℕ → ℕ → ℕ) : Type 0 where
+  pub open-files : All OPEN-FILES (λ e. OpenFile kind (openFiles e))
+  pub refs : All OPEN-FILES (λ e. openFiles e REFERENCES ≡ holderCount desc e)
+
+-- sound but for slot x: so a store stands between the parts of one call
 pub record SoundBut (x : ℕ) (m : Tables) : Type 0 where
-  pub files : All SLOTS (λ s. File (m .file s KIND) (m .file s OWNER) (m .file s BITS) (m .file s LABEL) (m .file s LENGTH) (m .file s LINKS) (m .file s VERSION))
-  pub root-kind : m .file 0 KIND ≡ DIRECTORY
-  pub root-links : m .file 0 LINKS ≡ 0
-  pub blocks : All SLOTS (λ s. Block (m .file s KIND) (m .file s LENGTH) (m .byte s))
-  pub dirs : All SLOTS (λ d. m .file d KIND ≡ DIRECTORY → Directory (col (m .file) KIND) (direntRow (m .byte) d))
-  pub lengths : All SLOTS (λ d. m .file d KIND ≡ DIRECTORY → m .file d LENGTH ≡ nameCount (direntRow (m .byte) d))
-  pub links : All SLOTS (λ s. (s ≡ 0 → ⊥) → m .file s LINKS ≡ linkCount (col (m .file) KIND) (direntRow (m .byte)) s)
-  pub once : All SLOTS (λ d. (d ≡ x → ⊥) → m .file d KIND ≡ DIRECTORY → (d ≡ 0 → ⊥) → m .file d LINKS ≡ 1)
-  pub depths : Depths (col (m .file) KIND) (direntRow (m .byte))
-  pub alive : All SLOTS (λ s. (s ≡ x → ⊥) → m .file s KIND ≡ PLAIN → 0 < m .file s LINKS + openCount (col (m .openFiles) SLOT) (col (m .openFiles) REFERENCES) s)
-  pub open-files : All OPEN-FILES (λ e. OpenFile (col (m .file) KIND) (m .openFiles e SLOT) (m .openFiles e MODE) (m .openFiles e OFFSET) (m .openFiles e REFERENCES))
-  pub refs : All OPEN-FILES (λ e. m .openFiles e REFERENCES ≡ holderCount (m .desc) e)
-  pub procs : All PROCESSES (λ p. Process (m .proc p USED) (m .proc p USER) (m .proc p PROCESS-LABEL) (m .desc p))
+  pub slots : Slots (m .file) (m .byte)
+  pub tree : Directories (col (m .file) KIND) (col (m .file) LENGTH) (col (m .file) LINKS) (direntRow (m .byte))
+  pub live : Live x (col (m .file) KIND) (col (m .file) LINKS) (openCount (col (m .openFiles) SLOT) (col (m .openFiles) REFERENCES))
+  pub opens : OpenFiles (col (m .file) KIND) (m .openFiles) (m .desc)
+  pub procs : All PROCESSES (λ p. Process (m .proc p) (m .desc p))
 
 -- sound: there is no slot SLOTS
 abbrev pub Sound : Tables → Type 0

@@ -10,7 +10,7 @@ use lib.ListN.{length, getD, drop}
 use lib.Seq.{getD-drop}
 use borrow.Author.Tests.{lt-ltb}
 use Rattle.rules.specs.Layout.{SLOTS, BLOCK, DIRENT, DIRENTS, NAMES, OPEN-FILES, PROCESSES, FILE, OPEN}
-use Rattle.rules.specs.Layout.{KIND, OWNER, BITS, LABEL, LENGTH, LINKS, VERSION, SLOT, MODE, OFFSET, REFERENCES, USED, USER, PROCESS-LABEL, FREE, PLAIN, DIRECTORY}
+use Rattle.rules.specs.Layout.{KIND, LENGTH, LINKS, SLOT, REFERENCES, FREE, PLAIN, DIRECTORY}
 use Rattle.rules.specs.Choice.{some}
 use Rattle.rules.specs.Store.{Store, view, slot, tab, block, shownOf}
 use Rattle.rules.specs.Directories.{direntAt}
@@ -72,12 +72,12 @@ module _ (s : Store) (z : Sized s) where
       byte : (b : ℕ) → getD (shownOf (s .files) (s .contents) d) b 0 ≡ tab BLOCK (s .contents) d b
       byte b = ap (λ (l : List ℕ). getD l b 0) whole ∙ block-byte (s .contents) (z .contents-size) d h b
 
-      dirents : Means (direntsSound (view s .tree) (shownOf (s .files) (s .contents) d) (file d LENGTH)) (Directory kind (rows d) × ((file d LENGTH ≡ nameCount (rows d)) × Zeros (DIRENTS * DIRENT) d))
-      dirents = means-same (means-dirents (view s .tree) (shownOf (s .files) (s .contents) d) (rows d) (agree d h e) (file d LENGTH))
+      dirents : Means (direntsSound (view s .tree .file) (shownOf (s .files) (s .contents) d) (file d LENGTH)) (Directory kind (rows d) × ((file d LENGTH ≡ nameCount (rows d)) × Zeros (DIRENTS * DIRENT) d))
+      dirents = means-same (means-dirents (view s .tree .file) (shownOf (s .files) (s .contents) d) (rows d) (agree d h e) (file d LENGTH))
           (λ w. (w .0, (w .1 .0, λ b hb l. sym (byte b) ∙ w .1 .1 b (rw size hb) l)))
           (λ w. (w .0, (w .1 .0, λ b hb l. byte b ∙ w .1 .1 b (rw size at hb) l)))
 
-  means-plain : (d : ℕ) → d < SLOTS → file d KIND ≡ PLAIN → Means (plainSound (view s) d) (OfPlain d)
+  means-plain : (d : ℕ) → d < SLOTS → file d KIND ≡ PLAIN → Means (plainSound (view s .tree) (view s .openFiles) d) (OfPlain d)
   unfolding plainSound
   means-plain d h e = means-every (means-and (means-le (file d LENGTH) BLOCK) (means-and alive (means-last zeros)))
     where
@@ -94,22 +94,19 @@ module _ (s : Store) (z : Sized s) where
   abbrev OfKind : ℕ → Type 0
   OfKind d = (file d KIND ≡ DIRECTORY → OfDirectory d) × ((file d KIND ≡ DIRECTORY → ⊥) → (file d KIND ≡ PLAIN → OfPlain d) × ((file d KIND ≡ PLAIN → ⊥) → Zeros 0 d))
 
-  means-kind : (d : ℕ) → d < SLOTS → Means (kindSound (view s) d) (OfKind d)
+  means-kind : (d : ℕ) → d < SLOTS → Means (kindSound (view s .tree) (view s .openFiles) d) (OfKind d)
   unfolding kindSound
   means-kind d h = means-choice (means-eq (file d KIND) DIRECTORY) (means-directory d h)
       (λ _. means-choice (means-eq (file d KIND) PLAIN) (means-plain d h) (λ n. rw (shown-whole (s .files) (s .contents) d n) (zeros-block d h 0)))
 
   -- ---- a slot
 
-  abbrev FileAt : ℕ → Type 0
-  FileAt d = File (file d KIND) (file d OWNER) (file d BITS) (file d LABEL) (file d LENGTH) (file d LINKS) (file d VERSION)
-
   abbrev OfSlot : ℕ → Type 0
-  OfSlot d = FileAt d × (((d ≡ 0 → file d LINKS ≡ 0) × ((d ≡ 0 → ⊥) → file d LINKS ≡ linkCount kind rows d)) × OfKind d)
+  OfSlot d = File (file d) × (((d ≡ 0 → file d LINKS ≡ 0) × ((d ≡ 0 → ⊥) → file d LINKS ≡ linkCount kind rows d)) × OfKind d)
 
-  means-slot : (d : ℕ) → d < SLOTS → Means (slotSound (view s) d) (OfSlot d)
+  means-slot : (d : ℕ) → d < SLOTS → Means (slotSound (view s .tree) (view s .openFiles) d) (OfSlot d)
   unfolding slotSound
-  means-slot d h = means-every (means-and (means-record (view s .tree) d) (means-and links (means-last (means-kind d h))))
+  means-slot d h = means-every (means-and (means-record (view s .tree .file) d) (means-and links (means-last (means-kind d h))))
     where
       links : Means (linksSound (view s .tree) d) ((d ≡ 0 → file d LINKS ≡ 0) × ((d ≡ 0 → ⊥) → file d LINKS ≡ linkCount kind rows d))
       links = unfold linksSound in rw (links-total (view s .tree) rows agree d) (means-cond (means-eq d 0) (means-eq (file d LINKS) 0) (means-eq (file d LINKS) (linkCount kind rows d)))
@@ -118,29 +115,37 @@ module _ (s : Store) (z : Sized s) where
 
   abbrev OfTables : Type 0
   OfTables = (file 0 KIND ≡ DIRECTORY) × (All SLOTS OfSlot × (All OPEN-FILES (λ e. (tab OPEN (s .openFiles) e REFERENCES ≡ holderCount (view s .desc) e)
-      × OpenFile kind (tab OPEN (s .openFiles) e SLOT) (tab OPEN (s .openFiles) e MODE) (tab OPEN (s .openFiles) e OFFSET) (tab OPEN (s .openFiles) e REFERENCES))
-      × All PROCESSES (λ p. Process (view s .proc p USED) (view s .proc p USER) (view s .proc p PROCESS-LABEL) (view s .desc p))))
+      × OpenFile kind (tab OPEN (s .openFiles) e)) × All PROCESSES (λ p. Process (view s .proc p) (view s .desc p))))
 
   means-parts : Means (tablesSound (view s)) OfTables
   unfolding tablesSound
-  means-parts = means-every (means-and (means-eq (file 0 KIND) DIRECTORY) (means-and (means-within SLOTS (slotSound (view s)) OfSlot means-slot)
-      (means-and (means-all OPEN-FILES (openSound (view s)) _ (means-open-file (view s))) (means-last (means-all PROCESSES (procSound (view s)) _ (means-process (view s)))))))
+  means-parts = means-every (means-and (means-eq (file 0 KIND) DIRECTORY) (means-and (means-within SLOTS (slotSound (view s .tree) (view s .openFiles)) OfSlot means-slot)
+      (means-and (means-all OPEN-FILES (openSound (view s .tree .file) (view s .openFiles) (view s .desc)) _ (means-open-file (view s .tree .file) (view s .openFiles) (view s .desc))) (means-last (means-all PROCESSES (procSound (view s .proc) (view s .desc)) _ (means-process (view s .proc) (view s .desc)))))))
 
+  -- What the test says slot by slot, group by group. The test finds a block's zeros by kind: a slot neither directory nor plain is free, of length 0.
   from-parts : OfTables → Sound (tablesOf s)
   unfolding tablesOf
   from-parts w = record {
-    files = λ d h. w .1 .0 d h .0;
-    root-kind = w .0;
-    root-links = w .1 .0 0 (omega arith) .1 .0 .0 refl;
-    blocks = blocks;
-    dirs = λ d h e. w .1 .0 d h .1 .1 .0 e .0 .0;
-    lengths = λ d h e. w .1 .0 d h .1 .1 .0 e .0 .1 .0;
-    links = λ d h. w .1 .0 d h .1 .0 .1;
-    once = λ d h _ e n. once d h e n;
-    depths = depths-from kind rows (λ u hu e p hp. w .1 .0 u hu .1 .1 .0 e .0 .0 .dirents p hp .slot-small) (λ d h e n. sym (w .1 .0 d h .1 .0 .1 n) ∙ once d h e n) (λ d h e. w .1 .0 d h .1 .1 .0 e .1 .1);
-    alive = λ d h _ e. plain d h e .1 .0;
-    open-files = λ e h. w .1 .1 .0 e h .1;
-    refs = λ e h. w .1 .1 .0 e h .0;
+    slots = record {
+      files = λ d h. w .1 .0 d h .0;
+      root-kind = w .0;
+      root-links = w .1 .0 0 (omega arith) .1 .0 .0 refl;
+      blocks = blocks;
+    };
+    tree = record {
+      dirs = λ d h e. w .1 .0 d h .1 .1 .0 e .0 .0;
+      lengths = λ d h e. w .1 .0 d h .1 .1 .0 e .0 .1 .0;
+      links = λ d h. w .1 .0 d h .1 .0 .1;
+      depths = depths-from kind rows (λ u hu e p hp. w .1 .0 u hu .1 .1 .0 e .0 .0 .dirents p hp .slot-small) (λ d h e n. sym (w .1 .0 d h .1 .0 .1 n) ∙ once d h e n) (λ d h e. w .1 .0 d h .1 .1 .0 e .1 .1);
+    };
+    live = record {
+      once = λ d h _ e n. once d h e n;
+      alive = λ d h _ e. plain d h e .1 .0;
+    };
+    opens = record {
+      open-files = λ e h. w .1 .1 .0 e h .1;
+      refs = λ e h. w .1 .1 .0 e h .0;
+    };
     procs = w .1 .1 .1;
   }
     where
@@ -161,36 +166,37 @@ module _ (s : Store) (z : Sized s) where
               let l : file d LENGTH ≡ 0 = w .1 .0 d h .0 .length-zero f in
               record { length-most = λ _. omega arith; past-zero = λ _ b hb _. w .1 .0 d h .1 .1 .1 n .1 o b hb (omega arith); tail-zero = λ q. absurd (n q) }
 
+  -- Back again: the depth that the test computes is the one that the tree has.
   to-parts : Sound (tablesOf s) → OfTables
   unfolding tablesOf
-  to-parts h = (h .root-kind, (slots, ((λ e he. (h .refs e he, h .open-files e he)), h .procs)))
+  to-parts h = (h .slots .root-kind, (slots, ((λ e he. (h .opens .refs e he, h .opens .open-files e he)), h .procs)))
     where
       once : (d : ℕ) → d < SLOTS → file d KIND ≡ DIRECTORY → (d ≡ 0 → ⊥) → file d LINKS ≡ 1
-      once d hd = h .once d hd (λ q. omega (arith, hd))
+      once d hd = h .live .once d hd (λ q. omega (arith, hd))
 
       deep : (d : ℕ) → d < SLOTS → file d KIND ≡ DIRECTORY → depthWithin kind rows NAMES d ≤ NAMES
       deep d hd e =
-          let l : h .depths .depth d ≤ NAMES = h .depths .depth-most d hd e in
-          let q : depthWithin kind rows NAMES d ≡ h .depths .depth d = depth-is kind rows (λ c hc k n. sym (h .links c hc n) ∙ once c hc k n) (h .depths) NAMES d hd e l in
+          let l : h .tree .depths .depth d ≤ NAMES = h .tree .depths .depth-most d hd e in
+          let q : depthWithin kind rows NAMES d ≡ h .tree .depths .depth d = depth-is kind rows (λ c hc k n. sym (h .tree .links c hc n) ∙ once c hc k n) (h .tree .depths) NAMES d hd e l in
           omega arith
 
       slots : (d : ℕ) → d < SLOTS → OfSlot d
       slots d hd = (
-        h .files d hd,
+        h .slots .files d hd,
         (
-          ((λ q. rw q (h .root-links)), h .links d hd),
+          ((λ q. rw q (h .slots .root-links)), h .tree .links d hd),
           (
-            (λ e. ((h .dirs d hd e, (h .lengths d hd e, b .tail-zero e)), (once d hd e, deep d hd e))),
-            λ n. ((λ e. (b .length-most n, (h .alive d hd (λ q. omega (arith, hd)) e, b .past-zero n))), λ o c hc _. b .past-zero n c hc (free n o)),
+            (λ e. ((h .tree .dirs d hd e, (h .tree .lengths d hd e, b .tail-zero e)), (once d hd e, deep d hd e))),
+            λ n. ((λ e. (b .length-most n, (h .live .alive d hd (λ q. omega (arith, hd)) e, b .past-zero n))), λ o c hc _. b .past-zero n c hc (free n o)),
           ),
         ),
       )
         where
           b : Block (file d KIND) (file d LENGTH) (tab BLOCK (s .contents) d)
-          b = h .blocks d hd
+          b = h .slots .blocks d hd
 
           free : (file d KIND ≡ DIRECTORY → ⊥) → (file d KIND ≡ PLAIN → ⊥) → {c : ℕ} → file d LENGTH ≤ c
-          free n o {c} = let f : file d KIND ≡ FREE = omega (arith, h .files d hd .kind-most, n, o) in omega (arith, h .files d hd .length-zero f)
+          free n o {c} = let f : file d KIND ≡ FREE = omega (arith, h .slots .files d hd .kind-most, n, o) in omega (arith, h .slots .files d hd .length-zero f)
 
   pub means-tables : Means (tablesSound (view s)) (Sound (tablesOf s))
   means-tables = means-same means-parts from-parts to-parts

@@ -1,8 +1,10 @@
 -- The store as tables: five functions of a row and a column. All of `Sound` is said of these, so no proof about it sees a list or an index.
 use mathlib.Core.Bool.{cond}
+use mathlib.Core.List.{List, [], _∷_}
 use Prim.Native.Nat.{ℕ, _+_, _*_, _/_, _%_}
 use lib.Dec.{eqb, ltb}
-use Rattle.rules.specs.Layout.{DIRENT}
+use lib.ListN.{getD}
+use Rattle.rules.specs.Layout.{DIRENT, KIND, OWNER, BITS, LABEL, LENGTH, LINKS, VERSION}
 use Rattle.preservation.proofs.Tests.{upd, upd2, updRow}
 
 -- As in the view: the files' records, the open files, the processes' own words and their descriptors, each by row and named column. `byte` is
@@ -18,7 +20,14 @@ pub record Tables : Type 0 where
 abbrev pub col : (ℕ → ℕ → ℕ) → ℕ → ℕ → ℕ
 col f c i = f i c
 
--- the directory entries of a block of bytes: entry p, byte k; 0 for k over 15, so that two entries never share a byte
+-- the columns of a file's record, and the row that has these and no other
+abbrev pub fileWords : (ℕ → ℕ) → List ℕ
+fileWords row = row KIND ∷ row OWNER ∷ row BITS ∷ row LABEL ∷ row LENGTH ∷ row LINKS ∷ row VERSION ∷ []
+
+abbrev pub fileRow : (ℕ → ℕ) → ℕ → ℕ
+fileRow row c = getD (fileWords row) c 0
+
+-- the directory entries of a block of bytes: entry p, byte k; 0 for k from DIRENT on, so that two entries never share a byte
 abbrev pub rowsOf : (ℕ → ℕ) → ℕ → ℕ → ℕ
 rowsOf bytes p k = cond (ltb k DIRENT) (bytes (DIRENT * p + k)) 0
 
@@ -26,7 +35,7 @@ rowsOf bytes p k = cond (ltb k DIRENT) (bytes (DIRENT * p + k)) 0
 abbrev pub direntRow : (ℕ → ℕ → ℕ) → ℕ → ℕ → ℕ → ℕ
 direntRow byte d = rowsOf (byte d)
 
--- the block with entry p holding the 16 bytes of r
+-- the block with entry p holding the bytes of r
 abbrev pub fill : (ℕ → ℕ) → ℕ → (ℕ → ℕ) → ℕ → ℕ
 fill bytes p r b = cond (eqb (b / DIRENT) p) (r (b % DIRENT)) (bytes b)
 

@@ -1,5 +1,5 @@
 -- Tests, and what they mean; one value of a function changed.
-use mathlib.Core.Path.{_≡_, refl}
+use mathlib.Core.Path.{_≡_, refl, subst, fun-ext}
 use mathlib.Core.Bool.{Bool, true, false, not, cond, _&&_, false≢true}
 use mathlib.Core.List.{List, [], _∷_}
 use Prim.Native.Nat.{ℕ, _≤_, _<_}
@@ -138,3 +138,9 @@ split s j {G} f g = go (eqb s j) refl
     go : (b : Bool) → eqb s j ≡ b → G
     go true e = f (eqb-true s j e) e
     go false e = g (eqb-false s j e) e
+
+-- a row of a table of which one word changed
+pub upd2-elim : (P : (ℕ → ℕ) → Type 0) (f : ℕ → ℕ → ℕ) (j c v i : ℕ) → (i ≡ j → P (upd (f i) c v)) → ((i ≡ j → ⊥) → P (f i)) → P (upd2 f j c v i)
+upd2-elim P f j c v i a b = split i j
+    (λ q e. subst P (fun-ext (λ k. rw e)) (a q))
+    (λ n e. subst P (fun-ext (λ k. rw e (cond-elim (λ x. f i k ≡ x) (eqb k c) (f i k) (f i k) (λ _. refl) (λ _. refl)))) (b n))

@@ -50,13 +50,13 @@ depths-from kind pl small once most = record {
   depth-step = λ u hu ku p hp n k. step u hu ku p hp n k (most (pl u p NAME) (small u hu ku p hp) k);
 }
   where
-    deeper : (d u : ℕ) → (d ≡ 0 → ⊥) → parent kind pl d ≡ u → depthWithin kind pl NAMES d ≡ suc (depthWithin kind pl 7 u)
+    deeper : (d u : ℕ) → (d ≡ 0 → ⊥) → parent kind pl d ≡ u → depthWithin kind pl NAMES d ≡ suc (depthWithin kind pl (NAMES - 1) u)
     deeper d u n e = unfold depthWithin in rw (ne-eqb d 0 n, e)
 
     step : (u : ℕ) → u < SLOTS → kind u ≡ DIRECTORY → (p : ℕ) → p < DIRENTS → (pl u p NAME ≡ 0 → ⊥) → kind (pl u p NAME) ≡ DIRECTORY → depthWithin kind pl NAMES (pl u p NAME) ≤ NAMES → depthWithin kind pl NAMES (pl u p NAME) ≡ suc (depthWithin kind pl NAMES u)
     step u hu ku p hp n k l =
-        let a : depthWithin kind pl NAMES (pl u p NAME) ≡ suc (depthWithin kind pl 7 u) = deeper (pl u p NAME) u n (parent-is kind pl (pl u p NAME) u p hu hp ku refl (once (pl u p NAME) (small u hu ku p hp) k n)) in
-        a ∙ ap suc (sym (stable kind pl 7 u (omega arith)))
+        let a : depthWithin kind pl NAMES (pl u p NAME) ≡ suc (depthWithin kind pl (NAMES - 1) u) = deeper (pl u p NAME) u n (parent-is kind pl (pl u p NAME) u p hu hp ku refl (once (pl u p NAME) (small u hu ku p hp) k n)) in
+        a ∙ ap suc (sym (stable kind pl (NAMES - 1) u (omega arith)))
 
 -- ---- and back: the test computes the depths
 
@@ -74,7 +74,7 @@ over kind pl c d k n one = go (unfold linkCount in sum2-some SLOTS DIRENTS (λ i
     go : Some2 SLOTS DIRENTS (λ i j. ind (naming kind pl d i j)) → Over kind pl (c .depth) d
     go s =
         let t : naming kind pl d (s .row) (s .column) ≡ true = ind-more (naming kind pl d (s .row) (s .column)) (s .more) in
-        let ku : kind (s .row) ≡ DIRECTORY = eqb-true (kind (s .row)) 2 (and-left (eqb (kind (s .row)) DIRECTORY) (eqb (pl (s .row) (s .column) NAME) d) t) in
+        let ku : kind (s .row) ≡ DIRECTORY = eqb-true (kind (s .row)) DIRECTORY (and-left (eqb (kind (s .row)) DIRECTORY) (eqb (pl (s .row) (s .column) NAME) d) t) in
         let e : pl (s .row) (s .column) NAME ≡ d = eqb-true (pl (s .row) (s .column) NAME) d (and-right (eqb (kind (s .row)) DIRECTORY) (eqb (pl (s .row) (s .column) NAME) d) t) in
         record {
           up = s .row;

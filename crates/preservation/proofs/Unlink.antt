@@ -6,7 +6,7 @@ use Rattle.preservation.proofs.Tests.{split, upd, upd-other}
 use Rattle.preservation.proofs.Tables.{Tables, col, direntRow, fill}
 use Rattle.preservation.proofs.Sound.{SoundBut, Dirent, Depths}
 use Rattle.preservation.proofs.Counts.{ind-eq, ind-ne}
-use Rattle.preservation.proofs.Dirents.{placed, Fits, placed-files, placed-blocks, placed-dirs, placed-lengths, placed-links, placed-other-slot, placed-here-slot, naming-at, used-at}
+use Rattle.preservation.proofs.Dirents.{placed, Fits, placed-slots, placed-tree, placed-other-slot, placed-here-slot, naming-at, used-at}
 use Rattle.preservation.proofs.Link.{ind-some}
 use Rattle.rules.specs.Layout.{SLOTS, DIRENTS, NAME, KIND, LENGTH, LINKS, DIRECTORY, WORD-MAX}
 
@@ -29,15 +29,15 @@ module _ (m : Tables) (d p t y : ℕ) (h : SoundBut y m) (hd : d < SLOTS) (kd : 
     row-dirent = no-dirent (col (m .file) KIND);
     row-new = λ n. absurd (n refl);
     version-small = ht;
-    file-used = λ z. h .dirs d hd kd .dirents p hp .slot-used (rw e n0) (rw e z);
+    file-used = λ z. h .tree .dirs d hd kd .dirents p hp .slot-used (rw e n0) (rw e z);
     file-root = n0;
   }
 
   unlinked-depths : Depths (col (m .file) KIND) (direntRow (upd (m .byte) d (fill (m .byte d) p noRow)))
   unlinked-depths = record {
-    depth = h .depths .depth;
-    depth-root = h .depths .depth-root;
-    depth-most = h .depths .depth-most;
+    depth = h .tree .depths .depth;
+    depth-root = h .tree .depths .depth-root;
+    depth-most = h .tree .depths .depth-most;
     depth-step = λ u hu ku q hq. split u d
         (λ a _. split q p (λ c _ n. absurd (n (rw (a, c) (placed-here-slot y m h d p noRow 0 t y 0 unlinked-fits)))) (λ c _. keep u hu ku q hq (λ _. c)))
         (λ a _. keep u hu ku q hq (λ z _. a z));
@@ -46,26 +46,24 @@ module _ (m : Tables) (d p t y : ℕ) (h : SoundBut y m) (hd : d < SLOTS) (kd : 
       b : ℕ → ℕ → ℕ
       b = upd (m .byte) d (fill (m .byte d) p noRow)
 
-      keep : (u : ℕ) → u < SLOTS → m .file u KIND ≡ DIRECTORY → (q : ℕ) → q < DIRENTS → (u ≡ d → q ≡ p → ⊥) → (direntRow b u q NAME ≡ 0 → ⊥) → m .file (direntRow b u q NAME) KIND ≡ DIRECTORY → h .depths .depth (direntRow b u q NAME) ≡ suc (h .depths .depth u)
-      keep u hu ku q hq o = rw (placed-other-slot y m h d p noRow 0 t y 0 unlinked-fits u q o) (h .depths .depth-step u hu ku q hq)
+      keep : (u : ℕ) → u < SLOTS → m .file u KIND ≡ DIRECTORY → (q : ℕ) → q < DIRENTS → (u ≡ d → q ≡ p → ⊥) → (direntRow b u q NAME ≡ 0 → ⊥) → m .file (direntRow b u q NAME) KIND ≡ DIRECTORY → h .tree .depths .depth (direntRow b u q NAME) ≡ suc (h .tree .depths .depth u)
+      keep u hu ku q hq o = rw (placed-other-slot y m h d p noRow 0 t y 0 unlinked-fits u q o) (h .tree .depths .depth-step u hu ku q hq)
 
   pub unlinked-sound : SoundBut y (unlinked d p t y m)
   unfolding unlinked placed
   unlinked-sound = record {
-    files = placed-files y m h d p noRow z t y c f;
-    root-kind = h .root-kind;
-    root-links = upd-other (col (m .file) LINKS) y c 0 (λ q. n0 (sym q)) ∙ h .root-links;
-    blocks = placed-blocks y m h d p noRow z t y c f;
-    dirs = placed-dirs y m h d p noRow z t y c f;
-    lengths = placed-lengths y m h d p noRow z t y c f (omega (arith, ind-some (direntRow (m .byte) d p NAME) (rw e n0), used-at (direntRow (m .byte) d) p hp (rw e n0), h .lengths d hd kd));
-    links = placed-links y m h d p noRow z t y c f (λ s hs n. split s y
-        (λ q w. rw (w, q) (omega (arith, ind-eq (direntRow (m .byte) d p NAME) y e, ind-ne 0 y (λ a. n0 (sym a)), naming-at (col (m .file) KIND) (direntRow (m .byte)) d p y hd hp kd e, h .links y (rw q at hs) n0)))
-        (λ q w. rw w (omega (arith, ind-ne (direntRow (m .byte) d p NAME) s (λ a. q (sym a ∙ e)), ind-ne 0 s (λ a. n (sym a))))));
-    once = λ i hi q k n. rw (upd-other (col (m .file) LINKS) y c i q) (h .once i hi q k n);
-    depths = unlinked-depths;
-    alive = λ i hi q k. rw (upd-other (col (m .file) LINKS) y c i q) (h .alive i hi q k);
-    open-files = h .open-files;
-    refs = h .refs;
+    slots = placed-slots y m h d p noRow z t y c f;
+    tree = placed-tree y m h d p noRow z t y c f
+        (omega (arith, ind-some (direntRow (m .byte) d p NAME) (rw e n0), used-at (direntRow (m .byte) d) p hp (rw e n0), h .tree .lengths d hd kd))
+        (λ s hs n. split s y
+        (λ q w. rw (w, q) (omega (arith, ind-eq (direntRow (m .byte) d p NAME) y e, ind-ne 0 y (λ a. n0 (sym a)), naming-at (col (m .file) KIND) (direntRow (m .byte)) d p y hd hp kd e, h .tree .links y (rw q at hs) n0)))
+        (λ q w. rw w (omega (arith, ind-ne (direntRow (m .byte) d p NAME) s (λ a. q (sym a ∙ e)), ind-ne 0 s (λ a. n (sym a))))))
+        unlinked-depths;
+    live = record {
+      once = λ i hi q k n. rw (upd-other (col (m .file) LINKS) y c i q) (h .live .once i hi q k n);
+      alive = λ i hi q k. rw (upd-other (col (m .file) LINKS) y c i q) (h .live .alive i hi q k);
+    };
+    opens = h .opens;
     procs = h .procs;
   }
     where

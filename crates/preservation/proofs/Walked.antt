@@ -64,7 +64,7 @@ module _ (s : Store) (h : SoundStore s) (Q : List ℕ) (who : Subject) where
   entry-used d hd kd n i g hi t z =
       let same : sameRow (direntRow (tablesOf s .byte) (d .0) i) (λ k. getD n k 0) ≡ true = sym (has-row s h d hd kd n i) ∙ t in
       let first-same : direntRow (tablesOf s .byte) (d .0) i 0 ≡ getD n 0 0 = same-at (direntRow (tablesOf s .byte) (d .0) i) (λ k. getD n k 0) same 0 (omega arith) in
-      g .bytes .no-zero 0 (g .bytes .some-byte) (sym first-same ∙ h .tables .dirs (d .0) hd kd .dirents i hi .empty-zero z 0 (omega arith))
+      g .bytes .no-zero 0 (g .bytes .some-byte) (sym first-same ∙ h .tables .tree .dirs (d .0) hd kd .dirents i hi .empty-zero z 0 (omega arith))
 
   searched-fit : {P : Location → Type 0} (d : Slot) (k : ℕ) (w : Walk) → (tablesOf s .file (d .0) KIND ≡ DIRECTORY → WalkFit P w) → WalkFit P (searched (view s .tree .file) Q who d k w)
   unfolding tablesOf

@@ -51,22 +51,22 @@ module _ (x : ℕ) (m : Tables) (h : SoundBut x m) where
   length-most s hs = by (ℕ-discrete (m .file s KIND) DIRECTORY)
     where
       by : Dec (m .file s KIND ≡ DIRECTORY) → m .file s LENGTH ≤ BLOCK
-      by (yes e) = omega (arith, h .lengths s hs e, names-most (direntRow (m .byte) s))
-      by (no n) = h .blocks s hs .length-most n
+      by (yes e) = omega (arith, h .tree .lengths s hs e, names-most (direntRow (m .byte) s))
+      by (no n) = h .slots .blocks s hs .length-most n
 
   pub link-most : (s : ℕ) → s < SLOTS → m .file s LINKS ≤ DIRENTS * SLOTS
   link-most s hs = by (ℕ-discrete s 0)
     where
       by : Dec (s ≡ 0) → m .file s LINKS ≤ DIRENTS * SLOTS
-      by (yes e) = rw e (omega (arith, h .root-links))
-      by (no n) = omega (arith, h .links s hs n, links-most (col (m .file) KIND) (direntRow (m .byte)) s)
+      by (yes e) = rw e (omega (arith, h .slots .root-links))
+      by (no n) = omega (arith, h .tree .links s hs n, links-most (col (m .file) KIND) (direntRow (m .byte)) s)
 
   pub references-most : (e : ℕ) → e < OPEN-FILES → m .openFiles e REFERENCES ≤ DESCRIPTORS * PROCESSES
-  references-most e he = omega (arith, h .refs e he, holders-most (m .desc) e)
+  references-most e he = omega (arith, h .opens .refs e he, holders-most (m .desc) e)
 
   pub offsets-most : (e : ℕ) → e < OPEN-FILES → m .openFiles e OFFSET ≤ BLOCK
   offsets-most e he = by (ℕ-discrete (m .openFiles e REFERENCES) 0)
     where
       by : Dec (m .openFiles e REFERENCES ≡ 0) → m .openFiles e OFFSET ≤ BLOCK
-      by (yes z) = omega (arith, h .open-files e he .offset-zero z)
-      by (no n) = h .open-files e he .offset-most n
+      by (yes z) = omega (arith, h .opens .open-files e he .offset-zero z)
+      by (no n) = h .opens .open-files e he .offset-most n

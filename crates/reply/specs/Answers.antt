@@ -1,7 +1,7 @@
 -- The answer of a call as it crosses to C, and the reader's buffer.
 use Prim.Native.Nat.{ℕ}
 use mathlib.Core.List.{List, []}
-use Rattle.rules.specs.Store.{Store, View, view}
+use Rattle.rules.specs.Store.{Store, Tree, view}
 use Rattle.rules.specs.Refusals.{GRANTED}
 use Rattle.rules.specs.Directories.{padded}
 use Rattle.rules.specs.Step.{nameOut, fieldsOut, bufferOut, answerOf}
@@ -13,8 +13,8 @@ abbrev pub plain : (refusal stop value : ℕ) → Answer
 plain r k n = answerOf (record { refusal = r; stop = k; value = n; name = []; fields = []; buffer = [] })
 
 -- the answer of a granted call with value n and output o
-abbrev pub outputAnswer : View → ℕ → Output → Answer
-outputAnswer v n o = answerOf (record { refusal = GRANTED; stop = 0; value = n; name = nameOut v o; fields = fieldsOut o; buffer = [] })
+abbrev pub outputAnswer : Tree → ℕ → Output → Answer
+outputAnswer t n o = answerOf (record { refusal = GRANTED; stop = 0; value = n; name = nameOut t o; fields = fieldsOut o; buffer = [] })
 
 abbrev pub withName : ℕ → List ℕ → Answer
 withName n name = answerOf (record { refusal = GRANTED; stop = 0; value = n; name = name; fields = []; buffer = [] })
@@ -35,4 +35,4 @@ abbrev pub said : Answer → List ℕ → Said
 said a b = record { answer = a; buffer = b }
 
 unfoldable pub saidOf : Store → ℕ → Output → List ℕ → Said
-saidOf s n o buffer = said (outputAnswer (view s) n o) (bufferOut s o buffer)
+saidOf s n o buffer = said (outputAnswer (view s .tree) n o) (bufferOut s o buffer)

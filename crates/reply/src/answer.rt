@@ -9,7 +9,7 @@ ghost use Rattle.rules.specs.Refusals.{refusalNumber};
 ghost use Rattle.rules.specs.Directories.{padded, direntName};
 ghost use Rattle.rules.specs.Effects.{words};
 ghost use Rattle.reply.specs.Answers.{plain, named, withName, withFields, said, saidOf};
-use resolution::directories::dirent_name;
+use directories::entries::dirent_name;
 use rules::answer::Answer;
 use rules::decision::Output;
 use rules::decision::Record;

@@ -5,19 +5,17 @@ use mathlib.Core.Bool.{Bool, cond}
 use mathlib.Core.List.{List, [], _∷_}
 use lib.Dec.{eqb, leb}
 use lib.ListN.{length, drop}
-use Rattle.rules.specs.Choice.{every, some}
-use Rattle.rules.specs.Scan.{first}
-use Rattle.rules.specs.Layout.{DIRENTS}
-use Rattle.rules.specs.Store.{Tree, entry}
+use Rattle.rules.specs.Choice.{some}
+use Rattle.rules.specs.Store.{Tree}
 use Rattle.rules.specs.Paths.{Name, span, isSlash, names, lastName}
-use Rattle.rules.specs.Directories.{direntAt, direntOf}
+use Rattle.rules.specs.Directories.{direntOf}
 use Rattle.rules.specs.Walk.{searched, reached, entered, lookup, onReached, walkParent}
 use Rattle.rules.specs.declared.request.Subject.{Subject}
 use Rattle.rules.specs.declared.ids.Slot.{Slot}
 use Rattle.rules.specs.declared.ids.Dirent.{Dirent}
 use Rattle.rules.specs.declared.decision.Location.{Location}
 use Rattle.rules.specs.declared.decision.Walk.{Walk}
-use Rattle.tables.specs.NameWords.{lowWord, highWord}
+use Rattle.directories.specs.ByWords.{direntBy}
 use Rattle.resolution.specs.declared.walk.Intent.{Intent}
 use Rattle.resolution.specs.declared.walk.Intent.the-variants.{Find, Create}
 
@@ -45,13 +43,6 @@ unfoldable pub walkNew : Tree → List ℕ → Subject → List ℕ → Walk
 walkNew t Q who path = onReached (walkParent t Q who path) (entryOf t (lastName (names path)))
 
 -- ---- names by their words
-
--- entry i of the directory D has the name of these words
-unfoldable pub hasWords : List ℕ → (low high i : ℕ) → Bool
-hasWords D low high i = every (eqb (lowWord (direntAt D i)) low ∷ eqb (highWord (direntAt D i)) high ∷ [])
-
-abbrev pub direntBy : List ℕ → (low high : ℕ) → Dirent
-direntBy D low high = entry (first (hasWords D low high) 0 DIRENTS)
 
 abbrev pub arrivedBy : Intent → Tree → Slot → (low high k : ℕ) → Walk
 arrivedBy intent t d low high k = arrived intent (t .shown (d .0)) d k (direntBy (t .shown (d .0)) low high)

@@ -1,6 +1,4 @@
-// Pathname resolution: the names of a path, rights, directories, and the walk from name to name.
-pub mod directories;
+// Pathname resolution: the names of a path, and the walk from name to name.
 mod path_names;
 pub mod paths;
-pub mod rights;
 pub mod walk;

@@ -100,7 +100,7 @@ decideDuplicate openFiles desc p i = need (held desc p i) NotHeld (duplicateTo o
 -- ---- 15. Fork (13): "same user, label and entries, position shared; value is the child"
 
 abbrev pub forked : Subject → Pid → Decision
-forked who q = granted (q .0) (effect.Forked q (who .user) (who .label))
+forked who q = granted (q .0) (effect.Forked q who)
 
 unfoldable pub forkTo : Subject → Pid → Decision
 forkTo who q = need (isPid q) TableFull (forked who q)

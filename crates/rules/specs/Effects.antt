@@ -13,6 +13,7 @@ use Rattle.rules.specs.declared.ids.Slot.{Slot}
 use Rattle.rules.specs.declared.ids.Pid.{Pid}
 use Rattle.rules.specs.declared.ids.Fd.{Fd}
 use Rattle.rules.specs.declared.ids.Ofd.{Ofd}
+use Rattle.rules.specs.declared.request.Subject.{Subject}
 use Rattle.rules.specs.declared.decision.Record.{Record}
 use Rattle.rules.specs.declared.decision.DirChange.{DirChange}
 use Rattle.rules.specs.declared.decision.NewOpen.{NewOpen}
@@ -110,8 +111,9 @@ released p i t = applyAll (closeChanges p (fdOf i) (releasing (view t .tree .fil
 unfoldable pub releasedAll : Pid → Store → Store
 releasedAll p t = repeat (released p) 0 DESCRIPTORS t
 
-unfoldable pub forkChanges : (child : Pid) → (user label : ℕ) → List Change
-forkChanges q user label = procTo (q .0) (1 ∷ user ∷ label ∷ []) ∷ []
+-- a child's own words: in use, and its parent's user and label
+unfoldable pub forkChanges : (child : Pid) → Subject → List Change
+forkChanges q who = procTo (q .0) (1 ∷ who .user ∷ who .label ∷ []) ∷ []
 
 -- ---- what each effect does
 
@@ -128,6 +130,6 @@ carryOut c (effect.Closed i r) t = applyAll (closeChanges (c .process) i r) t
 carryOut c (effect.Stored w) t = applyAll (storeChanges (c .«data») w) t
 carryOut c (effect.Moved e offset) t = applyAll (openWord (e .0) OFFSET offset ∷ []) t
 carryOut c (effect.Duplicated i e refs) t = applyAll (duplicateChanges (c .process) i e refs) t
-carryOut c (effect.Forked q user label) t = applyAll (forkChanges q user label) (sharedAll (c .process) q t)
+carryOut c (effect.Forked q who) t = applyAll (forkChanges q who) (sharedAll (c .process) q t)
 carryOut c effect.Exited t = applyAll (procZero (c .process .0) ∷ []) (releasedAll (c .process) t)
 carryOut c (effect.Relabelled label) t = applyAll (procWord (c .process .0) PROCESS-LABEL label ∷ []) t

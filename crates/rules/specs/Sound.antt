@@ -1,4 +1,4 @@
--- "Sound means": one test for each sentence, over the view. Sizes, the policy, the files, the tree, the open files, the processes.
+-- "Sound means": one test for each sentence, over the tables of the view that it looks at. Sizes, the policy, the files, the tree, the open files, the processes.
 use Prim.Native.Nat.{ℕ, zero, suc, _+_, _*_}
 use mathlib.Core.Bool.{Bool, true, false, cond, not}
 use mathlib.Core.List.{List, [], _∷_}
@@ -37,14 +37,14 @@ policySound Q = every (eqb (length Q) (RIGHTS + RIGHTS) ∷ all (rightSound Q) 0
 
 -- ---- a file's record: "all fields in range"; "A free record is zero but for its stamp"
 
-unfoldable pub recordFree : Tree → ℕ → Bool
-recordFree t s =
-    every (eqb (t .file s OWNER) 0 ∷ eqb (t .file s BITS) 0 ∷ eqb (t .file s LABEL) 0 ∷ eqb (t .file s LENGTH) 0 ∷ eqb (t .file s LINKS) 0 ∷ [])
+unfoldable pub recordFree : Table → ℕ → Bool
+recordFree file s =
+    every (eqb (file s OWNER) 0 ∷ eqb (file s BITS) 0 ∷ eqb (file s LABEL) 0 ∷ eqb (file s LENGTH) 0 ∷ eqb (file s LINKS) 0 ∷ [])
 
-unfoldable pub recordSound : Tree → ℕ → Bool
-recordSound t s =
-    every (leb (t .file s KIND) KIND-MAX ∷ leb (t .file s OWNER) USER-MAX ∷ bitsKnown (t .file s BITS) ∷ leb (t .file s LABEL) LABEL-MAX
-    ∷ leb (t .file s VERSION) WORD-MAX ∷ implies (eqb (t .file s KIND) FREE) (recordFree t s) ∷ [])
+unfoldable pub recordSound : Table → ℕ → Bool
+recordSound file s =
+    every (leb (file s KIND) KIND-MAX ∷ leb (file s OWNER) USER-MAX ∷ bitsKnown (file s BITS) ∷ leb (file s LABEL) LABEL-MAX
+    ∷ leb (file s VERSION) WORD-MAX ∷ implies (eqb (file s KIND) FREE) (recordFree file s) ∷ [])
 
 -- ---- a directory's entries
 
@@ -62,14 +62,14 @@ unfoldable pub nameSound : Name → Bool
 nameSound n = every (not (isPadding n 0) ∷ all (nameByteSound n) 0 NAME ∷ not (isDots n) ∷ [])
 
 -- "each place naming a slot in use other than 0"
-unfoldable pub usedSound : Tree → Name → (target : ℕ) → Bool
-usedSound t n target = every (nameSound n ∷ ltb target SLOTS ∷ not (eqb (t .file target KIND) FREE) ∷ [])
+unfoldable pub usedSound : Table → Name → (target : ℕ) → Bool
+usedSound file n target = every (nameSound n ∷ ltb target SLOTS ∷ not (eqb (file target KIND) FREE) ∷ [])
 
 -- "An empty place is all 0"; any other has a name, a slot, then 0
-unfoldable pub direntSound : Tree → List ℕ → ℕ → Bool
-direntSound t D i =
+unfoldable pub direntSound : Table → List ℕ → ℕ → Bool
+direntSound file D i =
     every (eqb (getD (direntAt D i) (NAME + 1) 0) 0
-    ∷ cond (isEmpty D i) (all (isPadding (direntAt D i)) 0 NAME) (usedSound t (direntAt D i) (direntSlot D i)) ∷ [])
+    ∷ cond (isEmpty D i) (all (isPadding (direntAt D i)) 0 NAME) (usedSound file (direntAt D i) (direntSlot D i)) ∷ [])
 
 -- entries i and j do not have the same name
 unfoldable pub differs : List ℕ → ℕ → ℕ → Bool
@@ -83,9 +83,9 @@ unfoldable pub isUsed : List ℕ → ℕ → Bool
 isUsed D i = not (isEmpty D i)
 
 -- "a directory's [length] equal to its number of names"; "the last 256 bytes of the slot are 0"
-unfoldable pub direntsSound : Tree → List ℕ → (length : ℕ) → Bool
-direntsSound t D n =
-    every (all (direntSound t D) 0 DIRENTS ∷ all (isNew D) 0 DIRENTS ∷ eqb n (count (isUsed D) 0 DIRENTS) ∷ allZero (drop (DIRENTS * DIRENT) D) ∷ [])
+unfoldable pub direntsSound : Table → List ℕ → (length : ℕ) → Bool
+direntsSound file D n =
+    every (all (direntSound file D) 0 DIRENTS ∷ all (isNew D) 0 DIRENTS ∷ eqb n (count (isUsed D) 0 DIRENTS) ∷ allZero (drop (DIRENTS * DIRENT) D) ∷ [])
 
 -- ---- the tree
 
@@ -119,7 +119,7 @@ climbs t (suc n) d = cond (eqb d 0) true (climbs t n (parentOf t d))
 -- "every other directory named exactly once and at most 8 names deep; every directory reached from the root"
 unfoldable pub directorySound : Tree → ℕ → Bool
 directorySound t d =
-    every (direntsSound t (t .shown d) (t .file d LENGTH) ∷ some (eqb d 0 ∷ eqb (t .file d LINKS) 1 ∷ []) ∷ climbs t NAMES d ∷ [])
+    every (direntsSound (t .file) (t .shown d) (t .file d LENGTH) ∷ some (eqb d 0 ∷ eqb (t .file d LINKS) 1 ∷ []) ∷ climbs t NAMES d ∷ [])
 
 -- ---- open files
 
@@ -136,18 +136,18 @@ abbrev pub isOpen : Table → Slot → Bool
 isOpen openFiles s = openBut openFiles (ofdOf OPEN-FILES) s
 
 -- "a plain file's length at most 512"; "each plain file named or open"; "A plain file's bytes past its length are 0"
-unfoldable pub plainSound : View → ℕ → Bool
-plainSound v s =
-    every (leb (v .tree .file s LENGTH) BLOCK ∷ some (ltb 0 (v .tree .file s LINKS) ∷ isOpen (v .openFiles) (slot s) ∷ []) ∷ allZero (v .tree .shown s) ∷ [])
+unfoldable pub plainSound : Tree → (openFiles : Table) → ℕ → Bool
+plainSound t openFiles s =
+    every (leb (t .file s LENGTH) BLOCK ∷ some (ltb 0 (t .file s LINKS) ∷ isOpen openFiles (slot s) ∷ []) ∷ allZero (t .shown s) ∷ [])
 
 -- what is owed by kind; a free slot's bytes are 0
-unfoldable pub kindSound : View → ℕ → Bool
-kindSound v s =
-    cond (isDirectory (v .tree .file) (slot s)) (directorySound (v .tree) s)
-    (cond (isPlain (v .tree .file) (slot s)) (plainSound v s) (allZero (v .tree .shown s)))
+unfoldable pub kindSound : Tree → (openFiles : Table) → ℕ → Bool
+kindSound t openFiles s =
+    cond (isDirectory (t .file) (slot s)) (directorySound t s)
+    (cond (isPlain (t .file) (slot s)) (plainSound t openFiles s) (allZero (t .shown s)))
 
-unfoldable pub slotSound : View → ℕ → Bool
-slotSound v s = every (recordSound (v .tree) s ∷ linksSound (v .tree) s ∷ kindSound v s ∷ [])
+unfoldable pub slotSound : Tree → (openFiles : Table) → ℕ → Bool
+slotSound t openFiles s = every (recordSound (t .file) s ∷ linksSound t s ∷ kindSound t openFiles s ∷ [])
 
 -- descriptor i of process p holds open file e
 unfoldable pub holdsAt : Table → ℕ → ℕ → ℕ → Bool
@@ -164,15 +164,15 @@ unfoldable pub openFree : Table → ℕ → Bool
 openFree openFiles e = every (eqb (openFiles e SLOT) 0 ∷ eqb (openFiles e MODE) 0 ∷ eqb (openFiles e OFFSET) 0 ∷ [])
 
 -- "open entries only on plain files", the mode and the position in range
-unfoldable pub openUsed : View → ℕ → Bool
-openUsed v e =
-    every (ltb (v .openFiles e SLOT) SLOTS ∷ isPlain (v .tree .file) (slot (v .openFiles e SLOT)) ∷ modeKept (modeOf (v .openFiles e MODE))
-    ∷ leb (v .openFiles e OFFSET) BLOCK ∷ [])
+unfoldable pub openUsed : (file openFiles : Table) → ℕ → Bool
+openUsed file openFiles e =
+    every (ltb (openFiles e SLOT) SLOTS ∷ isPlain file (slot (openFiles e SLOT)) ∷ modeKept (modeOf (openFiles e MODE))
+    ∷ leb (openFiles e OFFSET) BLOCK ∷ [])
 
 -- "references equal to the descriptors counted, at least 1"
-unfoldable pub openSound : View → ℕ → Bool
-openSound v e =
-    every (eqb (v .openFiles e REFERENCES) (holders (v .desc) e) ∷ cond (eqb (v .openFiles e REFERENCES) 0) (openFree (v .openFiles) e) (openUsed v e) ∷ [])
+unfoldable pub openSound : (file openFiles desc : Table) → ℕ → Bool
+openSound file openFiles desc e =
+    every (eqb (openFiles e REFERENCES) (holders desc e) ∷ cond (eqb (openFiles e REFERENCES) 0) (openFree openFiles e) (openUsed file openFiles e) ∷ [])
 
 -- ---- processes
 
@@ -183,21 +183,22 @@ descSound desc p i = leb (desc p i) OPEN-FILES
 unfoldable pub descFree : Table → ℕ → ℕ → Bool
 descFree desc p i = eqb (desc p i) 0
 
-unfoldable pub procFree : View → ℕ → Bool
-procFree v p = every (eqb (v .proc p USER) 0 ∷ eqb (v .proc p PROCESS-LABEL) 0 ∷ all (descFree (v .desc) p) 0 DESCRIPTORS ∷ [])
+unfoldable pub procFree : (proc desc : Table) → ℕ → Bool
+procFree proc desc p = every (eqb (proc p USER) 0 ∷ eqb (proc p PROCESS-LABEL) 0 ∷ all (descFree desc p) 0 DESCRIPTORS ∷ [])
 
-unfoldable pub procUsed : View → ℕ → Bool
-procUsed v p =
-    every (eqb (v .proc p USED) 1 ∷ leb (v .proc p USER) USER-MAX ∷ leb (v .proc p PROCESS-LABEL) LABEL-MAX ∷ all (descSound (v .desc) p) 0 DESCRIPTORS ∷ [])
+unfoldable pub procUsed : (proc desc : Table) → ℕ → Bool
+procUsed proc desc p =
+    every (eqb (proc p USED) 1 ∷ leb (proc p USER) USER-MAX ∷ leb (proc p PROCESS-LABEL) LABEL-MAX ∷ all (descSound desc p) 0 DESCRIPTORS ∷ [])
 
-unfoldable pub procSound : View → ℕ → Bool
-procSound v p = cond (eqb (v .proc p USED) 0) (procFree v p) (procUsed v p)
+unfoldable pub procSound : (proc desc : Table) → ℕ → Bool
+procSound proc desc p = cond (eqb (proc p USED) 0) (procFree proc desc p) (procUsed proc desc p)
 
 -- ---- all of it
 
 unfoldable pub tablesSound : View → Bool
 tablesSound v =
-    every (isDirectory (v .tree .file) (slot 0) ∷ all (slotSound v) 0 SLOTS ∷ all (openSound v) 0 OPEN-FILES ∷ all (procSound v) 0 PROCESSES ∷ [])
+    every (isDirectory (v .tree .file) (slot 0) ∷ all (slotSound (v .tree) (v .openFiles)) 0 SLOTS
+    ∷ all (openSound (v .tree .file) (v .openFiles) (v .desc)) 0 OPEN-FILES ∷ all (procSound (v .proc) (v .desc)) 0 PROCESSES ∷ [])
 
 unfoldable pub storeSound : Store → Bool
 storeSound s = cond (sizesSound s) (tablesSound (view s)) false

@@ -4,7 +4,7 @@ use mathlib.Core.Bool.{cond}
 use mathlib.Core.List.{List, [], _∷_}
 use lib.ListN.{length, take, drop}
 use lib.Seq.{sets}
-use Rattle.rules.specs.Store.{Store, View, view, block}
+use Rattle.rules.specs.Store.{Store, Tree, view, block}
 use Rattle.rules.specs.Refusals.{refusalNumber, GRANTED}
 use Rattle.rules.specs.Directories.{direntName, padded}
 use Rattle.rules.specs.Calls.{Call}
@@ -28,11 +28,11 @@ pub record Reply : Type 0 where
   pub fields : List ℕ
   pub buffer : List ℕ
 
-unfoldable pub nameOut : View → Output → List ℕ
-nameOut v output.Nothing = []
-nameOut v (output.Name d i) = direntName (v .tree .shown (d .0)) i
-nameOut v (output.Fields r) = []
-nameOut v (output.Bytes s from n) = []
+unfoldable pub nameOut : Tree → Output → List ℕ
+nameOut t output.Nothing = []
+nameOut t (output.Name d i) = direntName (t .shown (d .0)) i
+nameOut t (output.Fields r) = []
+nameOut t (output.Bytes s from n) = []
 
 unfoldable pub fieldsOut : Output → List ℕ
 fieldsOut output.Nothing = []
@@ -53,7 +53,7 @@ refusedReply r k c = record { refusal = refusalNumber r; stop = k; value = 0; na
 
 unfoldable pub replyTo : Store → Call → Decision → Reply
 replyTo s c (Refused r k) = refusedReply r k c
-replyTo s c (Granted n o e) = record { refusal = GRANTED; stop = 0; value = n; name = nameOut (view s) o; fields = fieldsOut o; buffer = bufferOut s o (c .buffer) }
+replyTo s c (Granted n o e) = record { refusal = GRANTED; stop = 0; value = n; name = nameOut (view s .tree) o; fields = fieldsOut o; buffer = bufferOut s o (c .buffer) }
 
 unfoldable pub storeAfter : Store → Call → Decision → Store
 storeAfter s c (Refused r k) = s

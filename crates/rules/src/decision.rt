@@ -5,6 +5,7 @@ use crate::ids::Ofd;
 use crate::ids::Pid;
 use crate::ids::Slot;
 use crate::refusal::Refusal;
+use crate::request::Subject;
 use crate::rights::Bits;
 use crate::rights::OpenMode;
 
@@ -105,7 +106,7 @@ pub enum Effect {
     Stored(Placement),
     Moved(Ofd, u32),
     Duplicated(Fd, Ofd, u32),
-    Forked(Pid, u32, u32),
+    Forked(Pid, Subject),
     Exited,
     Relabelled(u32),
 }

@@ -46,7 +46,7 @@ QuietEffect (effect.Closed i r) = Unit {0}
 QuietEffect (effect.Stored w) = ⊥
 QuietEffect (effect.Moved e offset) = Unit {0}
 QuietEffect (effect.Duplicated i e refs) = Unit {0}
-QuietEffect (effect.Forked q user label) = Unit {0}
+QuietEffect (effect.Forked q who) = Unit {0}
 QuietEffect effect.Exited = Unit {0}
 QuietEffect (effect.Relabelled label) = Unit {0}
 
@@ -79,7 +79,7 @@ module _ (s : Store) (p : Pid) (n n′ : ℕ) (i i′ : Fd) (k : ℕ) (path byte
   carried-same (effect.Stored w) (inr h) = rw h
   carried-same (effect.Moved e offset) h = refl
   carried-same (effect.Duplicated i e refs) h = refl
-  carried-same (effect.Forked q user label) h = refl
+  carried-same (effect.Forked q who) h = refl
   carried-same effect.Exited h = refl
   carried-same (effect.Relabelled label) h = refl
 

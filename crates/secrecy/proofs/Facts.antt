@@ -46,11 +46,11 @@ module _ (Q : List ℕ) (s : Store) (h : sound Q s ≡ true) where
   unfolding tablesSound
   based = record { root = test 0 _ (parts .1); eight = desc-eight (s .processes) }
 
-  slot-sound : (t : ℕ) → t < SLOTS → slotSound (view s) t ≡ true
+  slot-sound : (t : ℕ) → t < SLOTS → slotSound (view s .tree) (view s .openFiles) t ≡ true
   unfolding tablesSound
-  slot-sound t lt = all-at (slotSound (view s)) 0 SLOTS (test 1 _ (parts .1)) t (omega arith) lt
+  slot-sound t lt = all-at (slotSound (view s .tree) (view s .openFiles)) 0 SLOTS (test 1 _ (parts .1)) t (omega arith) lt
 
-  record-sound : (t : ℕ) → t < SLOTS → recordSound (view s .tree) t ≡ true
+  record-sound : (t : ℕ) → t < SLOTS → recordSound (view s .tree .file) t ≡ true
   unfolding slotSound
   record-sound t lt = test 0 _ (slot-sound t lt)
 
@@ -78,7 +78,7 @@ module _ (Q : List ℕ) (s : Store) (h : sound Q s ≡ true) where
             let z : tab FILE (s .files) f KIND ≡ 0 = List·getD-eq-default (s .files) 0 (omega (arith, files-size)) in
             absurd (omega arith)
 
-    plain-sound : plainSound (view s) f ≡ true
+    plain-sound : plainSound (view s .tree) (view s .openFiles) f ≡ true
     unfolding slotSound kindSound
     plain-sound = rw plain at (test 2 _ (slot-sound f plain-slot))
 

@@ -92,7 +92,7 @@ pub data EffectFit (Q : List ℕ) (v : View) (p : Pid) : Effect → Type 0 where
   stored : (w : Placement) → v .tree .file (w .slot .0) LENGTH ≤ w .length → EffectFit Q v p (effect.Stored w)
   shifted : (e : Ofd) (offset : ℕ) → EffectFit Q v p (effect.Moved e offset)
   duplicated : (i : Fd) (e : Ofd) (refs : ℕ) → i .0 < DESCRIPTORS → EffectFit Q v p (effect.Duplicated i e refs)
-  forked : (q : Pid) (user label : ℕ) → subjectOf (v .proc) p .label ≡ label → EffectFit Q v p (effect.Forked q user label)
+  forked : (q : Pid) (who : Subject) → subjectOf (v .proc) p .label ≡ who .label → EffectFit Q v p (effect.Forked q who)
   exited : EffectFit Q v p effect.Exited
   relabelled : (t label : ℕ) → moved Q (subjectOf (v .proc) p .label) (v .tree .file t LABEL) ≡ label → EffectFit Q v p (effect.Relabelled label)
 
@@ -286,7 +286,7 @@ module _ (Q : List ℕ) (v : View) (b : Based v) (p : Pid) (u : Caller v p) wher
 
   fork-fit : (q : Pid) → Fit Q v p (forkTo (subjectOf (v .proc) p) q)
   unfolding forkTo
-  fork-fit q = need-fit _ _ _ (λ _. granted-fit _ _ (forked _ _ _ refl))
+  fork-fit q = need-fit _ _ _ (λ _. granted-fit _ _ (forked _ _ refl))
 
 -- ---- a call
 

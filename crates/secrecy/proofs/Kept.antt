@@ -42,6 +42,7 @@ use Rattle.secrecy.proofs.Tables.{OwnWord}
 use Rattle.secrecy.proofs.Agree.{agree-block}
 use Rattle.secrecy.proofs.Related.{Apart, Secret, Related, apart, view-same, Keeps, KeepsAll, all-keep, append-keep, repeat-keep, alike-keep}
 use Rattle.secrecy.proofs.Fit.{OutputFit, silent, listed, described, fetched, OpenFit, EffectFit, nothing, opened, truncates, created, unlinked, removed, linked, rebitted, closed, stored, shifted, duplicated, forked, exited, relabelled}
+use Rattle.rules.specs.declared.request.Subject.{Subject}
 
 -- ---- an open that reads has asked for the right to read
 
@@ -188,9 +189,9 @@ module _ (Q : List ℕ) (reach : ℕ → Type 0) (f n L : ℕ) (no-right : (l : 
     unfolding duplicateChanges KeepsAll Keeps
     duplicate-keep p i e refs h = (h, ((omega arith, omega arith), tt))
 
-    fork-keep : (q : Pid) (user label : ℕ) → reach label → KeepsAll reach f n L (forkChanges q user label)
+    fork-keep : (q : Pid) (who : Subject) → reach (who .label) → KeepsAll reach f n L (forkChanges q who)
     unfolding forkChanges KeepsAll Keeps
-    fork-keep q user label r = ((refl, λ _. r), tt)
+    fork-keep q who r = ((refl, λ _. r), tt)
 
     pub effect-keep : (c : Call) (e : Effect) → reach (view s .proc (c .process .0) PROCESS-LABEL) → EffectFit Q (view s) (c .process) e → Related reach f n L (carryOut c e s) (carryOut c e s′)
     unfolding carryOut KeepsAll Keeps
@@ -206,7 +207,7 @@ module _ (Q : List ℕ) (reach : ℕ → Type 0) (f n L : ℕ) (no-right : (l : 
     effect-keep c _ r (stored w h) = all-keep reach f n L _ s s′ (store-keep (c .«data») w h) (apart a z)
     effect-keep c _ r (shifted e offset) = all-keep reach f n L _ s s′ ((omega arith, omega arith), tt) (apart a z)
     effect-keep c _ r (duplicated i e refs h) = all-keep reach f n L _ s s′ (duplicate-keep (c .process) i e refs h) (apart a z)
-    effect-keep c _ r (forked q user label h) = all-keep reach f n L _ _ _ (fork-keep q user label (subst reach h r)) (sharedAll-keep reach f n L (c .process) q s s′ (apart a z))
+    effect-keep c _ r (forked q who h) = all-keep reach f n L _ _ _ (fork-keep q who (subst reach h r)) (sharedAll-keep reach f n L (c .process) q s s′ (apart a z))
     effect-keep c _ r exited = all-keep reach f n L _ _ _ (tt, tt) (releasedAll-keep reach f n L (c .process) s s′ (apart a z))
     effect-keep c _ r (relabelled t label h) = all-keep reach f n L _ s s′ ((refl, subst reach h (closed-under _ _ (small t) r)), tt) (apart a z)
 
@@ -220,5 +221,5 @@ module _ (Q : List ℕ) (reach : ℕ → Type 0) (f n L : ℕ) (no-right : (l : 
         ap (λ (l : List ℕ). sets buffer 0 (take m (drop from l)))
         (agree-block f n (s .contents) (s′ .contents) (a .contents) (a .small) (t .0) (λ e. z .unread (h .ofd .0) (h .mode) (h .names ∙ e)))
 
-    pub name-same : (o : Output) → nameOut (view s) o ≡ nameOut (view s′) o
-    name-same o = ap (λ (v : View). nameOut v o) (view-same f n L s s′ a (z .own))
+    pub name-same : (o : Output) → nameOut (view s .tree) o ≡ nameOut (view s′ .tree) o
+    name-same o = ap (λ (v : View). nameOut (v .tree) o) (view-same f n L s s′ a (z .own))

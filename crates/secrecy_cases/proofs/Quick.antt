@@ -14,7 +14,7 @@ use Rattle.rules.specs.Choice.{every, some}
 use Rattle.rules.specs.Scan.{all}
 use Rattle.rules.specs.Computing.{computing}
 use Rattle.rules.specs.Layout.{SLOTS, OPEN-FILES, PROCESSES, BLOCK, OPEN, FILE, PROCESS}
-use Rattle.rules.specs.Store.{Store, Tree, View, slot, view, block, tab, procOf, descOf, hidden, shownOf, applyAll}
+use Rattle.rules.specs.Store.{Store, Tree, View, slot, view, block, tab, procOf, descOf, hidden, shownOf, applyAll, Table}
 use Rattle.rules.specs.Calls.{Call}
 use Rattle.rules.specs.Sound.{sound, storeSound, sizesSound, tablesSound, policySound, slotSound, kindSound, plainSound, directorySound, allZero, openSound, procSound, isOpen}
 use Rattle.rules.specs.Walk.{isDirectory, isPlain}
@@ -46,17 +46,20 @@ quickView s = record {
 
 -- The calls of the runs leave the files and the contents as they are. So these are tested once, as if nothing were open, and the open files and the
 -- processes at each store.
-abbrev closedView : (F C : List ℕ) → View
-closedView F C = record { tree = record { file = tab FILE F; shown = quickShown F C }; openFiles = λ _ _. 0; proc = λ _ _. 0; desc = λ _ _. 0 }
+abbrev quickTree : (F C : List ℕ) → Tree
+quickTree F C = record { file = tab FILE F; shown = quickShown F C }
+
+abbrev NOTHING-OPEN : Table
+NOTHING-OPEN _ _ = 0
 
 unfoldable pub filesSound : (F C : List ℕ) → Bool
 filesSound F C =
-    every (eqb (length F) (SLOTS * FILE) ∷ eqb (length C) (SLOTS * BLOCK) ∷ isDirectory (closedView F C .tree .file) (slot 0) ∷ all (slotSound (closedView F C)) 0 SLOTS ∷ [])
+    every (eqb (length F) (SLOTS * FILE) ∷ eqb (length C) (SLOTS * BLOCK) ∷ isDirectory (quickTree F C .file) (slot 0) ∷ all (slotSound (quickTree F C) NOTHING-OPEN) 0 SLOTS ∷ [])
 
 unfoldable pub restSound : Store → Bool
 restSound s =
-    every (eqb (length (s .openFiles)) (OPEN-FILES * OPEN) ∷ eqb (length (s .processes)) (PROCESSES * PROCESS) ∷ all (openSound (quickView s)) 0 OPEN-FILES
-    ∷ all (procSound (quickView s)) 0 PROCESSES ∷ [])
+    every (eqb (length (s .openFiles)) (OPEN-FILES * OPEN) ∷ eqb (length (s .processes)) (PROCESSES * PROCESS) ∷ all (openSound (tab FILE (s .files)) (tab OPEN (s .openFiles)) (descOf (s .processes))) 0 OPEN-FILES
+    ∷ all (procSound (procOf (s .processes)) (descOf (s .processes))) 0 PROCESSES ∷ [])
 
 -- a call that changes neither files nor contents
 unfoldable pub effectKeepsFiles : Effect → Bool
@@ -72,7 +75,7 @@ effectKeepsFiles (effect.Closed i r) = false
 effectKeepsFiles (effect.Stored w) = false
 effectKeepsFiles (effect.Moved e offset) = true
 effectKeepsFiles (effect.Duplicated i e refs) = true
-effectKeepsFiles (effect.Forked q user label) = false
+effectKeepsFiles (effect.Forked q who) = false
 effectKeepsFiles effect.Exited = false
 effectKeepsFiles (effect.Relabelled label) = true
 
@@ -125,37 +128,31 @@ unfolding some
 named true b e = refl
 named false b e = absurd (false≢true e)
 
-module _ (t : Tree) (E P D : ℕ → ℕ → ℕ) where
-  closed : View
-  closed = record { tree = t; openFiles = λ _ _. 0; proc = λ _ _. 0; desc = λ _ _. 0 }
-
-  opened : View
-  opened = record { tree = t; openFiles = E; proc = P; desc = D }
-
-  plain-opened : (s : ℕ) → plainSound closed s ≡ true → plainSound opened s ≡ true
-  unfolding plainSound closed opened
+module _ (t : Tree) (E : Table) where
+  plain-opened : (s : ℕ) → plainSound t NOTHING-OPEN s ≡ true → plainSound t E s ≡ true
+  unfolding plainSound
   plain-opened s h = also _ _ (test 0 _ h) (also _ _ (named _ _ (rw (nothing-open s) at (test 1 _ h))) (also _ _ (test 2 _ h) none-left))
 
-  kind-opened : (s : ℕ) → kindSound closed s ≡ true → kindSound opened s ≡ true
-  unfolding kindSound closed opened
+  kind-opened : (s : ℕ) → kindSound t NOTHING-OPEN s ≡ true → kindSound t E s ≡ true
+  unfolding kindSound
   kind-opened s h = go (isDirectory (t .file) (slot s)) (isPlain (t .file) (slot s)) h
     where
-      go : (d p : Bool) → cond d (directorySound t s) (cond p (plainSound closed s) (allZero (t .shown s))) ≡ true
-          → cond d (directorySound t s) (cond p (plainSound opened s) (allZero (t .shown s))) ≡ true
+      go : (d p : Bool) → cond d (directorySound t s) (cond p (plainSound t NOTHING-OPEN s) (allZero (t .shown s))) ≡ true
+          → cond d (directorySound t s) (cond p (plainSound t E s) (allZero (t .shown s))) ≡ true
       go true p h = h
       go false true h = plain-opened s h
       go false false h = h
 
-  slot-opened : (s : ℕ) → slotSound closed s ≡ true → slotSound opened s ≡ true
-  unfolding slotSound closed opened
+  slot-opened : (s : ℕ) → slotSound t NOTHING-OPEN s ≡ true → slotSound t E s ≡ true
+  unfolding slotSound
   slot-opened s h = also _ _ (test 0 _ h) (also _ _ (test 1 _ h) (also _ _ (kind-opened s (test 2 _ h)) none-left))
 
 module _ (s : Store) (h : filesSound (s .files) (s .contents) ≡ true) (g : restSound s ≡ true) where
-  slots-quick : all (slotSound (quickView s)) 0 SLOTS ≡ true
-  unfolding filesSound closed opened
+  slots-quick : all (slotSound (quickTree (s .files) (s .contents)) (tab OPEN (s .openFiles))) 0 SLOTS ≡ true
+  unfolding filesSound
   slots-quick =
-      all-of (slotSound (quickView s)) 0 SLOTS (λ d lo hi. slot-opened (quickView s .tree) (tab OPEN (s .openFiles)) (procOf (s .processes)) (descOf (s .processes)) d
-      (all-at (slotSound (closedView (s .files) (s .contents))) 0 SLOTS (test 3 _ h) d lo hi))
+      all-of (slotSound (quickTree (s .files) (s .contents)) (tab OPEN (s .openFiles))) 0 SLOTS (λ d lo hi. slot-opened (quickTree (s .files) (s .contents)) (tab OPEN (s .openFiles)) d
+      (all-at (slotSound (quickTree (s .files) (s .contents)) NOTHING-OPEN) 0 SLOTS (test 3 _ h) d lo hi))
 
   tables-quick : tablesSound (quickView s) ≡ true
   unfolding filesSound restSound tablesSound
@@ -194,7 +191,7 @@ effect-keeps-files c (effect.Closed i r) s h = absurd (false≢true h)
 effect-keeps-files c (effect.Stored w) s h = absurd (false≢true h)
 effect-keeps-files c (effect.Moved e offset) s h = (refl, refl)
 effect-keeps-files c (effect.Duplicated i e refs) s h = (refl, refl)
-effect-keeps-files c (effect.Forked q user label) s h = absurd (false≢true h)
+effect-keeps-files c (effect.Forked q who) s h = absurd (false≢true h)
 effect-keeps-files c effect.Exited s h = absurd (false≢true h)
 effect-keeps-files c (effect.Relabelled label) s h = (refl, refl)
 

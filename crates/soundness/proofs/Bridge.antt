@@ -10,7 +10,7 @@ use lib.ListN.{getD}
 use Rattle.rules.specs.Choice.{some}
 use Rattle.rules.specs.Scan.{all}
 use Rattle.rules.specs.Layout.{SLOTS, NAME, NAMES, OPEN-FILES, LINKS}
-use Rattle.rules.specs.Store.{Tree, View}
+use Rattle.rules.specs.Store.{Tree, Table}
 use Rattle.rules.specs.Paths.{sameAt, sameName}
 use Rattle.rules.specs.Directories.{isEmpty, isPadding}
 use Rattle.rules.specs.Sound.{differs, isNew, linksTo, linksSound, isParent, parentOf, climbs, directorySound, kindSound, slotSound, holders, openSound}
@@ -50,7 +50,7 @@ climbs-by t (suc n) d h = by (eqb d 0) refl (λ o. rw (parents-at t d o h) (clim
     by true q up = refl
     by false q up = up (eqb-false d 0 q)
 
-links-by : (t : Tree) (s : ℕ) → s < SLOTS → linksSoundBy t (links t) s ≡ linksSound t s
+links-by : (t : Tree) (s : ℕ) → s < SLOTS → linksSoundBy (t .file) (links t) s ≡ linksSound t s
 unfolding linksSoundBy linksSound
 links-by t s h = by (eqb s 0) refl
   where
@@ -58,24 +58,27 @@ links-by t s h = by (eqb s 0) refl
     by true q = refl
     by false q = rw (links-at t s (eqb-false s 0 q) (omega arith))
 
-slot-by : (v : View) (s : ℕ) → s < SLOTS → slotSoundBy v (links (v .tree)) (parents (v .tree)) s ≡ slotSound v s
+slot-by : (t : Tree) (openFiles : Table) (s : ℕ) → s < SLOTS → slotSoundBy t openFiles (links t) (parents t) s ≡ slotSound t openFiles s
 unfolding slotSoundBy slotSound kindSoundBy kindSound directorySoundBy directorySound
-slot-by v s h =
-    let c : climbsBy (parents (v .tree)) NAMES s ≡ climbs (v .tree) NAMES s = climbs-by (v .tree) NAMES s (omega arith) in
-    rw (links-by (v .tree) s h, c)
+slot-by t openFiles s h =
+    let c : climbsBy (parents t) NAMES s ≡ climbs t NAMES s = climbs-by t NAMES s (omega arith) in
+    rw (links-by t s h, c)
 
-pub slots-by : (v : View) (L P : List ℕ) (r : Bool) → L ≡ links (v .tree) → P ≡ parents (v .tree) → r ≡ all (slotSoundBy v L P) 0 SLOTS → r ≡ all (slotSound v) 0 SLOTS
-slots-by v L P r a b e =
-    rw (a, b) at e ∙ all-same (slotSoundBy v (links (v .tree)) (parents (v .tree))) (slotSound v) SLOTS (slot-by v)
+pub slots-by : (t : Tree) (openFiles : Table) (L P : List ℕ) (r : Bool) → L ≡ links t → P ≡ parents t → r ≡ all (slotSoundBy t openFiles L P) 0 SLOTS
+    → r ≡ all (slotSound t openFiles) 0 SLOTS
+slots-by t openFiles L P r a b e =
+    rw (a, b) at e ∙ all-same (slotSoundBy t openFiles (links t) (parents t)) (slotSound t openFiles) SLOTS (slot-by t openFiles)
 
-open-by : (v : View) (e : ℕ) → e < OPEN-FILES → openSoundBy v (held (v .desc)) e ≡ openSound v e
+open-by : (file openFiles desc : Table) (e : ℕ) → e < OPEN-FILES → openSoundBy file openFiles (held desc) e ≡ openSound file openFiles desc e
 unfolding openSoundBy openSound
-open-by v e h =
-    let l : getD (held (v .desc)) (e + 1) 0 ≡ holders (v .desc) e = held-at (v .desc) e (omega arith) in
+open-by file openFiles desc e h =
+    let l : getD (held desc) (e + 1) 0 ≡ holders desc e = held-at desc e (omega arith) in
     rw l
 
-pub open-files-by : (v : View) (H : List ℕ) (r : Bool) → H ≡ held (v .desc) → r ≡ all (openSoundBy v H) 0 OPEN-FILES → r ≡ all (openSound v) 0 OPEN-FILES
-open-files-by v H r a e = rw a at e ∙ all-same (openSoundBy v (held (v .desc))) (openSound v) OPEN-FILES (open-by v)
+pub open-files-by : (file openFiles desc : Table) (H : List ℕ) (r : Bool) → H ≡ held desc → r ≡ all (openSoundBy file openFiles H) 0 OPEN-FILES
+    → r ≡ all (openSound file openFiles desc) 0 OPEN-FILES
+open-files-by file openFiles desc H r a e =
+    rw a at e ∙ all-same (openSoundBy file openFiles (held desc)) (openSound file openFiles desc) OPEN-FILES (open-by file openFiles desc)
 
 -- ---- an entry with no name, and one that has a name
 

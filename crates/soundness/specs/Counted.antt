@@ -6,7 +6,7 @@ use lib.Dec.{eqb}
 use lib.ListN.{getD}
 use Rattle.rules.specs.Choice.{every, some}
 use Rattle.rules.specs.Layout.{NAMES, LENGTH, LINKS, REFERENCES}
-use Rattle.rules.specs.Store.{Tree, View, slot}
+use Rattle.rules.specs.Store.{Tree, Table, slot}
 use Rattle.rules.specs.Paths.{sameName}
 use Rattle.rules.specs.Directories.{direntAt, isEmpty}
 use Rattle.rules.specs.Walk.{isDirectory, isPlain}
@@ -21,8 +21,8 @@ otherThan D i j = some (isEmpty D j ∷ not (sameName (direntAt D i) (direntAt D
 unfoldable pub otherWords : List ℕ → ℕ → ℕ → ℕ → Bool
 otherWords D low high j = some (not (eqb low (lowWord (direntAt D j))) ∷ not (eqb high (highWord (direntAt D j))) ∷ isEmpty D j ∷ [])
 
-unfoldable pub linksSoundBy : Tree → List ℕ → ℕ → Bool
-linksSoundBy t L s = cond (eqb s 0) (eqb (t .file s LINKS) 0) (eqb (t .file s LINKS) (getD L s 0))
+unfoldable pub linksSoundBy : Table → List ℕ → ℕ → Bool
+linksSoundBy file L s = cond (eqb s 0) (eqb (file s LINKS) 0) (eqb (file s LINKS) (getD L s 0))
 
 unfoldable pub climbsBy : List ℕ → ℕ → ℕ → Bool
 climbsBy P zero d = eqb d 0
@@ -30,16 +30,16 @@ climbsBy P (suc n) d = cond (eqb d 0) true (climbsBy P n (getD P d 0))
 
 unfoldable pub directorySoundBy : Tree → List ℕ → ℕ → Bool
 directorySoundBy t P d =
-    every (direntsSound t (t .shown d) (t .file d LENGTH) ∷ some (eqb d 0 ∷ eqb (t .file d LINKS) 1 ∷ []) ∷ climbsBy P NAMES d ∷ [])
+    every (direntsSound (t .file) (t .shown d) (t .file d LENGTH) ∷ some (eqb d 0 ∷ eqb (t .file d LINKS) 1 ∷ []) ∷ climbsBy P NAMES d ∷ [])
 
-unfoldable pub kindSoundBy : View → List ℕ → ℕ → Bool
-kindSoundBy v P s =
-    cond (isDirectory (v .tree .file) (slot s)) (directorySoundBy (v .tree) P s)
-    (cond (isPlain (v .tree .file) (slot s)) (plainSound v s) (allZero (v .tree .shown s)))
+unfoldable pub kindSoundBy : Tree → (openFiles : Table) → List ℕ → ℕ → Bool
+kindSoundBy t openFiles P s =
+    cond (isDirectory (t .file) (slot s)) (directorySoundBy t P s)
+    (cond (isPlain (t .file) (slot s)) (plainSound t openFiles s) (allZero (t .shown s)))
 
-unfoldable pub slotSoundBy : View → List ℕ → List ℕ → ℕ → Bool
-slotSoundBy v L P s = every (recordSound (v .tree) s ∷ linksSoundBy (v .tree) L s ∷ kindSoundBy v P s ∷ [])
+unfoldable pub slotSoundBy : Tree → (openFiles : Table) → List ℕ → List ℕ → ℕ → Bool
+slotSoundBy t openFiles L P s = every (recordSound (t .file) s ∷ linksSoundBy (t .file) L s ∷ kindSoundBy t openFiles P s ∷ [])
 
-unfoldable pub openSoundBy : View → List ℕ → ℕ → Bool
-openSoundBy v H e =
-    every (eqb (v .openFiles e REFERENCES) (getD H (e + 1) 0) ∷ cond (eqb (v .openFiles e REFERENCES) 0) (openFree (v .openFiles) e) (openUsed v e) ∷ [])
+unfoldable pub openSoundBy : (file openFiles : Table) → List ℕ → ℕ → Bool
+openSoundBy file openFiles H e =
+    every (eqb (openFiles e REFERENCES) (getD H (e + 1) 0) ∷ cond (eqb (openFiles e REFERENCES) 0) (openFree openFiles e) (openUsed file openFiles e) ∷ [])

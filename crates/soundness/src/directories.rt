@@ -7,8 +7,8 @@ ghost use lib.ListN.{getD, drop};
 ghost use Prim.Native.Nat.{_+_, _*_};
 ghost use Rattle.rules.specs.Choice.{some, implies};
 ghost use Rattle.rules.specs.Scan.{all, count};
-ghost use Rattle.rules.specs.Layout.{DIRENTS, DIRENT, NAME, SLASH};
-ghost use Rattle.rules.specs.Store.{tree};
+ghost use Rattle.rules.specs.Layout.{FILE, DIRENTS, DIRENT, NAME, SLASH};
+ghost use Rattle.rules.specs.Store.{tab};
 ghost use Rattle.rules.specs.Directories.{direntAt, direntSlot, isEmpty, isPadding};
 ghost use Rattle.rules.specs.Sound.{allZero, nameByteSound, nameSound, usedSound, direntSound, isNew, isUsed, direntsSound};
 ghost use Rattle.tables.specs.NameWords.{lowWord, highWord};
@@ -105,8 +105,8 @@ fn name_sound(name: &[u8]) -> bool
 }
 
 // A name, and a slot in use.
-fn used_sound(files: &[u32], contents: &[u8], name: &[u8], target: Slot) -> bool
-    ensures { λ r. ⌜ r ≡ usedSound (tree (now (files .entry)) (now (contents .entry))) (now (name .entry)) (target .0) ⌝ }
+fn used_sound(files: &[u32], name: &[u8], target: Slot) -> bool
+    ensures { λ r. ⌜ r ≡ usedSound (tab FILE (now (files .entry))) (now (name .entry)) (target .0) ⌝ }
 {
     if !name_sound(name) {
         return false;
@@ -134,20 +134,20 @@ fn padding_at(dir: &[u8], i: Dirent) -> bool
     all_padding(dirent_at(dir, i))
 }
 
-fn used_at(files: &[u32], contents: &[u8], dir: &[u8], i: Dirent) -> bool
-    ensures { λ r. ⌜ r ≡ usedSound (tree (now (files .entry)) (now (contents .entry))) (direntAt (now (dir .entry)) (i .0)) (direntSlot (now (dir .entry)) (i .0)) ⌝ }
+fn used_at(files: &[u32], dir: &[u8], i: Dirent) -> bool
+    ensures { λ r. ⌜ r ≡ usedSound (tab FILE (now (files .entry))) (direntAt (now (dir .entry)) (i .0)) (direntSlot (now (dir .entry)) (i .0)) ⌝ }
 {
-    used_sound(files, contents, dirent_at(dir, i), dirent_slot(dir, i))
+    used_sound(files, dirent_at(dir, i), dirent_slot(dir, i))
 }
 
 // Entry i, but for its last byte.
-fn entry_sound(files: &[u32], contents: &[u8], dir: &[u8], i: Dirent) -> bool
-    ensures { λ r. ⌜ r ≡ cond (isEmpty (now (dir .entry)) (i .0)) (all (isPadding (direntAt (now (dir .entry)) (i .0))) 0 NAME) (usedSound (tree (now (files .entry)) (now (contents .entry))) (direntAt (now (dir .entry)) (i .0)) (direntSlot (now (dir .entry)) (i .0))) ⌝ }
+fn entry_sound(files: &[u32], dir: &[u8], i: Dirent) -> bool
+    ensures { λ r. ⌜ r ≡ cond (isEmpty (now (dir .entry)) (i .0)) (all (isPadding (direntAt (now (dir .entry)) (i .0))) 0 NAME) (usedSound (tab FILE (now (files .entry))) (direntAt (now (dir .entry)) (i .0)) (direntSlot (now (dir .entry)) (i .0))) ⌝ }
 {
     if is_empty(dir, i) {
         return padding_at(dir, i);
     }
-    used_at(files, contents, dir, i)
+    used_at(files, dir, i)
 }
 
 fn last_zero(dir: &[u8], i: Dirent) -> bool
@@ -156,21 +156,21 @@ fn last_zero(dir: &[u8], i: Dirent) -> bool
     is_byte(dirent_at(dir, i), NAME + 1, 0)
 }
 
-fn dirent_sound(files: &[u32], contents: &[u8], dir: &[u8], i: Dirent) -> bool
-    ensures { λ r. ⌜ r ≡ direntSound (tree (now (files .entry)) (now (contents .entry))) (now (dir .entry)) (i .0) ⌝ }
+fn dirent_sound(files: &[u32], dir: &[u8], i: Dirent) -> bool
+    ensures { λ r. ⌜ r ≡ direntSound (tab FILE (now (files .entry))) (now (dir .entry)) (i .0) ⌝ }
 {
     if !last_zero(dir, i) {
         return false;
     }
-    entry_sound(files, contents, dir, i)
+    entry_sound(files, dir, i)
 }
 
-fn all_dirents_sound(files: &[u32], contents: &[u8], dir: &[u8]) -> bool
-    ensures { λ r. ⌜ r ≡ all (direntSound (tree (now (files .entry)) (now (contents .entry))) (now (dir .entry))) 0 DIRENTS ⌝ }
+fn all_dirents_sound(files: &[u32], dir: &[u8]) -> bool
+    ensures { λ r. ⌜ r ≡ all (direntSound (tab FILE (now (files .entry))) (now (dir .entry))) 0 DIRENTS ⌝ }
 {
     let mut i = 0;
     while i < DIRENTS {
-        if dirent_sound(files, contents, dir, Dirent(i)) {
+        if dirent_sound(files, dir, Dirent(i)) {
             i += 1;
         } else {
             return false;
@@ -278,10 +278,10 @@ fn rest_zero(dir: &[u8]) -> bool
 }
 
 // n is the directory's length.
-pub fn dirents_sound(files: &[u32], contents: &[u8], dir: &[u8], n: u32) -> bool
-    ensures { λ r. ⌜ r ≡ direntsSound (tree (now (files .entry)) (now (contents .entry))) (now (dir .entry)) n ⌝ }
+pub fn dirents_sound(files: &[u32], dir: &[u8], n: u32) -> bool
+    ensures { λ r. ⌜ r ≡ direntsSound (tab FILE (now (files .entry))) (now (dir .entry)) n ⌝ }
 {
-    if !all_dirents_sound(files, contents, dir) {
+    if !all_dirents_sound(files, dir) {
         return false;
     }
     if !all_new(dir) {

@@ -3,7 +3,7 @@ ghost use mathlib.Core.Path.{_≡_};
 ghost use lib.Dec.{eqb};
 ghost use Rattle.rules.specs.Choice.{implies};
 ghost use Rattle.rules.specs.Layout.{FILE, KIND, FREE, BITS};
-ghost use Rattle.rules.specs.Store.{tab, tree};
+ghost use Rattle.rules.specs.Store.{tab};
 ghost use Rattle.rules.specs.Sound.{recordFree, recordSound};
 ghost use Rattle.rules.specs.Rights.{bitsKnown};
 use crate::fields::at_most;
@@ -25,8 +25,8 @@ use tables::layout::USER_MAX;
 use tables::layout::VERSION;
 use tables::layout::WORD_MAX;
 
-fn record_free(files: &[u32], contents: &[u8], s: Slot) -> bool
-    ensures { λ r. ⌜ r ≡ recordFree (tree (now (files .entry)) (now (contents .entry))) (s .0) ⌝ }
+fn record_free(files: &[u32], s: Slot) -> bool
+    ensures { λ r. ⌜ r ≡ recordFree (tab FILE (now (files .entry))) (s .0) ⌝ }
 {
     if !is_word(files, FILE * (s.0 as usize) + OWNER, 0) {
         return false;
@@ -44,11 +44,11 @@ fn record_free(files: &[u32], contents: &[u8], s: Slot) -> bool
 }
 
 // A free record is zero but for its version.
-fn free_sound(files: &[u32], contents: &[u8], s: Slot) -> bool
-    ensures { λ r. ⌜ r ≡ implies (eqb (tab FILE (now (files .entry)) (s .0) KIND) FREE) (recordFree (tree (now (files .entry)) (now (contents .entry))) (s .0)) ⌝ }
+fn free_sound(files: &[u32], s: Slot) -> bool
+    ensures { λ r. ⌜ r ≡ implies (eqb (tab FILE (now (files .entry)) (s .0) KIND) FREE) (recordFree (tab FILE (now (files .entry))) (s .0)) ⌝ }
 {
     if is_free(files, s) {
-        return record_free(files, contents, s);
+        return record_free(files, s);
     }
     true
 }
@@ -60,8 +60,8 @@ fn bits_sound(files: &[u32], s: Slot) -> bool
 }
 
 // The fields of slot s are in range.
-pub fn record_sound(files: &[u32], contents: &[u8], s: Slot) -> bool
-    ensures { λ r. ⌜ r ≡ recordSound (tree (now (files .entry)) (now (contents .entry))) (s .0) ⌝ }
+pub fn record_sound(files: &[u32], s: Slot) -> bool
+    ensures { λ r. ⌜ r ≡ recordSound (tab FILE (now (files .entry))) (s .0) ⌝ }
 {
     if !at_most(files, FILE * (s.0 as usize) + KIND, KIND_MAX) {
         return false;
@@ -78,5 +78,5 @@ pub fn record_sound(files: &[u32], contents: &[u8], s: Slot) -> bool
     if !at_most(files, FILE * (s.0 as usize) + VERSION, WORD_MAX) {
         return false;
     }
-    free_sound(files, contents, s)
+    free_sound(files, s)
 }

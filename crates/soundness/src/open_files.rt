@@ -1,4 +1,4 @@
-// The open files. Each function takes the four tables, as the rules' view does.
+// The open files.
 ghost use mathlib.Core.Path.{_≡_};
 ghost use mathlib.Core.Bool.{cond};
 ghost use lib.Dec.{eqb, ltb};
@@ -6,7 +6,7 @@ ghost use lib.ListN.{getD};
 ghost use Prim.Native.Nat.{_+_};
 ghost use Rattle.rules.specs.Scan.{all};
 ghost use Rattle.rules.specs.Layout.{OPEN, OPEN-FILES, SLOT, REFERENCES, SLOTS, PLAIN, FILE, KIND, MODE};
-ghost use Rattle.rules.specs.Store.{tab, view, store};
+ghost use Rattle.rules.specs.Store.{tab, descOf};
 ghost use Rattle.rules.specs.Sound.{openFree, openUsed, openSound};
 ghost use Rattle.soundness.specs.Counted.{openSoundBy};
 ghost use Rattle.rules.specs.Rights.{modeOf, modeKept};
@@ -71,8 +71,8 @@ fn mode_sound(open_files: &[u32], e: Ofd) -> bool
     OpenMode::kept(mode(open_files, e).0)
 }
 
-fn open_used(files: &[u32], contents: &[u8], open_files: &[u32], processes: &[u32], e: Ofd) -> bool
-    ensures { λ r. ⌜ r ≡ openUsed (view (store (now (files .entry)) (now (contents .entry)) (now («open_files» .entry)) (now (processes .entry)))) (e .0) ⌝ }
+fn open_used(files: &[u32], open_files: &[u32], e: Ofd) -> bool
+    ensures { λ r. ⌜ r ≡ openUsed (tab FILE (now (files .entry))) (tab OPEN (now («open_files» .entry))) (e .0) ⌝ }
 {
     if !slot_inside(open_files, e) {
         return false;
@@ -87,49 +87,30 @@ fn open_used(files: &[u32], contents: &[u8], open_files: &[u32], processes: &[u3
 }
 
 // A free open file is all zero, any other is on a plain file.
-fn referred_sound(
-    files: &[u32],
-    contents: &[u8],
-    open_files: &[u32],
-    processes: &[u32],
-    e: Ofd,
-) -> bool
-    ensures { λ r. ⌜ r ≡ cond (eqb (tab OPEN (now («open_files» .entry)) (e .0) REFERENCES) 0) (openFree (tab OPEN (now («open_files» .entry))) (e .0)) (openUsed (view (store (now (files .entry)) (now (contents .entry)) (now («open_files» .entry)) (now (processes .entry)))) (e .0)) ⌝ }
+fn referred_sound(files: &[u32], open_files: &[u32], e: Ofd) -> bool
+    ensures { λ r. ⌜ r ≡ cond (eqb (tab OPEN (now («open_files» .entry)) (e .0) REFERENCES) 0) (openFree (tab OPEN (now («open_files» .entry))) (e .0)) (openUsed (tab FILE (now (files .entry))) (tab OPEN (now («open_files» .entry))) (e .0)) ⌝ }
 {
     if is_word(open_files, OPEN * (e.0 as usize) + REFERENCES, 0) {
         return open_free(open_files, e);
     }
-    open_used(files, contents, open_files, processes, e)
+    open_used(files, open_files, e)
 }
 
-fn open_sound(
-    files: &[u32],
-    contents: &[u8],
-    open_files: &[u32],
-    processes: &[u32],
-    held: &[u32],
-    e: Ofd,
-) -> bool
-    ensures { λ r. ⌜ r ≡ openSoundBy (view (store (now (files .entry)) (now (contents .entry)) (now («open_files» .entry)) (now (processes .entry)))) (now (held .entry)) (e .0) ⌝ }
+fn open_sound(files: &[u32], open_files: &[u32], held: &[u32], e: Ofd) -> bool
+    ensures { λ r. ⌜ r ≡ openSoundBy (tab FILE (now (files .entry))) (tab OPEN (now («open_files» .entry))) (now (held .entry)) (e .0) ⌝ }
 {
     if !references_right(open_files, held, e) {
         return false;
     }
-    referred_sound(files, contents, open_files, processes, e)
+    referred_sound(files, open_files, e)
 }
 
-fn all_open_files_sound(
-    files: &[u32],
-    contents: &[u8],
-    open_files: &[u32],
-    processes: &[u32],
-    held: &[u32],
-) -> bool
-    ensures { λ r. ⌜ r ≡ all (openSoundBy (view (store (now (files .entry)) (now (contents .entry)) (now («open_files» .entry)) (now (processes .entry)))) (now (held .entry))) 0 OPEN-FILES ⌝ }
+fn all_open_files_sound(files: &[u32], open_files: &[u32], held: &[u32]) -> bool
+    ensures { λ r. ⌜ r ≡ all (openSoundBy (tab FILE (now (files .entry))) (tab OPEN (now («open_files» .entry))) (now (held .entry))) 0 OPEN-FILES ⌝ }
 {
     let mut e = 0;
     while e < OPEN_FILES {
-        if open_sound(files, contents, open_files, processes, held, Ofd(e)) {
+        if open_sound(files, open_files, held, Ofd(e)) {
             e += 1;
         } else {
             return false;
@@ -138,15 +119,10 @@ fn all_open_files_sound(
     true
 }
 
-pub fn open_files_sound(
-    files: &[u32],
-    contents: &[u8],
-    open_files: &[u32],
-    processes: &[u32],
-) -> bool
-    ensures { λ r. ⌜ r ≡ all (openSound (view (store (now (files .entry)) (now (contents .entry)) (now («open_files» .entry)) (now (processes .entry))))) 0 OPEN-FILES ⌝ }
+pub fn open_files_sound(files: &[u32], open_files: &[u32], processes: &[u32]) -> bool
+    ensures { λ r. ⌜ r ≡ all (openSound (tab FILE (now (files .entry))) (tab OPEN (now («open_files» .entry))) (descOf (now (processes .entry)))) 0 OPEN-FILES ⌝ }
 {
     let mut held = [0; HELD];
     count_held(processes, &mut held);
-    all_open_files_sound(files, contents, open_files, processes, &held)
+    all_open_files_sound(files, open_files, &held)
 }

@@ -1,8 +1,8 @@
-// The processes. Each function over a whole process takes the four tables, as the rules' view does.
+// The processes.
 ghost use mathlib.Core.Path.{_≡_};
 ghost use lib.Dec.{eqb};
 ghost use Rattle.rules.specs.Scan.{all};
-ghost use Rattle.rules.specs.Store.{descOf, procOf, view, store};
+ghost use Rattle.rules.specs.Store.{descOf, procOf};
 ghost use Rattle.rules.specs.Layout.{PROCESSES, DESCRIPTORS, USED};
 ghost use Rattle.rules.specs.Sound.{descSound, descFree, procFree, procUsed, procSound};
 use crate::fields::at_most;
@@ -60,8 +60,8 @@ fn all_desc_free(processes: &[u32], p: Pid) -> bool
     true
 }
 
-fn proc_free(files: &[u32], contents: &[u8], open_files: &[u32], processes: &[u32], p: Pid) -> bool
-    ensures { λ r. ⌜ r ≡ procFree (view (store (now (files .entry)) (now (contents .entry)) (now («open_files» .entry)) (now (processes .entry)))) (p .0) ⌝ }
+fn proc_free(processes: &[u32], p: Pid) -> bool
+    ensures { λ r. ⌜ r ≡ procFree (procOf (now (processes .entry))) (descOf (now (processes .entry))) (p .0) ⌝ }
 {
     if !is_word(processes, PROCESS * (p.0 as usize) + USER, 0) {
         return false;
@@ -72,8 +72,8 @@ fn proc_free(files: &[u32], contents: &[u8], open_files: &[u32], processes: &[u3
     all_desc_free(processes, p)
 }
 
-fn proc_used(files: &[u32], contents: &[u8], open_files: &[u32], processes: &[u32], p: Pid) -> bool
-    ensures { λ r. ⌜ r ≡ procUsed (view (store (now (files .entry)) (now (contents .entry)) (now («open_files» .entry)) (now (processes .entry)))) (p .0) ⌝ }
+fn proc_used(processes: &[u32], p: Pid) -> bool
+    ensures { λ r. ⌜ r ≡ procUsed (procOf (now (processes .entry))) (descOf (now (processes .entry))) (p .0) ⌝ }
 {
     if !is_word(processes, PROCESS * (p.0 as usize) + USED, 1) {
         return false;
@@ -97,26 +97,21 @@ fn unused(processes: &[u32], p: Pid) -> bool
     is_word(processes, PROCESS * (p.0 as usize) + USED, 0)
 }
 
-fn proc_sound(files: &[u32], contents: &[u8], open_files: &[u32], processes: &[u32], p: Pid) -> bool
-    ensures { λ r. ⌜ r ≡ procSound (view (store (now (files .entry)) (now (contents .entry)) (now («open_files» .entry)) (now (processes .entry)))) (p .0) ⌝ }
+fn proc_sound(processes: &[u32], p: Pid) -> bool
+    ensures { λ r. ⌜ r ≡ procSound (procOf (now (processes .entry))) (descOf (now (processes .entry))) (p .0) ⌝ }
 {
     if unused(processes, p) {
-        return proc_free(files, contents, open_files, processes, p);
+        return proc_free(processes, p);
     }
-    proc_used(files, contents, open_files, processes, p)
+    proc_used(processes, p)
 }
 
-pub fn processes_sound(
-    files: &[u32],
-    contents: &[u8],
-    open_files: &[u32],
-    processes: &[u32],
-) -> bool
-    ensures { λ r. ⌜ r ≡ all (procSound (view (store (now (files .entry)) (now (contents .entry)) (now («open_files» .entry)) (now (processes .entry))))) 0 PROCESSES ⌝ }
+pub fn processes_sound(processes: &[u32]) -> bool
+    ensures { λ r. ⌜ r ≡ all (procSound (procOf (now (processes .entry))) (descOf (now (processes .entry)))) 0 PROCESSES ⌝ }
 {
     let mut p = 0;
     while p < PROCESSES {
-        if proc_sound(files, contents, open_files, processes, Pid(p)) {
+        if proc_sound(processes, Pid(p)) {
             p += 1;
         } else {
             return false;

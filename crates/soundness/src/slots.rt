@@ -5,7 +5,7 @@ ghost use lib.Dec.{ltb};
 ghost use Rattle.rules.specs.Choice.{some};
 ghost use Rattle.rules.specs.Scan.{all};
 ghost use Rattle.rules.specs.Layout.{SLOTS, FILE, OPEN, LINKS};
-ghost use Rattle.rules.specs.Store.{tab, shownOf, view, store};
+ghost use Rattle.rules.specs.Store.{tab, tree, shownOf};
 ghost use Rattle.rules.specs.Sound.{allZero, isOpen, plainSound, slotSound};
 ghost use Rattle.soundness.specs.Counted.{kindSoundBy, slotSoundBy};
 use crate::bytes::all_zero;
@@ -51,14 +51,8 @@ fn named_or_open(files: &[u32], open_files: &[u32], s: Slot) -> bool
     open_but(open_files, Ofd(OPEN_FILES), s)
 }
 
-fn plain_sound(
-    files: &[u32],
-    contents: &[u8],
-    open_files: &[u32],
-    processes: &[u32],
-    s: Slot,
-) -> bool
-    ensures { λ r. ⌜ r ≡ plainSound (view (store (now (files .entry)) (now (contents .entry)) (now («open_files» .entry)) (now (processes .entry)))) (s .0) ⌝ }
+fn plain_sound(files: &[u32], contents: &[u8], open_files: &[u32], s: Slot) -> bool
+    ensures { λ r. ⌜ r ≡ plainSound (tree (now (files .entry)) (now (contents .entry))) (tab OPEN (now («open_files» .entry))) (s .0) ⌝ }
 {
     if !at_most(files, FILE * (s.0 as usize) + LENGTH, LENGTH_MAX) {
         return false;
@@ -69,21 +63,14 @@ fn plain_sound(
     shown_zero(files, contents, s)
 }
 
-fn kind_sound(
-    files: &[u32],
-    contents: &[u8],
-    open_files: &[u32],
-    processes: &[u32],
-    parents: &[u32],
-    s: Slot,
-) -> bool
-    ensures { λ r. ⌜ r ≡ kindSoundBy (view (store (now (files .entry)) (now (contents .entry)) (now («open_files» .entry)) (now (processes .entry)))) (now (parents .entry)) (s .0) ⌝ }
+fn kind_sound(files: &[u32], contents: &[u8], open_files: &[u32], parents: &[u32], s: Slot) -> bool
+    ensures { λ r. ⌜ r ≡ kindSoundBy (tree (now (files .entry)) (now (contents .entry))) (tab OPEN (now («open_files» .entry))) (now (parents .entry)) (s .0) ⌝ }
 {
     if is_directory(files, s) {
         return directory_sound(files, contents, parents, s);
     }
     if is_plain(files, s) {
-        return plain_sound(files, contents, open_files, processes, s);
+        return plain_sound(files, contents, open_files, s);
     }
     shown_zero(files, contents, s)
 }
@@ -92,43 +79,33 @@ fn slot_sound(
     files: &[u32],
     contents: &[u8],
     open_files: &[u32],
-    processes: &[u32],
     links: &[u32],
     parents: &[u32],
     s: Slot,
 ) -> bool
-    ensures { λ r. ⌜ r ≡ slotSoundBy (view (store (now (files .entry)) (now (contents .entry)) (now («open_files» .entry)) (now (processes .entry)))) (now (links .entry)) (now (parents .entry)) (s .0) ⌝ }
+    ensures { λ r. ⌜ r ≡ slotSoundBy (tree (now (files .entry)) (now (contents .entry))) (tab OPEN (now («open_files» .entry))) (now (links .entry)) (now (parents .entry)) (s .0) ⌝ }
 {
-    if !record_sound(files, contents, s) {
+    if !record_sound(files, s) {
         return false;
     }
-    if !links_sound(files, contents, links, s) {
+    if !links_sound(files, links, s) {
         return false;
     }
-    kind_sound(files, contents, open_files, processes, parents, s)
+    kind_sound(files, contents, open_files, parents, s)
 }
 
 fn all_slots_sound(
     files: &[u32],
     contents: &[u8],
     open_files: &[u32],
-    processes: &[u32],
     links: &[u32],
     parents: &[u32],
 ) -> bool
-    ensures { λ r. ⌜ r ≡ all (slotSoundBy (view (store (now (files .entry)) (now (contents .entry)) (now («open_files» .entry)) (now (processes .entry)))) (now (links .entry)) (now (parents .entry))) 0 SLOTS ⌝ }
+    ensures { λ r. ⌜ r ≡ all (slotSoundBy (tree (now (files .entry)) (now (contents .entry))) (tab OPEN (now («open_files» .entry))) (now (links .entry)) (now (parents .entry))) 0 SLOTS ⌝ }
 {
     let mut s = 0;
     while s < SLOTS {
-        if slot_sound(
-            files,
-            contents,
-            open_files,
-            processes,
-            links,
-            parents,
-            Slot(s),
-        ) {
+        if slot_sound(files, contents, open_files, links, parents, Slot(s)) {
             s += 1;
         } else {
             return false;
@@ -137,11 +114,11 @@ fn all_slots_sound(
     true
 }
 
-pub fn slots_sound(files: &[u32], contents: &[u8], open_files: &[u32], processes: &[u32]) -> bool
-    ensures { λ r. ⌜ r ≡ all (slotSound (view (store (now (files .entry)) (now (contents .entry)) (now («open_files» .entry)) (now (processes .entry))))) 0 SLOTS ⌝ }
+pub fn slots_sound(files: &[u32], contents: &[u8], open_files: &[u32]) -> bool
+    ensures { λ r. ⌜ r ≡ all (slotSound (tree (now (files .entry)) (now (contents .entry))) (tab OPEN (now («open_files» .entry)))) 0 SLOTS ⌝ }
 {
     let mut links = [0; SLOTS_AND_NONE];
     let mut parents = [SLOTS; SLOTS_AND_NONE];
     count_links(files, contents, &mut links, &mut parents);
-    all_slots_sound(files, contents, open_files, processes, &links, &parents)
+    all_slots_sound(files, contents, open_files, &links, &parents)
 }

@@ -38,13 +38,13 @@ fn tables_sound(files: &[u32], contents: &[u8], open_files: &[u32], processes: &
     if !is_directory(files, Slot(0)) {
         return false;
     }
-    if !slots_sound(files, contents, open_files, processes) {
+    if !slots_sound(files, contents, open_files) {
         return false;
     }
-    if !open_files_sound(files, contents, open_files, processes) {
+    if !open_files_sound(files, open_files, processes) {
         return false;
     }
-    processes_sound(files, contents, open_files, processes)
+    processes_sound(processes)
 }
 
 pub fn store_sound(files: &[u32], contents: &[u8], open_files: &[u32], processes: &[u32]) -> bool

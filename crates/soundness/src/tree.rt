@@ -28,8 +28,8 @@ fn links_right(files: &[u32], links: &[u32], s: Slot) -> bool
     )
 }
 
-pub fn links_sound(files: &[u32], contents: &[u8], links: &[u32], s: Slot) -> bool
-    ensures { λ r. ⌜ r ≡ linksSoundBy (tree (now (files .entry)) (now (contents .entry))) (now (links .entry)) (s .0) ⌝ }
+pub fn links_sound(files: &[u32], links: &[u32], s: Slot) -> bool
+    ensures { λ r. ⌜ r ≡ linksSoundBy (tab FILE (now (files .entry))) (now (links .entry)) (s .0) ⌝ }
 {
     let root = s.0 == 0;
     if root {
@@ -70,9 +70,9 @@ fn named_once(files: &[u32], d: Slot) -> bool
 }
 
 fn shown_sound(files: &[u32], contents: &[u8], d: Slot) -> bool
-    ensures { λ r. ⌜ r ≡ direntsSound (tree (now (files .entry)) (now (contents .entry))) (shownOf (now (files .entry)) (now (contents .entry)) (d .0)) (tab FILE (now (files .entry)) (d .0) LENGTH) ⌝ }
+    ensures { λ r. ⌜ r ≡ direntsSound (tab FILE (now (files .entry))) (shownOf (now (files .entry)) (now (contents .entry)) (d .0)) (tab FILE (now (files .entry)) (d .0) LENGTH) ⌝ }
 {
-    dirents_sound(files, contents, shown(files, contents, d), length(files, d))
+    dirents_sound(files, shown(files, contents, d), length(files, d))
 }
 
 pub fn directory_sound(files: &[u32], contents: &[u8], parents: &[u32], d: Slot) -> bool

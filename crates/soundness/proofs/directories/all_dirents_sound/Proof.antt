@@ -1,19 +1,19 @@
 use mathlib.Core.Path.{_≡_, refl}
 use Prim.Native.Nat.{_-_}
 use borrow.Author.Needs.{needs}
-use Rattle.rules.specs.Layout.{DIRENTS}
+use Rattle.rules.specs.Layout.{DIRENTS, FILE}
 use Rattle.rules.specs.Scan.{all}
 use Rattle.rules.proofs.Scans.{all-yes, all-no, all-done}
-use Rattle.rules.specs.Store.{tree}
+use Rattle.rules.specs.Store.{tab}
 use Rattle.rules.specs.Sound.{direntSound}
 use Rattle.soundness.proofs.directories.all_dirents_sound.Statement.{statement}
 use Rattle.soundness.proofs.directories.all_dirents_sound.Tie as tie
 
 abbrev Inv-loop : tie.InvT-loop
-Inv-loop files contents dir i₀ i = all (direntSound (tree files contents) dir) i DIRENTS ≡ all (direntSound (tree files contents) dir) 0 DIRENTS
+Inv-loop files dir i₀ i = all (direntSound (tab FILE files) dir) i DIRENTS ≡ all (direntSound (tab FILE files) dir) 0 DIRENTS
 
 abbrev μ-loop : tie.MeasureT-loop
-μ-loop files contents dir i₀ i = DIRENTS - i
+μ-loop files dir i₀ i = DIRENTS - i
 
 pub all-dirents-sound-spec : {M : Type 1} → statement M
 all-dirents-sound-spec =

@@ -4,16 +4,16 @@ use borrow.Author.Needs.{needs}
 use Rattle.rules.specs.Layout.{PROCESSES}
 use Rattle.rules.specs.Scan.{all}
 use Rattle.rules.proofs.Scans.{all-yes, all-no, all-done}
-use Rattle.rules.specs.Store.{view, store}
+use Rattle.rules.specs.Store.{procOf, descOf}
 use Rattle.rules.specs.Sound.{procSound}
 use Rattle.soundness.proofs.processes.processes_sound.Statement.{statement}
 use Rattle.soundness.proofs.processes.processes_sound.Tie as tie
 
 abbrev Inv-loop : tie.InvT-loop
-Inv-loop files contents openFiles processes p₀ p = all (procSound (view (store files contents openFiles processes))) p PROCESSES ≡ all (procSound (view (store files contents openFiles processes))) 0 PROCESSES
+Inv-loop processes p₀ p = all (procSound (procOf processes) (descOf processes)) p PROCESSES ≡ all (procSound (procOf processes) (descOf processes)) 0 PROCESSES
 
 abbrev μ-loop : tie.MeasureT-loop
-μ-loop files contents openFiles processes p₀ p = PROCESSES - p
+μ-loop processes p₀ p = PROCESSES - p
 
 pub processes-sound-spec : {M : Type 1} → statement M
 processes-sound-spec =

@@ -1,7 +1,0 @@
-use Rattle.rules.specs.Directories.{differsAt}
-use Rattle.resolution.proofs.directories.differs_at.Statement.{statement}
-use Rattle.resolution.proofs.directories.differs_at.Tie as tie
-
-pub differs-at-spec : {M : Type 1} → statement M
-unfolding differsAt
-differs-at-spec = tie.close (tie.spec (λ c κs. tt) (λ c κs. tt) (λ c. cc))

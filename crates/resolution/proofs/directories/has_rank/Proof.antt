@@ -1,5 +1,0 @@
-use Rattle.resolution.proofs.directories.has_rank.Statement.{statement}
-use Rattle.resolution.proofs.directories.has_rank.Tie as tie
-
-pub has-rank-spec : {M : Type 1} → statement M
-has-rank-spec = tie.close (tie.spec (λ c κs. tt) (λ c. cc))

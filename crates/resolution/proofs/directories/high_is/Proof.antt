@@ -1,5 +1,0 @@
-use Rattle.resolution.proofs.directories.high_is.Statement.{statement}
-use Rattle.resolution.proofs.directories.high_is.Tie as tie
-
-pub high-is-spec : {M : Type 1} → statement M
-high-is-spec = tie.close (tie.spec (λ c κs. tt) (λ c. cc))

@@ -1,5 +1,0 @@
-use Rattle.resolution.proofs.directories.is_used.Statement.{statement}
-use Rattle.resolution.proofs.directories.is_used.Tie as tie
-
-pub is-used-spec : {M : Type 1} → statement M
-is-used-spec = tie.close (tie.spec (λ c κs. tt) (λ c. cc))

@@ -1,7 +1,0 @@
-use Rattle.rules.specs.Directories.{precedes}
-use Rattle.resolution.proofs.directories.precedes_dirent.Statement.{statement}
-use Rattle.resolution.proofs.directories.precedes_dirent.Tie as tie
-
-pub precedes-dirent-spec : {M : Type 1} → statement M
-unfolding precedes
-precedes-dirent-spec = tie.close (tie.spec (λ c κs. tt) (λ c κs. tt) (λ c κs. tt) (λ c. cc))

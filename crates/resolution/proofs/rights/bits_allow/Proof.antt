@@ -1,5 +1,0 @@
-use Rattle.resolution.proofs.rights.bits_allow.Statement.{statement}
-use Rattle.resolution.proofs.rights.bits_allow.Tie as tie
-
-pub bits-allow-spec : {M : Type 1} → statement M
-bits-allow-spec = tie.close (tie.spec (λ c κs. tt) (λ c κs. tt) (λ c κs. tt) (λ c. cc))

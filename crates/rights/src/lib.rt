@@ -1,0 +1,2 @@
+// Rights, by the bits and by the labels.
+pub mod rights;
