@@ -11,7 +11,7 @@ use lib.ListN.{getD, take, drop}
 use lib.Seq.{getD-take, getD-drop}
 use lib.Pow.{shl-exact}
 use lib.Count.{trailingZeros, trailing-le}
-use Rattle.rules.specs.Layout.{DESCRIPTORS, PROCESS}
+use Rattle.rules.specs.Layout.{DESCRIPTORS, PROCESS-WIDTH}
 use Rattle.rules.specs.Store.{Table, descOf, fdOf}
 use Rattle.rules.specs.Checks.{held, fdFree, freeFd}
 use Rattle.rules.specs.declared.ids.Pid.{Pid}
@@ -58,7 +58,7 @@ a-byte n = omega (arith, trailing-le 8 n)
 -- a process's record taken alone, as a table of one process
 module _ (P : List ℕ) (p : Pid) where
   abbrev row : List ℕ
-  row = take (PROCESS * p .0 + PROCESS - PROCESS * p .0) (drop (PROCESS * p .0) P)
+  row = take (PROCESS-WIDTH * p .0 + PROCESS-WIDTH - PROCESS-WIDTH * p .0) (drop (PROCESS-WIDTH * p .0) P)
 
   same : (n : ℕ) → descOf row 0 n ≡ descOf P (p .0) n
   unfolding descOf

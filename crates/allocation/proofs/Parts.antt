@@ -9,7 +9,7 @@ use borrow.Author.Tests.{ltb-true}
 use lib.Dec.{eqb, ltb}
 use lib.ListN.{getD, take}
 use lib.Seq.{getD-take}
-use Rattle.rules.specs.Layout.{FILE, KIND, FREE, SLOTS, OPEN, REFERENCES, OPEN-FILES}
+use Rattle.rules.specs.Layout.{FILE-WIDTH, FILE-KIND, FREE, SLOTS, OPEN-FILE-WIDTH, OPEN-REFERENCES, OPEN-FILES}
 use Rattle.rules.specs.Scan.{first}
 use Rattle.rules.proofs.Scans.{first-same}
 use Rattle.rules.specs.Store.{tab, slot, ofdOf}
@@ -35,10 +35,10 @@ module _ (w n : ℕ) (T : List ℕ) where
   part-first : (k : ℕ) (t : ℕ → Bool) → first (λ i. t (tab w part i k)) 0 n ≡ first (λ i. t (tab w T i k)) 0 n
   part-first k t = first-same (λ i. t (tab w part i k)) (λ i. t (tab w T i k)) n (λ i l. ap t (part-at i k l))
 
-pub slot-part : (F : List ℕ) (r : Slot) → r ≡ freeSlot (tab FILE (part FILE SLOTS F)) → r ≡ freeSlot (tab FILE F)
+pub slot-part : (F : List ℕ) (r : Slot) → r ≡ freeSlot (tab FILE-WIDTH (part FILE-WIDTH SLOTS F)) → r ≡ freeSlot (tab FILE-WIDTH F)
 unfolding slotFree
-slot-part F r e = e ∙ ap slot (part-first FILE SLOTS F KIND (λ v. eqb v FREE))
+slot-part F r e = e ∙ ap slot (part-first FILE-WIDTH SLOTS F FILE-KIND (λ v. eqb v FREE))
 
-pub ofd-part : (O : List ℕ) (r : Ofd) → r ≡ freeOfd (tab OPEN (part OPEN OPEN-FILES O)) → r ≡ freeOfd (tab OPEN O)
+pub ofd-part : (O : List ℕ) (r : Ofd) → r ≡ freeOfd (tab OPEN-FILE-WIDTH (part OPEN-FILE-WIDTH OPEN-FILES O)) → r ≡ freeOfd (tab OPEN-FILE-WIDTH O)
 unfolding ofdFree
-ofd-part O r e = e ∙ ap ofdOf (part-first OPEN OPEN-FILES O REFERENCES (λ v. eqb v 0))
+ofd-part O r e = e ∙ ap ofdOf (part-first OPEN-FILE-WIDTH OPEN-FILES O OPEN-REFERENCES (λ v. eqb v 0))

@@ -1,6 +1,6 @@
 // The lowest free ones; the one past the last where there is none, which `tables::ids` tells from those there are.
 ghost use mathlib.Core.Path.{_≡_};
-ghost use Rattle.rules.specs.Layout.{FILE, OPEN};
+ghost use Rattle.rules.specs.Layout.{FILE-WIDTH, OPEN-FILE-WIDTH};
 ghost use Rattle.rules.specs.Store.{tab, procOf, descOf};
 ghost use Rattle.rules.specs.Checks.{slotFree, ofdFree, pidFree, freeSlot, freeOfd, freeFd, freePid};
 use crate::used::used_descriptors;
@@ -15,14 +15,14 @@ use tables::layout::PROCESSES;
 use tables::layout::SLOTS;
 
 fn slot_free(files: &[u32], s: Slot) -> bool
-    ensures { λ r. ⌜ r ≡ slotFree (tab FILE (now (files .entry))) (s .0) ⌝ }
+    ensures { λ r. ⌜ r ≡ slotFree (tab FILE-WIDTH (now (files .entry))) (s .0) ⌝ }
 {
     tables::files::is_free(files, s)
 }
 
 // The scan itself.
 fn first_free_slot(files: &[u32]) -> Slot
-    ensures { λ r. ⌜ r ≡ freeSlot (tab FILE (now (files .entry))) ⌝ }
+    ensures { λ r. ⌜ r ≡ freeSlot (tab FILE-WIDTH (now (files .entry))) ⌝ }
 {
     let mut s: u32 = 0;
     while s < SLOTS {
@@ -36,7 +36,7 @@ fn first_free_slot(files: &[u32]) -> Slot
 
 // A table that is whole is handed on at its known length: no slot is then tested against its end.
 pub fn free_slot(files: &[u32]) -> Slot
-    ensures { λ r. ⌜ r ≡ freeSlot (tab FILE (now (files .entry))) ⌝ }
+    ensures { λ r. ⌜ r ≡ freeSlot (tab FILE-WIDTH (now (files .entry))) ⌝ }
 {
     if FILES_SIZE <= files.len() {
         return first_free_slot(&files[0..FILES_SIZE]);
@@ -45,13 +45,13 @@ pub fn free_slot(files: &[u32]) -> Slot
 }
 
 fn ofd_free(open_files: &[u32], e: Ofd) -> bool
-    ensures { λ r. ⌜ r ≡ ofdFree (tab OPEN (now («open_files» .entry))) (e .0) ⌝ }
+    ensures { λ r. ⌜ r ≡ ofdFree (tab OPEN-FILE-WIDTH (now («open_files» .entry))) (e .0) ⌝ }
 {
     tables::open_files::references(open_files, e) == 0
 }
 
 fn first_free_ofd(open_files: &[u32]) -> Ofd
-    ensures { λ r. ⌜ r ≡ freeOfd (tab OPEN (now («open_files» .entry))) ⌝ }
+    ensures { λ r. ⌜ r ≡ freeOfd (tab OPEN-FILE-WIDTH (now («open_files» .entry))) ⌝ }
 {
     let mut e: u32 = 0;
     while e < OPEN_FILES {
@@ -65,7 +65,7 @@ fn first_free_ofd(open_files: &[u32]) -> Ofd
 
 // As `free_slot`.
 pub fn free_ofd(open_files: &[u32]) -> Ofd
-    ensures { λ r. ⌜ r ≡ freeOfd (tab OPEN (now («open_files» .entry))) ⌝ }
+    ensures { λ r. ⌜ r ≡ freeOfd (tab OPEN-FILE-WIDTH (now («open_files» .entry))) ⌝ }
 {
     if OPEN_FILES_SIZE <= open_files.len() {
         return first_free_ofd(&open_files[0..OPEN_FILES_SIZE]);

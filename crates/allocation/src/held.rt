@@ -1,7 +1,7 @@
 // Processes in use, and descriptors that are held.
 ghost use mathlib.Core.Path.{_≡_};
 ghost use lib.Dec.{eqb};
-ghost use Rattle.rules.specs.Layout.{USED};
+ghost use Rattle.rules.specs.Layout.{PROCESS-USED};
 ghost use Rattle.rules.specs.Store.{procOf, descOf};
 ghost use Rattle.rules.specs.Checks.{inUse, held, ofdHeld};
 use rules::ids::Fd;
@@ -11,7 +11,7 @@ use tables::ids::is_pid;
 use tables::numbers::down_one;
 
 fn marked_used(processes: &[u32], p: Pid) -> bool
-    ensures { λ r. ⌜ r ≡ eqb (procOf (now (processes .entry)) (p .0) USED) 1 ⌝ }
+    ensures { λ r. ⌜ r ≡ eqb (procOf (now (processes .entry)) (p .0) PROCESS-USED) 1 ⌝ }
 {
     tables::processes::used(processes, p) == 1
 }

@@ -1,7 +1,7 @@
 // Whether an open file is a slot's last, and the record of a slot that goes.
 ghost use mathlib.Core.Path.{_≡_};
 ghost use mathlib.Core.Bool.{not};
-ghost use Rattle.rules.specs.Layout.{FILE, OPEN};
+ghost use Rattle.rules.specs.Layout.{FILE-WIDTH, OPEN-FILE-WIDTH};
 ghost use Rattle.rules.specs.Store.{tab};
 ghost use Rattle.rules.specs.Sound.{openBut};
 ghost use Rattle.rules.specs.Checks.{freed};
@@ -15,14 +15,14 @@ use tables::open_files::open_but;
 
 // No open file but x is on slot s.
 pub fn none_but(open_files: &[u32], x: Ofd, s: Slot) -> bool
-    ensures { λ r. ⌜ r ≡ not (openBut (tab OPEN (now («open_files» .entry))) x s) ⌝ }
+    ensures { λ r. ⌜ r ≡ not (openBut (tab OPEN-FILE-WIDTH (now («open_files» .entry))) x s) ⌝ }
 {
     !open_but(open_files, x, s)
 }
 
 // The record of slot s once it is freed.
 pub fn freed_record(files: &[u32], s: Slot) -> Record
-    ensures { λ r. ⌜ r ≡ freed (tab FILE (now (files .entry))) s ⌝ }
+    ensures { λ r. ⌜ r ≡ freed (tab FILE-WIDTH (now (files .entry))) s ⌝ }
 {
     Record {
         kind: FREE,

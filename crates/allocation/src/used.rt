@@ -7,7 +7,7 @@ ghost use Rattle.allocation.specs.Word.{usedWord, BitsHeld};
 use rules::ids::Fd;
 use rules::ids::Pid;
 use tables::layout::DESCRIPTORS;
-use tables::layout::PROCESS;
+use tables::layout::PROCESS_WIDTH;
 
 fn fd_free(processes: &[u32], p: Pid, i: Fd) -> bool
     ensures { λ r. ⌜ r ≡ fdFree (descOf (now (processes .entry))) p (i .0) ⌝ }
@@ -43,8 +43,8 @@ pub fn used_descriptors(processes: &[u32], p: Pid) -> u8
     ensures word { λ r. ⌜ r ≡ usedWord (descOf (now (processes .entry))) p ⌝ }
     ensures bits { λ r. ⌜ BitsHeld (descOf (now (processes .entry))) p r ⌝ }
 {
-    let start = PROCESS * (p.0 as usize);
-    let end = start + PROCESS;
+    let start = PROCESS_WIDTH * (p.0 as usize);
+    let end = start + PROCESS_WIDTH;
     if end <= processes.len() {
         return word_of(&processes[start..end], Pid(0));
     }

@@ -3,7 +3,7 @@ ghost use mathlib.Core.Path.{_≡_};
 ghost use Prim.Native.Nat.{ℕ, _+_, _*_};
 ghost use lib.Dec.{eqb};
 ghost use lib.ListN.{getD};
-ghost use Rattle.rules.specs.Layout.{PROCESS, OWN};
+ghost use Rattle.rules.specs.Layout.{PROCESS-WIDTH, PROCESS-DESCRIPTOR};
 ghost use mathlib.Core.List.{List, [], _∷_};
 ghost use Rattle.rules.specs.Store.{store, applyAll, Change};
 ghost use Rattle.rules.specs.Store as change;
@@ -32,15 +32,19 @@ use rules::ids::Pid;
 use rules::request::Request;
 use rules::request::Subject;
 use tables::layout::DESCRIPTORS;
-use tables::layout::OWN;
-use tables::layout::PROCESS;
+use tables::layout::PROCESS_DESCRIPTOR;
+use tables::layout::PROCESS_WIDTH;
 use tables::words::get;
 
 // The word of a descriptor is 0: it holds nothing.
 fn holds_nothing(processes: &[u32], p: Pid, i: Fd) -> bool
-    ensures { λ r. ⌜ r ≡ eqb (getD (now (processes .entry)) (PROCESS * (p .0) + (OWN + i .0)) 0) 0 ⌝ }
+    ensures { λ r. ⌜ r ≡ eqb (getD (now (processes .entry)) (PROCESS-WIDTH * (p .0) + (PROCESS-DESCRIPTOR + i .0)) 0) 0 ⌝ }
 {
-    get(processes, PROCESS * (p.0 as usize) + (OWN + (i.0 as usize))) == 0
+    get(
+        processes,
+        PROCESS_WIDTH * (p.0 as usize) + (PROCESS_DESCRIPTOR + (i.0 as usize)),
+    )
+        == 0
 }
 
 // One descriptor of a process that ends.

@@ -12,7 +12,7 @@ use lib.ListN.{length, getD, take, drop, List·getD-eq-default, drop-of-length-l
 use lib.Seq.{drop-drop, take-nil}
 use Rattle.rules.specs.Choice.{every}
 use Rattle.rules.specs.Scan.{turns, fold, all, count, total}
-use Rattle.rules.specs.Layout.{SLOTS, BLOCK, DIRENTS, OPEN-FILES, PROCESSES, FILE, LINKS, OPEN}
+use Rattle.rules.specs.Layout.{SLOTS, BLOCK, DIRENTS, OPEN-FILES, PROCESSES, FILE-WIDTH, FILE-LINKS, OPEN-FILE-WIDTH}
 use Rattle.rules.specs.Directories.{direntSlot}
 use Rattle.rules.specs.Walk.{isDirectory}
 use Rattle.rules.specs.Store.{Store, Tree, View, view, slot, block, tab, procOf, descOf, hidden, shownOf, Table}
@@ -29,7 +29,7 @@ quickShown F C = let bs = cut SLOTS C in λ s. drop (hidden F s) (getD bs s [])
 
 -- the view of a store, but for what it shows
 abbrev pub showing : Store → (ℕ → List ℕ) → View
-showing s shown = record { tree = record { file = tab FILE (s .files); shown = shown }; openFiles = tab OPEN (s .openFiles); proc = procOf (s .processes); desc = descOf (s .processes) }
+showing s shown = record { tree = record { file = tab FILE-WIDTH (s .files); shown = shown }; openFiles = tab OPEN-FILE-WIDTH (s .openFiles); proc = procOf (s .processes); desc = descOf (s .processes) }
 
 abbrev pub quickView : Store → View
 quickView s = showing s (quickShown (s .files) (s .contents))
@@ -50,7 +50,7 @@ tally s [] = 0
 tally s (e ∷ es) = cond (eqb e s) (1 + tally s es) (tally s es)
 
 unfoldable pub quickLinks : Tree → List ℕ → ℕ → Bool
-quickLinks t ns s = cond (eqb s 0) (eqb (t .file s LINKS) 0) (eqb (t .file s LINKS) (tally s ns))
+quickLinks t ns s = cond (eqb s 0) (eqb (t .file s FILE-LINKS) 0) (eqb (t .file s FILE-LINKS) (tally s ns))
 
 unfoldable pub quickSlot : Tree → (openFiles : Table) → List ℕ → ℕ → Bool
 quickSlot t openFiles ns s = every (recordSound (t .file) s ∷ quickLinks t ns s ∷ kindSound t openFiles s ∷ [])

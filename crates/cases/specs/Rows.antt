@@ -5,7 +5,7 @@ use mathlib.Core.List.{List, [], _∷_, _++_}
 use lib.Dec.{eqb}
 use lib.ListN.{length, take, drop, replicate}
 use Rattle.rules.specs.Choice.{every}
-use Rattle.rules.specs.Layout.{BLOCK, FILE, OPEN, PROCESS, OWN}
+use Rattle.rules.specs.Layout.{BLOCK, FILE-WIDTH, OPEN-FILE-WIDTH, PROCESS-WIDTH, PROCESS-DESCRIPTOR}
 use Rattle.rules.specs.Store.{Store, store, pidOf, fdOf}
 use Rattle.rules.specs.Refusals.{GRANTED}
 use Rattle.rules.specs.Calls.{Call}
@@ -31,10 +31,10 @@ abbrev pub over : List ℕ → ℕ → List ℕ → List ℕ
 over xs at new = take at xs ++ new ++ drop (at + length new) xs
 
 abbrev pub with : Now → Store → Store
-with (file s k o b l n m v) t = store (over (t .files) (FILE * s) (k ∷ o ∷ b ∷ l ∷ n ∷ m ∷ v ∷ [])) (t .contents) (t .openFiles) (t .processes)
+with (file s k o b l n m v) t = store (over (t .files) (FILE-WIDTH * s) (k ∷ o ∷ b ∷ l ∷ n ∷ m ∷ v ∷ [])) (t .contents) (t .openFiles) (t .processes)
 with (bytes s at new) t = store (t .files) (over (t .contents) (BLOCK * s + at) new) (t .openFiles) (t .processes)
-with (openFile e s m n r) t = store (t .files) (t .contents) (over (t .openFiles) (OPEN * e) (s ∷ m ∷ n ∷ r ∷ [])) (t .processes)
-with (descriptor p i w) t = store (t .files) (t .contents) (t .openFiles) (over (t .processes) (PROCESS * p + OWN + i) (w ∷ []))
+with (openFile e s m n r) t = store (t .files) (t .contents) (over (t .openFiles) (OPEN-FILE-WIDTH * e) (s ∷ m ∷ n ∷ r ∷ [])) (t .processes)
+with (descriptor p i w) t = store (t .files) (t .contents) (t .openFiles) (over (t .processes) (PROCESS-WIDTH * p + PROCESS-DESCRIPTOR + i) (w ∷ []))
 
 unfoldable pub withAll : List Now → Store → Store
 withAll [] t = t

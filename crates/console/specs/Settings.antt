@@ -5,7 +5,7 @@ use mathlib.Core.List.{List, [], _∷_, _++_}
 use lib.Dec.{eqb, ltb, leb}
 use lib.ListN.{length, replicate}
 use lib.Seq.{sets}
-use Rattle.rules.specs.Layout.{SLOTS, FILE, BLOCK, OPEN-FILES, OPEN, PROCESSES, PROCESS, LABELS, RIGHTS, NONE}
+use Rattle.rules.specs.Layout.{SLOTS, FILE-WIDTH, BLOCK, OPEN-FILES, OPEN-FILE-WIDTH, PROCESSES, PROCESS-WIDTH, LABELS, RIGHTS-SIZE, NO-TRANSITION}
 use Rattle.rules.specs.Scan.{fold, first}
 use Rattle.console.specs.Words.{lineAt, nextLine, wordOf, indexOf}
 use Rattle.console.specs.Numbers.{NO-NUMBER, numberIn}
@@ -20,8 +20,8 @@ tables k f c e p q = record { known = k; files = f; contents = c; «open_files»
 -- no files, no processes, no rights and no transitions
 unfoldable pub emptyTables : Console
 emptyTables =
-    tables true (replicate (SLOTS * FILE) 0) (replicate (SLOTS * BLOCK) 0) (replicate (OPEN-FILES * OPEN) 0) (replicate (PROCESSES * PROCESS) 0)
-    (replicate RIGHTS 0 ++ replicate RIGHTS NONE)
+    tables true (replicate (SLOTS * FILE-WIDTH) 0) (replicate (SLOTS * BLOCK) 0) (replicate (OPEN-FILES * OPEN-FILE-WIDTH) 0) (replicate (PROCESSES * PROCESS-WIDTH) 0)
+    (replicate RIGHTS-SIZE 0 ++ replicate RIGHTS-SIZE NO-TRANSITION)
 
 unfoldable pub withKnown : Bool → Console → Console
 withKnown k s = tables k (s .files) (s .contents) (s .«open_files») (s .processes) (s .policy)
@@ -68,13 +68,13 @@ abbrev pub bytesSet : (l : List ℕ) (at : ℕ) (table : List ℕ) → List ℕ
 bytesSet l at table = cond (textFits l) (sets table at (textBytes (wordOf l 4))) table
 
 unfoldable pub filesSet : List ℕ → Console → Console
-filesSet l s = tables (endsWell l) (wordsSet l (placeIn FILE l) (s .files)) (s .contents) (s .«open_files») (s .processes) (s .policy)
+filesSet l s = tables (endsWell l) (wordsSet l (placeIn FILE-WIDTH l) (s .files)) (s .contents) (s .«open_files») (s .processes) (s .policy)
 
 unfoldable pub openFilesSet : List ℕ → Console → Console
-openFilesSet l s = tables (endsWell l) (s .files) (s .contents) (wordsSet l (placeIn OPEN l) (s .«open_files»)) (s .processes) (s .policy)
+openFilesSet l s = tables (endsWell l) (s .files) (s .contents) (wordsSet l (placeIn OPEN-FILE-WIDTH l) (s .«open_files»)) (s .processes) (s .policy)
 
 unfoldable pub processesSet : List ℕ → Console → Console
-processesSet l s = tables (endsWell l) (s .files) (s .contents) (s .«open_files») (wordsSet l (placeIn PROCESS l) (s .processes)) (s .policy)
+processesSet l s = tables (endsWell l) (s .files) (s .contents) (s .«open_files») (wordsSet l (placeIn PROCESS-WIDTH l) (s .processes)) (s .policy)
 
 unfoldable pub contentsSet : List ℕ → Console → Console
 contentsSet l s = tables (textFits l) (s .files) (bytesSet l (placeIn BLOCK l) (s .contents)) (s .«open_files») (s .processes) (s .policy)

@@ -15,15 +15,15 @@ use crate::words::next_line;
 use crate::words::word;
 use tables::layout::BLOCK;
 use tables::layout::CONTENTS_SIZE;
-use tables::layout::FILE;
+use tables::layout::FILE_WIDTH;
 use tables::layout::FILES_SIZE;
 use tables::layout::LABELS;
-use tables::layout::OPEN;
+use tables::layout::OPEN_FILE_WIDTH;
 use tables::layout::OPEN_FILES_SIZE;
 use tables::layout::POLICY_SIZE;
-use tables::layout::PROCESS;
+use tables::layout::PROCESS_WIDTH;
 use tables::layout::PROCESSES_SIZE;
-use tables::layout::RIGHTS;
+use tables::layout::RIGHTS_SIZE;
 use tables::words::copy_bytes;
 use tables::words::zero_bytes;
 
@@ -42,7 +42,7 @@ pub(crate) fn empty() -> Console
     ensures { λ r. ⌜ r ≡ emptyTables ⌝ }
 {
     let mut policy = [255u8; POLICY_SIZE];
-    zero_bytes(&mut policy, 0, RIGHTS);
+    zero_bytes(&mut policy, 0, RIGHTS_SIZE);
     Console {
         known: true,
         files: [0u32; FILES_SIZE],
@@ -153,7 +153,7 @@ fn set_files(s: Console, line: &[u8]) -> Console
     let mut words = s.files;
     let known = set_words(
         &mut words,
-        FILE * number_at(line, 2) + number_at(line, 3),
+        FILE_WIDTH * number_at(line, 2) + number_at(line, 3),
         line,
     );
     let mut t = with_known(s, known);
@@ -167,7 +167,7 @@ fn set_open_files(s: Console, line: &[u8]) -> Console
     let mut words = s.open_files;
     let known = set_words(
         &mut words,
-        OPEN * number_at(line, 2) + number_at(line, 3),
+        OPEN_FILE_WIDTH * number_at(line, 2) + number_at(line, 3),
         line,
     );
     let mut t = with_known(s, known);
@@ -181,7 +181,7 @@ fn set_processes(s: Console, line: &[u8]) -> Console
     let mut words = s.processes;
     let known = set_words(
         &mut words,
-        PROCESS * number_at(line, 2) + number_at(line, 3),
+        PROCESS_WIDTH * number_at(line, 2) + number_at(line, 3),
         line,
     );
     let mut t = with_known(s, known);
@@ -260,9 +260,9 @@ pub(crate) fn show_line(s: Console, line: &[u8]) -> Console
     let i = number_at(line, 2);
     let table = table_of(line);
     match table {
-        0 => print_record(&files, FILE * i, FILE),
-        1 => print_record(&open_files, OPEN * i, OPEN),
-        2 => print_record(&processes, PROCESS * i, PROCESS),
+        0 => print_record(&files, FILE_WIDTH * i, FILE_WIDTH),
+        1 => print_record(&open_files, OPEN_FILE_WIDTH * i, OPEN_FILE_WIDTH),
+        2 => print_record(&processes, PROCESS_WIDTH * i, PROCESS_WIDTH),
         _ => {}
     }
     with_known(s, table < 3)

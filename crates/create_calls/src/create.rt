@@ -1,6 +1,6 @@
 // 2. Create, 3. Make directory.
 ghost use mathlib.Core.Path.{_≡_};
-ghost use Rattle.rules.specs.Layout.{FILE};
+ghost use Rattle.rules.specs.Layout.{FILE-WIDTH};
 ghost use Rattle.rules.specs.Store.{tab, tree, shownOf};
 ghost use Rattle.rules.specs.Directories.{freeDirent};
 ghost use Rattle.rules.specs.Checks.{freeSlot};
@@ -32,7 +32,7 @@ use tables::ids::is_slot;
 
 // A new file in slot s, named in directory d.
 fn new_record(files: &[u32], who: Subject, kind: u32, bits: Bits, d: Slot, s: Slot) -> Record
-    ensures { λ r. ⌜ r ≡ newRecord (tab FILE (now (files .entry))) who kind bits d s ⌝ }
+    ensures { λ r. ⌜ r ≡ newRecord (tab FILE-WIDTH (now (files .entry))) who kind bits d s ⌝ }
 {
     Record {
         kind: kind,
@@ -54,7 +54,7 @@ fn created_at(
     s: Slot,
     i: Dirent,
 ) -> Decision
-    ensures { λ r. ⌜ r ≡ created (tab FILE (now (files .entry))) who kind bits d s i ⌝ }
+    ensures { λ r. ⌜ r ≡ created (tab FILE-WIDTH (now (files .entry))) who kind bits d s i ⌝ }
 {
     Decision::Granted(
         s.0,
@@ -76,7 +76,7 @@ fn create_room(
     s: Slot,
     i: Dirent,
 ) -> Decision
-    ensures { λ r. ⌜ r ≡ createRoom (tab FILE (now (files .entry))) who kind bits d s i ⌝ }
+    ensures { λ r. ⌜ r ≡ createRoom (tab FILE-WIDTH (now (files .entry))) who kind bits d s i ⌝ }
 {
     if !is_slot(s) {
         return Decision::Refused(Refusal::TableFull, 0);
@@ -95,7 +95,7 @@ fn create_free(
     bits: Bits,
     d: Slot,
 ) -> Decision
-    ensures { λ r. ⌜ r ≡ createRoom (tab FILE (now (files .entry))) who kind bits d (freeSlot (tab FILE (now (files .entry)))) (freeDirent (shownOf (now (files .entry)) (now (contents .entry)) (d .0))) ⌝ }
+    ensures { λ r. ⌜ r ≡ createRoom (tab FILE-WIDTH (now (files .entry))) who kind bits d (freeSlot (tab FILE-WIDTH (now (files .entry)))) (freeDirent (shownOf (now (files .entry)) (now (contents .entry)) (d .0))) ⌝ }
 {
     create_room(
         files,

@@ -1,7 +1,7 @@
 // What a directory becomes that gains a name, whether it has the name, and its free entries.
 ghost use mathlib.Core.Path.{_≡_};
 ghost use mathlib.Core.Bool.{not};
-ghost use Rattle.rules.specs.Layout.{FILE};
+ghost use Rattle.rules.specs.Layout.{FILE-WIDTH};
 ghost use Rattle.rules.specs.Store.{tab, isDirent, shownOf};
 ghost use Rattle.rules.specs.Directories.{freeDirent};
 ghost use Rattle.rules.specs.Checks.{gains};
@@ -29,7 +29,7 @@ pub fn free_in(files: &[u32], contents: &[u8], d: Slot) -> Dirent
 
 // A directory that gains a name in entry i.
 pub fn gaining(files: &[u32], d: Slot, i: Dirent) -> DirChange
-    ensures { λ r. ⌜ r ≡ gains (tab FILE (now (files .entry))) d i ⌝ }
+    ensures { λ r. ⌜ r ≡ gains (tab FILE-WIDTH (now (files .entry))) d i ⌝ }
 {
     DirChange {
         dir: d,

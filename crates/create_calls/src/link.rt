@@ -1,6 +1,6 @@
 // 6. Link.
 ghost use mathlib.Core.Path.{_≡_};
-ghost use Rattle.rules.specs.Layout.{FILE};
+ghost use Rattle.rules.specs.Layout.{FILE-WIDTH};
 ghost use Rattle.rules.specs.Store.{tab, tree, shownOf};
 ghost use Rattle.rules.specs.Directories.{freeDirent};
 ghost use Rattle.rules.specs.DecidePaths.{linked, linkRoom, linkTo, linkNew, decideLink};
@@ -27,7 +27,7 @@ use tables::ids::is_dirent;
 use tables::numbers::up_one;
 
 fn linked_at(files: &[u32], old: Slot, d: Slot, i: Dirent) -> Decision
-    ensures { λ r. ⌜ r ≡ linked (tab FILE (now (files .entry))) old d i ⌝ }
+    ensures { λ r. ⌜ r ≡ linked (tab FILE-WIDTH (now (files .entry))) old d i ⌝ }
 {
     Decision::Granted(
         0,
@@ -41,7 +41,7 @@ fn linked_at(files: &[u32], old: Slot, d: Slot, i: Dirent) -> Decision
 }
 
 fn link_room(files: &[u32], old: Slot, d: Slot, i: Dirent) -> Decision
-    ensures { λ r. ⌜ r ≡ linkRoom (tab FILE (now (files .entry))) old d i ⌝ }
+    ensures { λ r. ⌜ r ≡ linkRoom (tab FILE-WIDTH (now (files .entry))) old d i ⌝ }
 {
     if !is_dirent(i) {
         return Decision::Refused(Refusal::TableFull, 0);
@@ -50,7 +50,7 @@ fn link_room(files: &[u32], old: Slot, d: Slot, i: Dirent) -> Decision
 }
 
 fn link_free(files: &[u32], contents: &[u8], old: Slot, d: Slot) -> Decision
-    ensures { λ r. ⌜ r ≡ linkRoom (tab FILE (now (files .entry))) old d (freeDirent (shownOf (now (files .entry)) (now (contents .entry)) (d .0))) ⌝ }
+    ensures { λ r. ⌜ r ≡ linkRoom (tab FILE-WIDTH (now (files .entry))) old d (freeDirent (shownOf (now (files .entry)) (now (contents .entry)) (d .0))) ⌝ }
 {
     link_room(files, old, d, free_in(files, contents, d))
 }

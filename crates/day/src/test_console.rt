@@ -1,7 +1,7 @@
 // The test console's tables. crates/rules/specs/Console.antt has the store.
 ghost use mathlib.Core.Path.{_≡_};
 ghost use mathlib.Core.List.{[], _∷_};
-ghost use Rattle.rules.specs.Layout.{PROCESS};
+ghost use Rattle.rules.specs.Layout.{PROCESS-WIDTH};
 ghost use Rattle.rules.specs.Store.{puts};
 ghost use Rattle.rules.specs.Console.{consoleFiles, consoleContents, consoleProcesses, consolePolicy};
 use rows::rows::put_dirent;
@@ -18,12 +18,12 @@ use tables::layout::FILES_SIZE;
 use tables::layout::LABELS;
 use tables::layout::PLAIN;
 use tables::layout::POLICY_SIZE;
-use tables::layout::PROCESS;
 use tables::layout::PROCESS_LABEL;
+use tables::layout::PROCESS_USED;
+use tables::layout::PROCESS_USER;
+use tables::layout::PROCESS_WIDTH;
 use tables::layout::PROCESSES_SIZE;
-use tables::layout::RIGHTS;
-use tables::layout::USED;
-use tables::layout::USER;
+use tables::layout::RIGHTS_SIZE;
 use tables::words::copy_bytes;
 use tables::words::put;
 use tables::words::put_byte;
@@ -86,11 +86,11 @@ pub(crate) fn contents() -> [u8; CONTENTS_SIZE]
 
 // A process in use; it holds nothing where the table is 0.
 fn put_process(processes: &mut [u32], p: Pid, user: u32, label: u32)
-    ensures { λ _. ⌜ now (processes .exit) ≡ puts PROCESS (now (processes .entry)) (p .0) 0 (1 ∷ user ∷ label ∷ []) ⌝ }
+    ensures { λ _. ⌜ now (processes .exit) ≡ puts PROCESS-WIDTH (now (processes .entry)) (p .0) 0 (1 ∷ user ∷ label ∷ []) ⌝ }
 {
-    let at = PROCESS * (p.0 as usize);
-    put(processes, at + USED, 1);
-    put(processes, at + USER, user);
+    let at = PROCESS_WIDTH * (p.0 as usize);
+    put(processes, at + PROCESS_USED, 1);
+    put(processes, at + PROCESS_USER, user);
     put(processes, at + PROCESS_LABEL, label);
 }
 
@@ -109,7 +109,7 @@ pub(crate) fn policy() -> [u8; POLICY_SIZE]
     ensures { λ r. ⌜ r ≡ consolePolicy ⌝ }
 {
     let mut policy = [255u8; POLICY_SIZE];
-    zero_bytes(&mut policy, 0, RIGHTS);
+    zero_bytes(&mut policy, 0, RIGHTS_SIZE);
     put_byte(&mut policy, 0, 7);
     put_byte(&mut policy, LABELS, 7);
     put_byte(&mut policy, LABELS + 3, 2);

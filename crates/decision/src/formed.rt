@@ -4,7 +4,7 @@ ghost use mathlib.Core.Path.{_≡_};
 ghost use mathlib.Core.List.{[], _∷_};
 ghost use lib.Dec.{leb};
 ghost use Rattle.rules.specs.Choice.{every};
-ghost use Rattle.rules.specs.Layout.{BLOCK, OPEN, PLAIN, DIRECTORY};
+ghost use Rattle.rules.specs.Layout.{BLOCK, OPEN-FILE-WIDTH, PLAIN, DIRECTORY};
 ghost use Rattle.rules.specs.Store.{tab, tree, descOf};
 ghost use Rattle.rules.specs.Rights.{bitsKnown, bitsOf, modeOf, modeKnown};
 ghost use Rattle.rules.specs.Paths.{pathOk};
@@ -50,7 +50,7 @@ pub fn formed_open(
     n: u32,
     path: &[u8],
 ) -> Decision
-    ensures { λ r. ⌜ r ≡ need (every (modeKnown (modeOf n) ∷ pathOk (now (path .entry)) ∷ [])) Malformed (decideOpen (now (policy .entry)) (tree (now (files .entry)) (now (contents .entry))) (tab OPEN (now («open_files» .entry))) (descOf (now (processes .entry))) p who n (now (path .entry))) ⌝ }
+    ensures { λ r. ⌜ r ≡ need (every (modeKnown (modeOf n) ∷ pathOk (now (path .entry)) ∷ [])) Malformed (decideOpen (now (policy .entry)) (tree (now (files .entry)) (now (contents .entry))) (tab OPEN-FILE-WIDTH (now («open_files» .entry))) (descOf (now (processes .entry))) p who n (now (path .entry))) ⌝ }
 {
     if !open_ok(n, path) {
         return Decision::Refused(Refusal::Malformed, 0);
@@ -110,7 +110,7 @@ pub fn formed_unlink(
     who: Subject,
     path: &[u8],
 ) -> Decision
-    ensures { λ r. ⌜ r ≡ need (pathBelowRoot (now (path .entry))) Malformed (decideUnlink (now (policy .entry)) (tree (now (files .entry)) (now (contents .entry))) (tab OPEN (now («open_files» .entry))) who (now (path .entry))) ⌝ }
+    ensures { λ r. ⌜ r ≡ need (pathBelowRoot (now (path .entry))) Malformed (decideUnlink (now (policy .entry)) (tree (now (files .entry)) (now (contents .entry))) (tab OPEN-FILE-WIDTH (now («open_files» .entry))) who (now (path .entry))) ⌝ }
 {
     if !path_below_root(path) {
         return Decision::Refused(Refusal::Malformed, 0);

@@ -1,6 +1,6 @@
 // 14. Duplicate.
 ghost use mathlib.Core.Path.{_≡_};
-ghost use Rattle.rules.specs.Layout.{OPEN};
+ghost use Rattle.rules.specs.Layout.{OPEN-FILE-WIDTH};
 ghost use Rattle.rules.specs.Store.{tab, descOf};
 ghost use Rattle.rules.specs.Checks.{ofdHeld, freeFd};
 ghost use Rattle.rules.specs.Decide.{duplicated, duplicateTo, decideDuplicate};
@@ -19,7 +19,7 @@ use tables::numbers::up_one;
 use tables::open_files::references;
 
 fn duplicated_to(open_files: &[u32], e: Ofd, i: Fd) -> Decision
-    ensures { λ r. ⌜ r ≡ duplicated (tab OPEN (now («open_files» .entry))) e i ⌝ }
+    ensures { λ r. ⌜ r ≡ duplicated (tab OPEN-FILE-WIDTH (now («open_files» .entry))) e i ⌝ }
 {
     Decision::Granted(
         i.0 as u32,
@@ -29,7 +29,7 @@ fn duplicated_to(open_files: &[u32], e: Ofd, i: Fd) -> Decision
 }
 
 fn duplicate_to(open_files: &[u32], e: Ofd, i: Fd) -> Decision
-    ensures { λ r. ⌜ r ≡ duplicateTo (tab OPEN (now («open_files» .entry))) e i ⌝ }
+    ensures { λ r. ⌜ r ≡ duplicateTo (tab OPEN-FILE-WIDTH (now («open_files» .entry))) e i ⌝ }
 {
     if !is_fd(i) {
         return Decision::Refused(Refusal::TableFull, 0);
@@ -38,13 +38,13 @@ fn duplicate_to(open_files: &[u32], e: Ofd, i: Fd) -> Decision
 }
 
 fn duplicate_held(open_files: &[u32], processes: &[u32], p: Pid, i: Fd) -> Decision
-    ensures { λ r. ⌜ r ≡ duplicateTo (tab OPEN (now («open_files» .entry))) (ofdHeld (descOf (now (processes .entry))) p i) (freeFd (descOf (now (processes .entry))) p) ⌝ }
+    ensures { λ r. ⌜ r ≡ duplicateTo (tab OPEN-FILE-WIDTH (now («open_files» .entry))) (ofdHeld (descOf (now (processes .entry))) p i) (freeFd (descOf (now (processes .entry))) p) ⌝ }
 {
     duplicate_to(open_files, ofd_held(processes, p, i), free_fd(processes, p))
 }
 
 pub fn decide_duplicate(open_files: &[u32], processes: &[u32], p: Pid, i: Fd) -> Decision
-    ensures { λ r. ⌜ r ≡ decideDuplicate (tab OPEN (now («open_files» .entry))) (descOf (now (processes .entry))) p i ⌝ }
+    ensures { λ r. ⌜ r ≡ decideDuplicate (tab OPEN-FILE-WIDTH (now («open_files» .entry))) (descOf (now (processes .entry))) p i ⌝ }
 {
     if !is_held(processes, p, i) {
         return Decision::Refused(Refusal::NotHeld, 0);

@@ -1,6 +1,6 @@
 // 15. Fork: the child, and what it gets of each of its parent's descriptors.
 ghost use mathlib.Core.Path.{_≡_};
-ghost use Rattle.rules.specs.Layout.{OPEN};
+ghost use Rattle.rules.specs.Layout.{OPEN-FILE-WIDTH};
 ghost use Rattle.rules.specs.Store.{tab, procOf, descOf};
 ghost use Rattle.rules.specs.Checks.{ofdHeld, sharing, shareOf};
 ghost use Rattle.rules.specs.Decide.{forked, forkTo, decideFork};
@@ -43,20 +43,20 @@ pub fn decide_fork(processes: &[u32], p: Pid) -> Decision
 }
 
 fn share_one(open_files: &[u32], e: Ofd) -> Share
-    ensures { λ r. ⌜ r ≡ sharing (tab OPEN (now («open_files» .entry))) e ⌝ }
+    ensures { λ r. ⌜ r ≡ sharing (tab OPEN-FILE-WIDTH (now («open_files» .entry))) e ⌝ }
 {
     Share::Held(e, up_one(references(open_files, e)))
 }
 
 fn share_held(open_files: &[u32], processes: &[u32], p: Pid, i: Fd) -> Share
-    ensures { λ r. ⌜ r ≡ sharing (tab OPEN (now («open_files» .entry))) (ofdHeld (descOf (now (processes .entry))) p i) ⌝ }
+    ensures { λ r. ⌜ r ≡ sharing (tab OPEN-FILE-WIDTH (now («open_files» .entry))) (ofdHeld (descOf (now (processes .entry))) p i) ⌝ }
 {
     share_one(open_files, ofd_held(processes, p, i))
 }
 
 // What a child gets of descriptor i.
 pub fn share(open_files: &[u32], processes: &[u32], p: Pid, i: Fd) -> Share
-    ensures { λ r. ⌜ r ≡ shareOf (tab OPEN (now («open_files» .entry))) (descOf (now (processes .entry))) p i ⌝ }
+    ensures { λ r. ⌜ r ≡ shareOf (tab OPEN-FILE-WIDTH (now («open_files» .entry))) (descOf (now (processes .entry))) p i ⌝ }
 {
     if is_held(processes, p, i) {
         return share_held(open_files, processes, p, i);

@@ -5,7 +5,7 @@ ghost use mathlib.Core.List.{[], _∷_};
 ghost use Prim.Native.Nat.{_-_};
 ghost use lib.Dec.{eqb, ltb};
 ghost use Rattle.rules.specs.Choice.{every};
-ghost use Rattle.rules.specs.Layout.{FILE, OPEN, LINKS, SLOT, REFERENCES};
+ghost use Rattle.rules.specs.Layout.{FILE-WIDTH, OPEN-FILE-WIDTH, FILE-LINKS, OPEN-SLOT, OPEN-REFERENCES};
 ghost use Rattle.rules.specs.Store.{tab, descOf, slot};
 ghost use Rattle.rules.specs.Sound.{openBut};
 ghost use Rattle.rules.specs.Checks.{ofdHeld, freed, closing, dropping, releasing};
@@ -29,14 +29,14 @@ use tables::open_files::references;
 use tables::open_files::slot_of;
 
 fn has_no_links(files: &[u32], s: Slot) -> bool
-    ensures { λ r. ⌜ r ≡ eqb (tab FILE (now (files .entry)) (s .0) LINKS) 0 ⌝ }
+    ensures { λ r. ⌜ r ≡ eqb (tab FILE-WIDTH (now (files .entry)) (s .0) FILE-LINKS) 0 ⌝ }
 {
     tables::files::links(files, s) == 0
 }
 
 // The file goes with open file e: no name, and no other open file.
 fn file_goes(files: &[u32], open_files: &[u32], e: Ofd, s: Slot) -> bool
-    ensures { λ r. ⌜ r ≡ every (eqb (tab FILE (now (files .entry)) (s .0) LINKS) 0 ∷ not (openBut (tab OPEN (now («open_files» .entry))) e s) ∷ []) ⌝ }
+    ensures { λ r. ⌜ r ≡ every (eqb (tab FILE-WIDTH (now (files .entry)) (s .0) FILE-LINKS) 0 ∷ not (openBut (tab OPEN-FILE-WIDTH (now («open_files» .entry))) e s) ∷ []) ⌝ }
 {
     if !has_no_links(files, s) {
         return false;
@@ -45,14 +45,14 @@ fn file_goes(files: &[u32], open_files: &[u32], e: Ofd, s: Slot) -> bool
 }
 
 fn freed_with(files: &[u32], e: Ofd, s: Slot) -> Release
-    ensures { λ r. ⌜ r ≡ release.Freed e s (freed (tab FILE (now (files .entry))) s) ⌝ }
+    ensures { λ r. ⌜ r ≡ release.Freed e s (freed (tab FILE-WIDTH (now (files .entry))) s) ⌝ }
 {
     Release::Freed(e, s, freed_record(files, s))
 }
 
 // Open file e on slot s goes.
 fn close_last(files: &[u32], open_files: &[u32], e: Ofd, s: Slot) -> Release
-    ensures { λ r. ⌜ r ≡ closing (tab FILE (now (files .entry))) (tab OPEN (now («open_files» .entry))) e s ⌝ }
+    ensures { λ r. ⌜ r ≡ closing (tab FILE-WIDTH (now (files .entry))) (tab OPEN-FILE-WIDTH (now («open_files» .entry))) e s ⌝ }
 {
     if file_goes(files, open_files, e, s) {
         return freed_with(files, e, s);
@@ -61,26 +61,26 @@ fn close_last(files: &[u32], open_files: &[u32], e: Ofd, s: Slot) -> Release
 }
 
 fn close_last_of(files: &[u32], open_files: &[u32], e: Ofd) -> Release
-    ensures { λ r. ⌜ r ≡ closing (tab FILE (now (files .entry))) (tab OPEN (now («open_files» .entry))) e (slot (tab OPEN (now («open_files» .entry)) (e .0) SLOT)) ⌝ }
+    ensures { λ r. ⌜ r ≡ closing (tab FILE-WIDTH (now (files .entry))) (tab OPEN-FILE-WIDTH (now («open_files» .entry))) e (slot (tab OPEN-FILE-WIDTH (now («open_files» .entry)) (e .0) OPEN-SLOT)) ⌝ }
 {
     close_last(files, open_files, e, slot_of(open_files, e))
 }
 
 fn has_more(open_files: &[u32], e: Ofd) -> bool
-    ensures { λ r. ⌜ r ≡ ltb 1 (tab OPEN (now («open_files» .entry)) (e .0) REFERENCES) ⌝ }
+    ensures { λ r. ⌜ r ≡ ltb 1 (tab OPEN-FILE-WIDTH (now («open_files» .entry)) (e .0) OPEN-REFERENCES) ⌝ }
 {
     1 < references(open_files, e)
 }
 
 fn kept_one_less(open_files: &[u32], e: Ofd) -> Release
-    ensures { λ r. ⌜ r ≡ release.Kept e (tab OPEN (now («open_files» .entry)) (e .0) REFERENCES - 1) ⌝ }
+    ensures { λ r. ⌜ r ≡ release.Kept e (tab OPEN-FILE-WIDTH (now («open_files» .entry)) (e .0) OPEN-REFERENCES - 1) ⌝ }
 {
     Release::Kept(e, down_one(references(open_files, e)))
 }
 
 // Open file e loses a reference.
 fn drop_one(files: &[u32], open_files: &[u32], e: Ofd) -> Release
-    ensures { λ r. ⌜ r ≡ dropping (tab FILE (now (files .entry))) (tab OPEN (now («open_files» .entry))) e ⌝ }
+    ensures { λ r. ⌜ r ≡ dropping (tab FILE-WIDTH (now (files .entry))) (tab OPEN-FILE-WIDTH (now («open_files» .entry))) e ⌝ }
 {
     if has_more(open_files, e) {
         return kept_one_less(open_files, e);
@@ -89,14 +89,14 @@ fn drop_one(files: &[u32], open_files: &[u32], e: Ofd) -> Release
 }
 
 fn drop_held(files: &[u32], open_files: &[u32], processes: &[u32], p: Pid, i: Fd) -> Release
-    ensures { λ r. ⌜ r ≡ dropping (tab FILE (now (files .entry))) (tab OPEN (now («open_files» .entry))) (ofdHeld (descOf (now (processes .entry))) p i) ⌝ }
+    ensures { λ r. ⌜ r ≡ dropping (tab FILE-WIDTH (now (files .entry))) (tab OPEN-FILE-WIDTH (now («open_files» .entry))) (ofdHeld (descOf (now (processes .entry))) p i) ⌝ }
 {
     drop_one(files, open_files, ofd_held(processes, p, i))
 }
 
 // Descriptor i is emptied.
 pub fn release(files: &[u32], open_files: &[u32], processes: &[u32], p: Pid, i: Fd) -> Release
-    ensures { λ r. ⌜ r ≡ releasing (tab FILE (now (files .entry))) (tab OPEN (now («open_files» .entry))) (descOf (now (processes .entry))) p i ⌝ }
+    ensures { λ r. ⌜ r ≡ releasing (tab FILE-WIDTH (now (files .entry))) (tab OPEN-FILE-WIDTH (now («open_files» .entry))) (descOf (now (processes .entry))) p i ⌝ }
 {
     if is_held(processes, p, i) {
         return drop_held(files, open_files, processes, p, i);
@@ -105,7 +105,7 @@ pub fn release(files: &[u32], open_files: &[u32], processes: &[u32], p: Pid, i: 
 }
 
 fn closed_at(files: &[u32], open_files: &[u32], processes: &[u32], p: Pid, i: Fd) -> Decision
-    ensures { λ r. ⌜ r ≡ closed (tab FILE (now (files .entry))) (tab OPEN (now («open_files» .entry))) (descOf (now (processes .entry))) p i ⌝ }
+    ensures { λ r. ⌜ r ≡ closed (tab FILE-WIDTH (now (files .entry))) (tab OPEN-FILE-WIDTH (now («open_files» .entry))) (descOf (now (processes .entry))) p i ⌝ }
 {
     Decision::Granted(
         0,
@@ -115,7 +115,7 @@ fn closed_at(files: &[u32], open_files: &[u32], processes: &[u32], p: Pid, i: Fd
 }
 
 pub fn decide_close(files: &[u32], open_files: &[u32], processes: &[u32], p: Pid, i: Fd) -> Decision
-    ensures { λ r. ⌜ r ≡ decideClose (tab FILE (now (files .entry))) (tab OPEN (now («open_files» .entry))) (descOf (now (processes .entry))) p i ⌝ }
+    ensures { λ r. ⌜ r ≡ decideClose (tab FILE-WIDTH (now (files .entry))) (tab OPEN-FILE-WIDTH (now («open_files» .entry))) (descOf (now (processes .entry))) p i ⌝ }
 {
     if !is_held(processes, p, i) {
         return Decision::Refused(Refusal::NotHeld, 0);

@@ -2,7 +2,7 @@
 ghost use mathlib.Core.Path.{_≡_};
 ghost use mathlib.Core.List.{List, [], _∷_};
 ghost use Prim.Native.Nat.{ℕ};
-ghost use Rattle.rules.specs.Layout.{OFFSET};
+ghost use Rattle.rules.specs.Layout.{OPEN-OFFSET};
 ghost use Rattle.rules.specs.Store.{store, openWord, applyAll};
 ghost use Rattle.rules.specs.Effects.{openChanges, truncateChanges, releaseChanges, closeChanges, duplicateChanges, shareChanges};
 use rows::rows::clear_slot;
@@ -16,9 +16,9 @@ use rules::decision::Share;
 use rules::ids::Fd;
 use rules::ids::Ofd;
 use rules::ids::Pid;
-use tables::layout::OFFSET;
-use tables::layout::OPEN;
-use tables::layout::REFERENCES;
+use tables::layout::OPEN_FILE_WIDTH;
+use tables::layout::OPEN_OFFSET;
+use tables::layout::OPEN_REFERENCES;
 use tables::words::put;
 use tables::words::zero_words;
 
@@ -57,13 +57,25 @@ fn release_open(files: &mut [u32], contents: &mut [u8], open_files: &mut [u32], 
     match r {
         Release::Nothing => {}
         Release::Kept(e, references) => {
-            put(open_files, OPEN * (e.0 as usize) + REFERENCES, references);
+            put(
+                open_files,
+                OPEN_FILE_WIDTH * (e.0 as usize) + OPEN_REFERENCES,
+                references,
+            );
         }
         Release::Gone(e) => {
-            zero_words(open_files, OPEN * (e.0 as usize) + 0, OPEN);
+            zero_words(
+                open_files,
+                OPEN_FILE_WIDTH * (e.0 as usize) + 0,
+                OPEN_FILE_WIDTH,
+            );
         }
         Release::Freed(e, s, record) => {
-            zero_words(open_files, OPEN * (e.0 as usize) + 0, OPEN);
+            zero_words(
+                open_files,
+                OPEN_FILE_WIDTH * (e.0 as usize) + 0,
+                OPEN_FILE_WIDTH,
+            );
             clear_slot(files, contents, s, record);
         }
     }
@@ -96,7 +108,11 @@ pub fn duplicate_descriptor(
     ensures { λ _. ⌜ ((F C : List ℕ) → store F C (now («open_files» .exit)) (now (processes .exit)) ≡ applyAll (duplicateChanges p i e references) (store F C (now («open_files» .entry)) (now (processes .entry)))) ⌝ }
 {
     put_held(processes, p, i, e);
-    put(open_files, OPEN * (e.0 as usize) + REFERENCES, references);
+    put(
+        open_files,
+        OPEN_FILE_WIDTH * (e.0 as usize) + OPEN_REFERENCES,
+        references,
+    );
 }
 
 // A child gets what its parent's descriptor holds.
@@ -120,7 +136,11 @@ pub fn share_descriptor(
 }
 
 pub fn move_offset(open_files: &mut [u32], e: Ofd, offset: u32)
-    ensures { λ _. ⌜ ((F C P : List ℕ) → store F C (now («open_files» .exit)) P ≡ applyAll (openWord (e .0) OFFSET offset ∷ []) (store F C (now («open_files» .entry)) P)) ⌝ }
+    ensures { λ _. ⌜ ((F C P : List ℕ) → store F C (now («open_files» .exit)) P ≡ applyAll (openWord (e .0) OPEN-OFFSET offset ∷ []) (store F C (now («open_files» .entry)) P)) ⌝ }
 {
-    put(open_files, OPEN * (e.0 as usize) + OFFSET, offset);
+    put(
+        open_files,
+        OPEN_FILE_WIDTH * (e.0 as usize) + OPEN_OFFSET,
+        offset,
+    );
 }

@@ -7,30 +7,34 @@ ghost use Rattle.rules.specs.Store.{store, procWord, procZero, applyAll};
 ghost use Rattle.rules.specs.Effects.{forkChanges};
 use rules::ids::Pid;
 use rules::request::Subject;
-use tables::layout::PROCESS;
 use tables::layout::PROCESS_LABEL;
-use tables::layout::USED;
-use tables::layout::USER;
+use tables::layout::PROCESS_USED;
+use tables::layout::PROCESS_USER;
+use tables::layout::PROCESS_WIDTH;
 use tables::words::put;
 use tables::words::zero_words;
 
 pub fn make_process(processes: &mut [u32], child: Pid, who: Subject)
     ensures { λ _. ⌜ ((F C E : List ℕ) → store F C E (now (processes .exit)) ≡ applyAll (forkChanges child who) (store F C E (now (processes .entry)))) ⌝ }
 {
-    let at = PROCESS * (child.0 as usize);
-    put(processes, at + USED, 1);
-    put(processes, at + USER, who.user);
+    let at = PROCESS_WIDTH * (child.0 as usize);
+    put(processes, at + PROCESS_USED, 1);
+    put(processes, at + PROCESS_USER, who.user);
     put(processes, at + PROCESS_LABEL, who.label);
 }
 
 pub fn free_process(processes: &mut [u32], p: Pid)
     ensures { λ _. ⌜ ((F C E : List ℕ) → store F C E (now (processes .exit)) ≡ applyAll (procZero (p .0) ∷ []) (store F C E (now (processes .entry)))) ⌝ }
 {
-    zero_words(processes, PROCESS * (p.0 as usize) + 0, PROCESS);
+    zero_words(processes, PROCESS_WIDTH * (p.0 as usize) + 0, PROCESS_WIDTH);
 }
 
 pub fn relabel_process(processes: &mut [u32], p: Pid, label: u32)
     ensures { λ _. ⌜ ((F C E : List ℕ) → store F C E (now (processes .exit)) ≡ applyAll (procWord (p .0) PROCESS-LABEL label ∷ []) (store F C E (now (processes .entry)))) ⌝ }
 {
-    put(processes, PROCESS * (p.0 as usize) + PROCESS_LABEL, label);
+    put(
+        processes,
+        PROCESS_WIDTH * (p.0 as usize) + PROCESS_LABEL,
+        label,
+    );
 }

@@ -7,7 +7,7 @@ ghost use lib.ListN.{getD, length};
 ghost use Prim.Native.Nat.{_*_, _<_, _≤_};
 ghost use Rattle.rules.specs.Choice.{every};
 ghost use Rattle.rules.specs.Scan.{count, first};
-ghost use Rattle.rules.specs.Layout.{NAME, DIRENTS, DIRENT};
+ghost use Rattle.rules.specs.Layout.{NAME, DIRENTS, DIRENT-WIDTH};
 ghost use Rattle.rules.specs.Directories.{direntAt, isEmpty, freeDirent, differsAt, difference, precedes, isBefore, isRanked, direntRanked, isPadding, direntName};
 ghost use Rattle.tables.specs.NameWords.{lowWord, highWord};
 ghost use Rattle.directories.specs.ByWords.{hasWords, direntBy};
@@ -17,7 +17,7 @@ use tables::directories::high_at;
 use tables::directories::is_empty;
 use tables::directories::is_padding;
 use tables::directories::low_at;
-use tables::layout::DIRENT;
+use tables::layout::DIRENT_WIDTH;
 use tables::layout::DIRENTS;
 use tables::layout::NAME;
 use tables::name_words::eight_of;
@@ -28,10 +28,10 @@ use tables::words::byte;
 // The first eight bytes of entry i are those of the word.
 fn has_low(dir: &[u8], i: Dirent, low: u64) -> bool
     requires { ⌜ i .0 < DIRENTS ⌝ }
-    requires { ⌜ DIRENTS * DIRENT ≤ length (now dir) ⌝ }
+    requires { ⌜ DIRENTS * DIRENT-WIDTH ≤ length (now dir) ⌝ }
     ensures { λ r. ⌜ r ≡ eqb (lowWord (direntAt (now (dir .entry)) (i .0))) low ⌝ }
 {
-    let at = DIRENT * (i.0 as usize);
+    let at = DIRENT_WIDTH * (i.0 as usize);
     eight_of(
         dir[at],
         dir[at + 1],
@@ -48,10 +48,10 @@ fn has_low(dir: &[u8], i: Dirent, low: u64) -> bool
 // The six after them.
 fn has_high(dir: &[u8], i: Dirent, high: u64) -> bool
     requires { ⌜ i .0 < DIRENTS ⌝ }
-    requires { ⌜ DIRENTS * DIRENT ≤ length (now dir) ⌝ }
+    requires { ⌜ DIRENTS * DIRENT-WIDTH ≤ length (now dir) ⌝ }
     ensures { λ r. ⌜ r ≡ eqb (highWord (direntAt (now (dir .entry)) (i .0))) high ⌝ }
 {
-    let at = DIRENT * (i.0 as usize);
+    let at = DIRENT_WIDTH * (i.0 as usize);
     six_of(
         dir[at + 8],
         dir[at + 9],
@@ -65,7 +65,7 @@ fn has_high(dir: &[u8], i: Dirent, high: u64) -> bool
 
 // The entries of a directory that is whole: no byte is tested against its end.
 fn dirent_in_whole(dir: &[u8], low: u64, high: u64) -> Dirent
-    requires { ⌜ DIRENTS * DIRENT ≤ length (now dir) ⌝ }
+    requires { ⌜ DIRENTS * DIRENT-WIDTH ≤ length (now dir) ⌝ }
     ensures { λ r. ⌜ r ≡ direntBy (now (dir .entry)) low high ⌝ }
 {
     let mut i: u32 = 0;
@@ -119,7 +119,7 @@ fn dirent_in_part(dir: &[u8], low: u64, high: u64) -> Dirent
 pub fn dirent_by(dir: &[u8], low: u64, high: u64) -> Dirent
     ensures { λ r. ⌜ r ≡ direntBy (now (dir .entry)) low high ⌝ }
 {
-    if (DIRENTS as usize) * DIRENT <= dir.len() {
+    if (DIRENTS as usize) * DIRENT_WIDTH <= dir.len() {
         return dirent_in_whole(dir, low, high);
     }
     dirent_in_part(dir, low, high)

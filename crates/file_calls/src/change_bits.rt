@@ -1,6 +1,6 @@
 // 8. Change bits.
 ghost use mathlib.Core.Path.{_≡_};
-ghost use Rattle.rules.specs.Layout.{FILE, OWNER};
+ghost use Rattle.rules.specs.Layout.{FILE-WIDTH, FILE-OWNER};
 ghost use Rattle.rules.specs.Store.{tab, tree};
 ghost use Rattle.rules.specs.Rights.{owns};
 ghost use Rattle.rules.specs.DecidePaths.{changeBitsAt, decideChangeBits};
@@ -20,13 +20,13 @@ use rules::rights::Rights;
 use tables::files::owner;
 
 fn owns_file(files: &[u32], who: Subject, s: Slot) -> bool
-    ensures { λ r. ⌜ r ≡ owns who (tab FILE (now (files .entry)) (s .0) OWNER) ⌝ }
+    ensures { λ r. ⌜ r ≡ owns who (tab FILE-WIDTH (now (files .entry)) (s .0) FILE-OWNER) ⌝ }
 {
     rights::rights::is_owner(who, owner(files, s))
 }
 
 fn change_bits_at(files: &[u32], policy: &[u8], who: Subject, bits: Bits, s: Slot) -> Decision
-    ensures { λ r. ⌜ r ≡ changeBitsAt (now (policy .entry)) (tab FILE (now (files .entry))) who bits s ⌝ }
+    ensures { λ r. ⌜ r ≡ changeBitsAt (now (policy .entry)) (tab FILE-WIDTH (now (files .entry))) who bits s ⌝ }
 {
     if !owns_file(files, who, s) {
         return Decision::Refused(Refusal::BitsForbid, 0);

@@ -2,7 +2,7 @@
 ghost use mathlib.Core.Path.{_≡_};
 ghost use mathlib.Core.Bool.{cond};
 ghost use lib.Dec.{eqb};
-ghost use Rattle.rules.specs.Layout.{FILE, NONE};
+ghost use Rattle.rules.specs.Layout.{FILE-WIDTH, NO-TRANSITION};
 ghost use Rattle.rules.specs.Store.{tab, tree};
 ghost use Rattle.rules.specs.Rights.{moved};
 ghost use Rattle.rules.specs.DecidePaths.{executed, executeAt, decideExecute};
@@ -19,13 +19,13 @@ use rules::request::Subject;
 use rules::rights::Rights;
 use tables::files::is_plain;
 use tables::files::label;
-use tables::layout::NONE;
+use tables::layout::NO_TRANSITION;
 use tables::policy::transition_of;
 
 fn stay_or_move(l: u32, t: u32) -> u32
-    ensures { λ r. ⌜ r ≡ cond (eqb t NONE) l t ⌝ }
+    ensures { λ r. ⌜ r ≡ cond (eqb t NO-TRANSITION) l t ⌝ }
 {
-    let none = t == NONE;
+    let none = t == NO_TRANSITION;
     if none {
         return l;
     }
@@ -40,7 +40,7 @@ fn moved_label(policy: &[u8], l: u32, m: u32) -> u32
 }
 
 fn executed_at(files: &[u32], policy: &[u8], who: Subject, s: Slot) -> Decision
-    ensures { λ r. ⌜ r ≡ executed (now (policy .entry)) (tab FILE (now (files .entry))) who s ⌝ }
+    ensures { λ r. ⌜ r ≡ executed (now (policy .entry)) (tab FILE-WIDTH (now (files .entry))) who s ⌝ }
 {
     Decision::Granted(
         0,
@@ -50,7 +50,7 @@ fn executed_at(files: &[u32], policy: &[u8], who: Subject, s: Slot) -> Decision
 }
 
 fn execute_at(files: &[u32], policy: &[u8], who: Subject, s: Slot) -> Decision
-    ensures { λ r. ⌜ r ≡ executeAt (now (policy .entry)) (tab FILE (now (files .entry))) who s ⌝ }
+    ensures { λ r. ⌜ r ≡ executeAt (now (policy .entry)) (tab FILE-WIDTH (now (files .entry))) who s ⌝ }
 {
     if !is_plain(files, s) {
         return Decision::Refused(Refusal::WrongKind, 0);

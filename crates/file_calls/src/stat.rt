@@ -1,6 +1,6 @@
 // 9. Stat.
 ghost use mathlib.Core.Path.{_≡_};
-ghost use Rattle.rules.specs.Layout.{FILE};
+ghost use Rattle.rules.specs.Layout.{FILE-WIDTH};
 ghost use Rattle.rules.specs.Store.{tab, tree};
 ghost use Rattle.rules.specs.DecidePaths.{described, decideStat};
 use resolution::walk::walk_path;
@@ -13,7 +13,7 @@ use rules::request::Subject;
 use tables::files::record;
 
 fn described_at(files: &[u32], s: Slot) -> Decision
-    ensures { λ r. ⌜ r ≡ described (tab FILE (now (files .entry))) s ⌝ }
+    ensures { λ r. ⌜ r ≡ described (tab FILE-WIDTH (now (files .entry))) s ⌝ }
 {
     Decision::Granted(0, Output::Fields(record(files, s)), Effect::Nothing)
 }

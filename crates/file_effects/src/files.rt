@@ -3,19 +3,19 @@ ghost use mathlib.Core.Path.{_≡_};
 ghost use mathlib.Core.List.{List, [], _∷_};
 ghost use Prim.Native.Nat.{ℕ, _+_, _*_};
 ghost use lib.Seq.{sets};
-ghost use Rattle.rules.specs.Layout.{BITS, BLOCK};
+ghost use Rattle.rules.specs.Layout.{FILE-BITS, BLOCK};
 ghost use Rattle.rules.specs.Store.{store, zeros, fileWord, applyAll};
 ghost use Rattle.rules.specs.Effects.{storeChanges};
 use rules::decision::Placement;
 use rules::ids::Slot;
 use rules::rights::Bits;
-use tables::layout::BITS;
 use tables::layout::BLOCK;
-use tables::layout::FILE;
-use tables::layout::LENGTH;
-use tables::layout::OFFSET;
-use tables::layout::OPEN;
-use tables::layout::VERSION;
+use tables::layout::FILE_BITS;
+use tables::layout::FILE_LENGTH;
+use tables::layout::FILE_VERSION;
+use tables::layout::FILE_WIDTH;
+use tables::layout::OPEN_FILE_WIDTH;
+use tables::layout::OPEN_OFFSET;
 use tables::words::copy_bytes;
 use tables::words::put;
 use tables::words::zero_bytes;
@@ -42,13 +42,17 @@ pub fn write_bytes(
     let s = w.slot;
     let e = w.ofd;
     put_bytes(contents, data, w);
-    put(files, FILE * (s.0 as usize) + LENGTH, w.length);
-    put(files, FILE * (s.0 as usize) + VERSION, w.version);
-    put(open_files, OPEN * (e.0 as usize) + OFFSET, w.offset);
+    put(files, FILE_WIDTH * (s.0 as usize) + FILE_LENGTH, w.length);
+    put(files, FILE_WIDTH * (s.0 as usize) + FILE_VERSION, w.version);
+    put(
+        open_files,
+        OPEN_FILE_WIDTH * (e.0 as usize) + OPEN_OFFSET,
+        w.offset,
+    );
 }
 
 pub fn change_bits(files: &mut [u32], s: Slot, bits: Bits)
-    ensures { λ _. ⌜ ((C E P : List ℕ) → store (now (files .exit)) C E P ≡ applyAll (fileWord (s .0) BITS (bits .0) ∷ []) (store (now (files .entry)) C E P)) ⌝ }
+    ensures { λ _. ⌜ ((C E P : List ℕ) → store (now (files .exit)) C E P ≡ applyAll (fileWord (s .0) FILE-BITS (bits .0) ∷ []) (store (now (files .entry)) C E P)) ⌝ }
 {
-    put(files, FILE * (s.0 as usize) + BITS, bits.0);
+    put(files, FILE_WIDTH * (s.0 as usize) + FILE_BITS, bits.0);
 }

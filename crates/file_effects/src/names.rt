@@ -15,9 +15,9 @@ use rules::decision::Record;
 use rules::decision::Unnamed;
 use rules::ids::Slot;
 use tables::layout::BLOCK;
-use tables::layout::DIRENT;
-use tables::layout::FILE;
-use tables::layout::LINKS;
+use tables::layout::DIRENT_WIDTH;
+use tables::layout::FILE_LINKS;
+use tables::layout::FILE_WIDTH;
 use tables::words::put;
 use tables::words::zero_bytes;
 
@@ -39,8 +39,8 @@ fn remove_name(files: &mut [u32], contents: &mut [u8], d: DirChange)
     let i = d.dirent;
     zero_bytes(
         contents,
-        BLOCK * (dir.0 as usize) + DIRENT * (i.0 as usize),
-        DIRENT,
+        BLOCK * (dir.0 as usize) + DIRENT_WIDTH * (i.0 as usize),
+        DIRENT_WIDTH,
     );
     put_directory(files, d);
 }
@@ -71,7 +71,7 @@ pub fn link_file(
 )
     ensures { λ _. ⌜ ((E P : List ℕ) → store (now (files .exit)) (now (contents .exit)) E P ≡ applyAll (linkChanges (lastName (names (now (path .entry)))) d s links) (store (now (files .entry)) (now (contents .entry)) E P)) ⌝ }
 {
-    put(files, FILE * (s.0 as usize) + LINKS, links);
+    put(files, FILE_WIDTH * (s.0 as usize) + FILE_LINKS, links);
     add_name(files, contents, last_name(path), s, d);
 }
 
@@ -81,7 +81,7 @@ fn lose_name(files: &mut [u32], contents: &mut [u8], u: Unnamed)
 {
     match u {
         Unnamed::Kept(s, left) => {
-            put(files, FILE * (s.0 as usize) + LINKS, left);
+            put(files, FILE_WIDTH * (s.0 as usize) + FILE_LINKS, left);
         }
         Unnamed::Freed(s, freed) => {
             clear_slot(files, contents, s, freed);

@@ -3,7 +3,7 @@ ghost use mathlib.Core.Path.{_≡_};
 ghost use mathlib.Core.List.{[], _∷_};
 ghost use lib.Dec.{ltb};
 ghost use Rattle.rules.specs.Choice.{every};
-ghost use Rattle.rules.specs.Layout.{FILE, OPEN, LENGTH};
+ghost use Rattle.rules.specs.Layout.{FILE-WIDTH, OPEN-FILE-WIDTH, FILE-LENGTH};
 ghost use Rattle.rules.specs.Store.{tab, tree, descOf};
 ghost use Rattle.rules.specs.Rights.{modeOf, modeRights};
 ghost use Rattle.rules.specs.Checks.{freeFd, freeOfd};
@@ -52,7 +52,7 @@ fn rights_of(m: OpenMode) -> Rights
 
 // The record of a file that is truncated.
 fn truncate(files: &[u32], s: Slot) -> Record
-    ensures { λ r. ⌜ r ≡ truncated (tab FILE (now (files .entry))) s ⌝ }
+    ensures { λ r. ⌜ r ≡ truncated (tab FILE-WIDTH (now (files .entry))) s ⌝ }
 {
     Record {
         kind: PLAIN,
@@ -77,14 +77,14 @@ fn new_open(s: Slot, m: OpenMode, i: Fd, e: Ofd) -> NewOpen
 }
 
 fn has_bytes(files: &[u32], s: Slot) -> bool
-    ensures { λ r. ⌜ r ≡ ltb 0 (tab FILE (now (files .entry)) (s .0) LENGTH) ⌝ }
+    ensures { λ r. ⌜ r ≡ ltb 0 (tab FILE-WIDTH (now (files .entry)) (s .0) FILE-LENGTH) ⌝ }
 {
     0 < tables::files::length(files, s)
 }
 
 // An empty file is not truncated.
 fn is_truncated(files: &[u32], s: Slot, truncating: bool) -> bool
-    ensures { λ r. ⌜ r ≡ every (truncating ∷ ltb 0 (tab FILE (now (files .entry)) (s .0) LENGTH) ∷ []) ⌝ }
+    ensures { λ r. ⌜ r ≡ every (truncating ∷ ltb 0 (tab FILE-WIDTH (now (files .entry)) (s .0) FILE-LENGTH) ∷ []) ⌝ }
 {
     if !truncating {
         return false;
@@ -93,7 +93,7 @@ fn is_truncated(files: &[u32], s: Slot, truncating: bool) -> bool
 }
 
 fn truncated_open(files: &[u32], s: Slot, m: OpenMode, i: Fd, e: Ofd) -> Effect
-    ensures { λ r. ⌜ r ≡ effect.Truncated (newOpen s m i e) (truncated (tab FILE (now (files .entry))) s) ⌝ }
+    ensures { λ r. ⌜ r ≡ effect.Truncated (newOpen s m i e) (truncated (tab FILE-WIDTH (now (files .entry))) s) ⌝ }
 {
     Effect::Truncated(new_open(s, m, i, e), truncate(files, s))
 }
@@ -105,7 +105,7 @@ fn plain_open(s: Slot, m: OpenMode, i: Fd, e: Ofd) -> Effect
 }
 
 fn open_effect(files: &[u32], s: Slot, m: OpenMode, truncating: bool, i: Fd, e: Ofd) -> Effect
-    ensures { λ r. ⌜ r ≡ opening (tab FILE (now (files .entry))) s m truncating i e ⌝ }
+    ensures { λ r. ⌜ r ≡ opening (tab FILE-WIDTH (now (files .entry))) s m truncating i e ⌝ }
 {
     if is_truncated(files, s, truncating) {
         return truncated_open(files, s, m, i, e);
@@ -114,7 +114,7 @@ fn open_effect(files: &[u32], s: Slot, m: OpenMode, truncating: bool, i: Fd, e: 
 }
 
 fn opened_at(files: &[u32], s: Slot, m: OpenMode, truncating: bool, i: Fd, e: Ofd) -> Decision
-    ensures { λ r. ⌜ r ≡ opened (tab FILE (now (files .entry))) s m truncating i e ⌝ }
+    ensures { λ r. ⌜ r ≡ opened (tab FILE-WIDTH (now (files .entry))) s m truncating i e ⌝ }
 {
     Decision::Granted(
         i.0 as u32,
@@ -124,7 +124,7 @@ fn opened_at(files: &[u32], s: Slot, m: OpenMode, truncating: bool, i: Fd, e: Of
 }
 
 fn open_room(files: &[u32], s: Slot, m: OpenMode, truncating: bool, i: Fd, e: Ofd) -> Decision
-    ensures { λ r. ⌜ r ≡ openRoom (tab FILE (now (files .entry))) s m truncating i e ⌝ }
+    ensures { λ r. ⌜ r ≡ openRoom (tab FILE-WIDTH (now (files .entry))) s m truncating i e ⌝ }
 {
     if !is_fd(i) {
         return Decision::Refused(Refusal::TableFull, 0);
@@ -144,7 +144,7 @@ fn open_free(
     truncating: bool,
     s: Slot,
 ) -> Decision
-    ensures { λ r. ⌜ r ≡ openRoom (tab FILE (now (files .entry))) s m truncating (freeFd (descOf (now (processes .entry))) p) (freeOfd (tab OPEN (now («open_files» .entry)))) ⌝ }
+    ensures { λ r. ⌜ r ≡ openRoom (tab FILE-WIDTH (now (files .entry))) s m truncating (freeFd (descOf (now (processes .entry))) p) (freeOfd (tab OPEN-FILE-WIDTH (now («open_files» .entry)))) ⌝ }
 {
     open_room(
         files,
@@ -167,7 +167,7 @@ fn open_file(
     truncating: bool,
     s: Slot,
 ) -> Decision
-    ensures { λ r. ⌜ r ≡ openFile (now (policy .entry)) (tab FILE (now (files .entry))) (tab OPEN (now («open_files» .entry))) (descOf (now (processes .entry))) p who m truncating s ⌝ }
+    ensures { λ r. ⌜ r ≡ openFile (now (policy .entry)) (tab FILE-WIDTH (now (files .entry))) (tab OPEN-FILE-WIDTH (now («open_files» .entry))) (descOf (now (processes .entry))) p who m truncating s ⌝ }
 {
     if !is_plain(files, s) {
         return Decision::Refused(Refusal::WrongKind, 0);
@@ -192,7 +192,7 @@ fn open_mode(
     m: ModeNumber,
     s: Slot,
 ) -> Decision
-    ensures { λ r. ⌜ r ≡ openMode (now (policy .entry)) (tab FILE (now (files .entry))) (tab OPEN (now («open_files» .entry))) (descOf (now (processes .entry))) p who m s ⌝ }
+    ensures { λ r. ⌜ r ≡ openMode (now (policy .entry)) (tab FILE-WIDTH (now (files .entry))) (tab OPEN-FILE-WIDTH (now («open_files» .entry))) (descOf (now (processes .entry))) p who m s ⌝ }
 {
     match m {
         ModeNumber::Keep(k) => open_file(files, open_files, processes, policy, p, who, k, false, s),
@@ -222,7 +222,7 @@ pub fn decide_open(
     n: u32,
     path: &[u8],
 ) -> Decision
-    ensures { λ r. ⌜ r ≡ decideOpen (now (policy .entry)) (tree (now (files .entry)) (now (contents .entry))) (tab OPEN (now («open_files» .entry))) (descOf (now (processes .entry))) p who n (now (path .entry)) ⌝ }
+    ensures { λ r. ⌜ r ≡ decideOpen (now (policy .entry)) (tree (now (files .entry)) (now (contents .entry))) (tab OPEN-FILE-WIDTH (now («open_files» .entry))) (descOf (now (processes .entry))) p who n (now (path .entry)) ⌝ }
 {
     match walk_path(files, contents, policy, who, path) {
         Walk::Reached(at) => open_mode(

@@ -9,7 +9,7 @@ use lib.Dec.{eqb, ltb}
 use lib.ListN.{length}
 use borrow.Author.Tests.{eqb-true, eqb-false}
 use Rattle.rules.specs.Choice.{every}
-use Rattle.rules.specs.Layout.{LENGTH, PLAIN, DIRECTORY, SLOT}
+use Rattle.rules.specs.Layout.{FILE-LENGTH, PLAIN, DIRECTORY, OPEN-SLOT}
 use Rattle.rules.specs.Store.{Store, view, isDirent}
 use Rattle.rules.specs.Rights.{TRUNCATE}
 use Rattle.rules.specs.Walk.{walkPath}
@@ -61,7 +61,7 @@ module _ (Q : List ℕ) (s : Store) (c : Call) where
 
   -- one that writes to it
   abbrev pub AsksWrite : (k f : ℕ) → Type 0
-  AsksWrite k f = (k ≡ 12) × ((0 < length (c .«data»)) × (view s .openFiles (ofdHeld (view s .desc) (c .process) (c .fd) .0) SLOT ≡ f))
+  AsksWrite k f = (k ≡ 12) × ((0 < length (c .«data»)) × (view s .openFiles (ofdHeld (view s .desc) (c .process) (c .fd) .0) OPEN-SLOT ≡ f))
 
   -- k is the call's number
   unfoldable pub Asked : (k n : ℕ) → Output → Effect → Type 0
@@ -90,7 +90,7 @@ module _ (Q : List ℕ) (s : Store) (c : Call) where
   file-fit : (k : ℕ) (m : OpenMode) (b : Bool) (y : Slot) → (b ≡ true → AsksTruncation k (y .0)) →
       Fit (Asked k) (openFile Q (view s .tree .file) (view s .openFiles) (view s .desc) (c .process) (asker (view s) c) m b y)
   unfolding openFile openRoom opening Asked
-  file-fit k m b y f = need-fit _ _ _ (λ _. need-fit _ _ _ (λ _. need-fit _ _ _ (λ _. need-fit _ _ _ (λ _. need-fit _ _ _ (λ _. granting _ _ _ (by b f (ltb 0 (view s .tree .file (y .0) LENGTH)) _ _))))))
+  file-fit k m b y f = need-fit _ _ _ (λ _. need-fit _ _ _ (λ _. need-fit _ _ _ (λ _. need-fit _ _ _ (λ _. need-fit _ _ _ (λ _. granting _ _ _ (by b f (ltb 0 (view s .tree .file (y .0) FILE-LENGTH)) _ _))))))
     where
       by : (b : Bool) → (b ≡ true → AsksTruncation k (y .0)) → (t : Bool) (i : Fd) (e : Ofd) →
           Asked k (i .0) output.Nothing (cond (every (b ∷ t ∷ [])) (effect.Truncated (newOpen y m i e) (truncated (view s .tree .file) y)) (effect.Opened (newOpen y m i e)))

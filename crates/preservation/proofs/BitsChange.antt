@@ -5,7 +5,7 @@ use mathlib.Core.Logic.{_⊎_, inl, inr}
 use mathlib.Core.List.{List}
 use Prim.Native.Nat.{ℕ, _-_}
 use native.Mathlib.Decide.{ℕ-discrete}
-use Rattle.rules.specs.Layout.{KIND, OWNER, BITS, FREE}
+use Rattle.rules.specs.Layout.{FILE-KIND, FILE-OWNER, FILE-BITS, FREE}
 use Rattle.rules.specs.Store.{Store, view, slot, subjectOf}
 use Rattle.rules.specs.Refusals.{GRANTED}
 use Rattle.rules.specs.Rights.{owns}
@@ -42,15 +42,15 @@ use Rattle.preservation.proofs.TestedOnce.{step-by}
 module _ (s : Store) (h : SoundStore s) (c : Call) (f : ℕ) where
   -- the effect that changes the bits of f
   data OfBits : Effect → Type 0 where
-    of-bits : (y : Slot) (b : Bits) → f ≡ y .0 → owns (subjectOf (view s .proc) (c .process)) (view s .tree .file (y .0) OWNER) ≡ true → OfBits (effect.BitsChanged y b)
+    of-bits : (y : Slot) (b : Bits) → f ≡ y .0 → owns (subjectOf (view s .proc) (c .process)) (view s .tree .file (y .0) FILE-OWNER) ≡ true → OfBits (effect.BitsChanged y b)
 
   -- where f is in use before and in t, and its bits differ, C holds
   abbrev Differ : Store → Type 0 → Type 0
-  Differ t C = (tablesOf s .file f KIND ≡ FREE → ⊥) → (tablesOf t .file f KIND ≡ FREE → ⊥) → (tablesOf t .file f BITS ≡ tablesOf s .file f BITS → ⊥) → C
+  Differ t C = (tablesOf s .file f FILE-KIND ≡ FREE → ⊥) → (tablesOf t .file f FILE-KIND ≡ FREE → ⊥) → (tablesOf t .file f FILE-BITS ≡ tablesOf s .file f FILE-BITS → ⊥) → C
 
   -- slot f is free, or its bits are what they were
   abbrev Left : Tables → Type 0
-  Left m = (m .file f KIND ≡ FREE) ⊎ (m .file f BITS ≡ tablesOf s .file f BITS)
+  Left m = (m .file f FILE-KIND ≡ FREE) ⊎ (m .file f FILE-BITS ≡ tablesOf s .file f FILE-BITS)
 
   left : {C : Type 0} (t : Store) → Left (tablesOf t) → Differ t C
   left t (inl q) a b n = absurd (b q)
@@ -59,17 +59,17 @@ module _ (s : Store) (h : SoundStore s) (c : Call) (f : ℕ) where
   leaves : {C : Type 0} {t : Store} {m : Tables} → Leaves t m → Left m → Differ t C
   leaves {t = t} {m = m} l y = left t (rw (l .has .is) y)
 
-  leaves-bits : {C : Type 0} {t : Store} {m : Tables} → Leaves t m → m .file f BITS ≡ tablesOf s .file f BITS → Differ t C
+  leaves-bits : {C : Type 0} {t : Store} {m : Tables} → Leaves t m → m .file f FILE-BITS ≡ tablesOf s .file f FILE-BITS → Differ t C
   leaves-bits l y = leaves l (inr y)
 
   steadily : {C : Type 0} (t : Store) → Steady (tablesOf s) (tablesOf t) → Differ t C
   steadily t y = left t (by (y f))
     where
-      by : (tablesOf t .file f KIND ≡ FREE) ⊎ ((tablesOf t .file f ≡ tablesOf s .file f) × (tablesOf t .byte f ≡ tablesOf s .byte f)) → Left (tablesOf t)
+      by : (tablesOf t .file f FILE-KIND ≡ FREE) ⊎ ((tablesOf t .file f ≡ tablesOf s .file f) × (tablesOf t .byte f ≡ tablesOf s .byte f)) → Left (tablesOf t)
       by (inl e) = inl e
-      by (inr e) = inr (ap (λ (r : ℕ → ℕ). r BITS) (e .0))
+      by (inr e) = inr (ap (λ (r : ℕ → ℕ). r FILE-BITS) (e .0))
 
-  truncate-bits : (y : ℕ) (row : ℕ → ℕ) (m : Tables) → m .file f BITS ≡ tablesOf s .file f BITS → row BITS ≡ tablesOf s .file y BITS → remade y row (λ _. 0) m .file f BITS ≡ tablesOf s .file f BITS
+  truncate-bits : (y : ℕ) (row : ℕ → ℕ) (m : Tables) → m .file f FILE-BITS ≡ tablesOf s .file f FILE-BITS → row FILE-BITS ≡ tablesOf s .file y FILE-BITS → remade y row (λ _. 0) m .file f FILE-BITS ≡ tablesOf s .file f FILE-BITS
   unfolding remade
   truncate-bits y row m e r = split f y (λ q t. rw (t, q) r) (λ q t. rw t e)
 
@@ -98,28 +98,28 @@ module _ (s : Store) (h : SoundStore s) (c : Call) (f : ℕ) where
   changes-bits (reads e n o l) = leaves-bits (move-leaves s h e _ o (read-fits s h c e n l)) refl
   changes-bits (seeks e n o l) = leaves-bits (move-leaves s h e n o l) refl
   changes-bits (duplicates i j e o hj g) = unfold tablesOf in leaves-bits (duplicate-leaves s h (c .process) i j e o hj g) (unfold shared handed in refl)
-  changes-bits (forks q u hq g) = let w = forking s h c q u hq g in leaves-bits (w .leaves) (ap (λ (t : ℕ → ℕ → ℕ). t f BITS) (w .files-same))
+  changes-bits (forks q u hq g) = let w = forking s h c q u hq g in leaves-bits (w .leaves) (ap (λ (t : ℕ → ℕ → ℕ). t f FILE-BITS) (w .files-same))
   changes-bits (exits u) = steadily _ (exit-leaves s h (c .process) (u .small) (u .used) .steady)
   changes-bits (executes l u hl) = leaves-bits (execute-leaves s h (c .process) l u hl) refl
 
   -- ---- who asks, and by which call
 
-  owner-or-0 : (y : ℕ) → owns (subjectOf (view s .proc) (c .process)) (view s .tree .file y OWNER) ≡ true → (callerUser s c ≡ 0) ⊎ (callerUser s c ≡ word s y OWNER)
+  owner-or-0 : (y : ℕ) → owns (subjectOf (view s .proc) (c .process)) (view s .tree .file y FILE-OWNER) ≡ true → (callerUser s c ≡ 0) ⊎ (callerUser s c ≡ word s y FILE-OWNER)
   unfolding owns
   owner-or-0 y t = by (ℕ-discrete (callerUser s c) 0)
     where
-      by : Dec (callerUser s c ≡ 0) → (callerUser s c ≡ 0) ⊎ (callerUser s c ≡ view s .tree .file y OWNER)
+      by : Dec (callerUser s c ≡ 0) → (callerUser s c ≡ 0) ⊎ (callerUser s c ≡ view s .tree .file y FILE-OWNER)
       by (yes e) = inl e
-      by (no n) = inr (means-or (means-eq (callerUser s c) 0) (means-eq (callerUser s c) (view s .tree .file y OWNER)) .holds t n)
+      by (no n) = inr (means-or (means-eq (callerUser s c) 0) (means-eq (callerUser s c) (view s .tree .file y FILE-OWNER)) .holds t n)
 
-  asks : (Q : List ℕ) (n : ℕ) (o : Output) {e : Effect} → OfBits e → Asked Q s c (c .call) n o e → (c .call ≡ 8) × ((callerUser s c ≡ 0) ⊎ (callerUser s c ≡ word s f OWNER))
+  asks : (Q : List ℕ) (n : ℕ) (o : Output) {e : Effect} → OfBits e → Asked Q s c (c .call) n o e → (c .call ≡ 8) × ((callerUser s c ≡ 0) ⊎ (callerUser s c ≡ word s f FILE-OWNER))
   unfolding Asked
   asks Q n p (of-bits y b q o) k = (k, rw q (owner-or-0 (y .0) o))
 
 -- what is claimed of the call that ends in x
 abbrev ByCall8 : Store → Call → ℕ → Outcome → Type 0
-ByCall8 s c f x = (word s f KIND ≡ FREE → ⊥) → (word (x .store) f KIND ≡ FREE → ⊥) → (word (x .store) f BITS ≡ word s f BITS → ⊥) →
-    (x .reply .refusal ≡ GRANTED) × ((c .call ≡ 8) × ((callerUser s c ≡ 0) ⊎ (callerUser s c ≡ word s f OWNER)))
+ByCall8 s c f x = (word s f FILE-KIND ≡ FREE → ⊥) → (word (x .store) f FILE-KIND ≡ FREE → ⊥) → (word (x .store) f FILE-BITS ≡ word s f FILE-BITS → ⊥) →
+    (x .reply .refusal ≡ GRANTED) × ((c .call ≡ 8) × ((callerUser s c ≡ 0) ⊎ (callerUser s c ≡ word s f FILE-OWNER)))
 
 decided : (Q : List ℕ) (s : Store) (h : SoundStore s) (c : Call) (f : ℕ) {d : Decision} → Fit (Granting s h c) d → Fit (Asked Q s c (c .call)) d → ByCall8 s c f (outcomeOf s c d)
 unfolding outcomeOf replyTo storeAfter tablesOf Of

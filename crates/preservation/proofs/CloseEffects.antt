@@ -9,7 +9,7 @@ use native.Mathlib.Omega.{arith}
 use native.Mathlib.Decide.{decLt, ℕ-discrete}
 use lib.Dec.{eqb, ltb}
 use borrow.Author.Tests.{eq-eqb, ne-eqb, ltb-true, ltb-false}
-use Rattle.rules.specs.Layout.{SLOTS, OPEN-FILES, PROCESSES, DESCRIPTORS, KIND, LINKS, VERSION, SLOT, REFERENCES, USED, FREE}
+use Rattle.rules.specs.Layout.{SLOTS, OPEN-FILES, PROCESSES, DESCRIPTORS, FILE-KIND, FILE-LINKS, FILE-VERSION, OPEN-SLOT, OPEN-REFERENCES, PROCESS-USED, FREE}
 use Rattle.rules.specs.Choice.{every}
 use Rattle.rules.specs.Scan.{repeat}
 use Rattle.rules.specs.Store.{Store, view, slot, ofdOf, up, applyAll, change, procZero, fdOf}
@@ -45,58 +45,58 @@ use Rattle.preservation.proofs.OpenEffects.{Leaves, leaves-sound, its-t
 module _ (s : Store) (h : SoundStore s) (p : Pid) (i : Fd) where
   pub data Releasing : Release → Type 0 where
     nothing : tablesOf s .desc (p .0) (i .0) ≡ 0 → Releasing release.Nothing
-    keeps : (e : ℕ) → tablesOf s .desc (p .0) (i .0) ≡ e + 1 → 1 < tablesOf s .openFiles e REFERENCES → Releasing (release.Kept (ofdOf e) (view s .openFiles e REFERENCES - 1))
-    named : (e : ℕ) → tablesOf s .desc (p .0) (i .0) ≡ e + 1 → tablesOf s .openFiles e REFERENCES ≡ 1 → 0 < tablesOf s .file (tablesOf s .openFiles e SLOT) LINKS → Releasing (release.Gone (ofdOf e))
-    stays : (e : ℕ) → tablesOf s .desc (p .0) (i .0) ≡ e + 1 → tablesOf s .openFiles e REFERENCES ≡ 1 → (j : ℕ) → j < OPEN-FILES → (j ≡ e → ⊥) → (tablesOf s .openFiles j REFERENCES ≡ 0 → ⊥) →
-        tablesOf s .openFiles j SLOT ≡ tablesOf s .openFiles e SLOT → Releasing (release.Gone (ofdOf e))
-    frees : (e : ℕ) → tablesOf s .desc (p .0) (i .0) ≡ e + 1 → tablesOf s .openFiles e REFERENCES ≡ 1 → tablesOf s .file (tablesOf s .openFiles e SLOT) LINKS ≡ 0 →
-        ((j : ℕ) → j < OPEN-FILES → (j ≡ e → ⊥) → (tablesOf s .openFiles j REFERENCES ≡ 0 → ⊥) → tablesOf s .openFiles j SLOT ≡ tablesOf s .openFiles e SLOT → ⊥) →
-        Releasing (release.Freed (ofdOf e) (slot (view s .openFiles e SLOT)) (checks.freed (view s .tree .file) (slot (view s .openFiles e SLOT))))
+    keeps : (e : ℕ) → tablesOf s .desc (p .0) (i .0) ≡ e + 1 → 1 < tablesOf s .openFiles e OPEN-REFERENCES → Releasing (release.Kept (ofdOf e) (view s .openFiles e OPEN-REFERENCES - 1))
+    named : (e : ℕ) → tablesOf s .desc (p .0) (i .0) ≡ e + 1 → tablesOf s .openFiles e OPEN-REFERENCES ≡ 1 → 0 < tablesOf s .file (tablesOf s .openFiles e OPEN-SLOT) FILE-LINKS → Releasing (release.Gone (ofdOf e))
+    stays : (e : ℕ) → tablesOf s .desc (p .0) (i .0) ≡ e + 1 → tablesOf s .openFiles e OPEN-REFERENCES ≡ 1 → (j : ℕ) → j < OPEN-FILES → (j ≡ e → ⊥) → (tablesOf s .openFiles j OPEN-REFERENCES ≡ 0 → ⊥) →
+        tablesOf s .openFiles j OPEN-SLOT ≡ tablesOf s .openFiles e OPEN-SLOT → Releasing (release.Gone (ofdOf e))
+    frees : (e : ℕ) → tablesOf s .desc (p .0) (i .0) ≡ e + 1 → tablesOf s .openFiles e OPEN-REFERENCES ≡ 1 → tablesOf s .file (tablesOf s .openFiles e OPEN-SLOT) FILE-LINKS ≡ 0 →
+        ((j : ℕ) → j < OPEN-FILES → (j ≡ e → ⊥) → (tablesOf s .openFiles j OPEN-REFERENCES ≡ 0 → ⊥) → tablesOf s .openFiles j OPEN-SLOT ≡ tablesOf s .openFiles e OPEN-SLOT → ⊥) →
+        Releasing (release.Freed (ofdOf e) (slot (view s .openFiles e OPEN-SLOT)) (checks.freed (view s .tree .file) (slot (view s .openFiles e OPEN-SLOT))))
 
   module _ (hp : p .0 < PROCESSES) (hi : i .0 < DESCRIPTORS) where
-    closing-is : (e : ℕ) → tablesOf s .desc (p .0) (i .0) ≡ e + 1 → tablesOf s .openFiles e REFERENCES ≡ 1 → Releasing (closing (view s .tree .file) (view s .openFiles) (ofdOf e) (slot (view s .openFiles e SLOT)))
+    closing-is : (e : ℕ) → tablesOf s .desc (p .0) (i .0) ≡ e + 1 → tablesOf s .openFiles e OPEN-REFERENCES ≡ 1 → Releasing (closing (view s .tree .file) (view s .openFiles) (ofdOf e) (slot (view s .openFiles e OPEN-SLOT)))
     unfolding closing tablesOf
-    closing-is e d r = by (every (eqb (view s .tree .file (view s .openFiles e SLOT) LINKS) 0 ∷ not (openBut (view s .openFiles) (ofdOf e) (slot (view s .openFiles e SLOT))) ∷ [])) refl
+    closing-is e d r = by (every (eqb (view s .tree .file (view s .openFiles e OPEN-SLOT) FILE-LINKS) 0 ∷ not (openBut (view s .openFiles) (ofdOf e) (slot (view s .openFiles e OPEN-SLOT))) ∷ [])) refl
       where
-        open-elsewhere : openBut (view s .openFiles) (ofdOf e) (slot (view s .openFiles e SLOT)) ≡ true → Releasing (release.Gone (ofdOf e))
+        open-elsewhere : openBut (view s .openFiles) (ofdOf e) (slot (view s .openFiles e OPEN-SLOT)) ≡ true → Releasing (release.Gone (ofdOf e))
         open-elsewhere t =
-            let f = any-found (isOn (view s .openFiles) (ofdOf e) (slot (view s .openFiles e SLOT))) OPEN-FILES (unfold openBut in t) in
-            let w = means-on (view s .openFiles) e (view s .openFiles e SLOT) (f .at) .holds (f .passes) in
+            let f = any-found (isOn (view s .openFiles) (ofdOf e) (slot (view s .openFiles e OPEN-SLOT))) OPEN-FILES (unfold openBut in t) in
+            let w = means-on (view s .openFiles) e (view s .openFiles e OPEN-SLOT) (f .at) .holds (f .passes) in
             stays e d r (f .at) (f .small) (w .0) (w .1 .0) (w .1 .1)
 
-        nowhere : openBut (view s .openFiles) (ofdOf e) (slot (view s .openFiles e SLOT)) ≡ false → (j : ℕ) → j < OPEN-FILES → (j ≡ e → ⊥) → (view s .openFiles j REFERENCES ≡ 0 → ⊥) → view s .openFiles j SLOT ≡ view s .openFiles e SLOT → ⊥
-        nowhere t j hj n a b = false≢true (sym (any-none (isOn (view s .openFiles) (ofdOf e) (slot (view s .openFiles e SLOT))) OPEN-FILES (unfold openBut in t) j hj) ∙ means-on (view s .openFiles) e (view s .openFiles e SLOT) j .tests (n, (a, b)))
+        nowhere : openBut (view s .openFiles) (ofdOf e) (slot (view s .openFiles e OPEN-SLOT)) ≡ false → (j : ℕ) → j < OPEN-FILES → (j ≡ e → ⊥) → (view s .openFiles j OPEN-REFERENCES ≡ 0 → ⊥) → view s .openFiles j OPEN-SLOT ≡ view s .openFiles e OPEN-SLOT → ⊥
+        nowhere t j hj n a b = false≢true (sym (any-none (isOn (view s .openFiles) (ofdOf e) (slot (view s .openFiles e OPEN-SLOT))) OPEN-FILES (unfold openBut in t) j hj) ∙ means-on (view s .openFiles) e (view s .openFiles e OPEN-SLOT) j .tests (n, (a, b)))
 
-        gone : (b : Bool) → openBut (view s .openFiles) (ofdOf e) (slot (view s .openFiles e SLOT)) ≡ b → Dec (view s .tree .file (view s .openFiles e SLOT) LINKS ≡ 0) →
-            every (eqb (view s .tree .file (view s .openFiles e SLOT) LINKS) 0 ∷ not (openBut (view s .openFiles) (ofdOf e) (slot (view s .openFiles e SLOT))) ∷ []) ≡ false → Releasing (release.Gone (ofdOf e))
+        gone : (b : Bool) → openBut (view s .openFiles) (ofdOf e) (slot (view s .openFiles e OPEN-SLOT)) ≡ b → Dec (view s .tree .file (view s .openFiles e OPEN-SLOT) FILE-LINKS ≡ 0) →
+            every (eqb (view s .tree .file (view s .openFiles e OPEN-SLOT) FILE-LINKS) 0 ∷ not (openBut (view s .openFiles) (ofdOf e) (slot (view s .openFiles e OPEN-SLOT))) ∷ []) ≡ false → Releasing (release.Gone (ofdOf e))
         gone true t q z = open-elsewhere t
         gone false t (no n) z = named e d r (omega arith)
-        gone false t (yes q) z = absurd (false≢true (sym z ∙ unfold every in rw (eq-eqb (view s .tree .file (view s .openFiles e SLOT) LINKS) 0 q, t)))
+        gone false t (yes q) z = absurd (false≢true (sym z ∙ unfold every in rw (eq-eqb (view s .tree .file (view s .openFiles e OPEN-SLOT) FILE-LINKS) 0 q, t)))
 
-        by : (b : Bool) → every (eqb (view s .tree .file (view s .openFiles e SLOT) LINKS) 0 ∷ not (openBut (view s .openFiles) (ofdOf e) (slot (view s .openFiles e SLOT))) ∷ []) ≡ b →
-            Releasing (cond b (release.Freed (ofdOf e) (slot (view s .openFiles e SLOT)) (checks.freed (view s .tree .file) (slot (view s .openFiles e SLOT)))) (release.Gone (ofdOf e)))
+        by : (b : Bool) → every (eqb (view s .tree .file (view s .openFiles e OPEN-SLOT) FILE-LINKS) 0 ∷ not (openBut (view s .openFiles) (ofdOf e) (slot (view s .openFiles e OPEN-SLOT))) ∷ []) ≡ b →
+            Releasing (cond b (release.Freed (ofdOf e) (slot (view s .openFiles e OPEN-SLOT)) (checks.freed (view s .tree .file) (slot (view s .openFiles e OPEN-SLOT)))) (release.Gone (ofdOf e)))
         by true t =
-            let w = means-every (means-and (means-eq (view s .tree .file (view s .openFiles e SLOT) LINKS) 0) (means-last (means-eq-test (openBut (view s .openFiles) (ofdOf e) (slot (view s .openFiles e SLOT)))))) .holds t in
+            let w = means-every (means-and (means-eq (view s .tree .file (view s .openFiles e OPEN-SLOT) FILE-LINKS) 0) (means-last (means-eq-test (openBut (view s .openFiles) (ofdOf e) (slot (view s .openFiles e OPEN-SLOT)))))) .holds t in
             frees e d r (w .0) (nowhere (w .1))
           where
             means-eq-test : (b : Bool) → Means (not b) (b ≡ false)
             means-eq-test true = record { holds = λ q. absurd (false≢true q); tests = λ q. absurd (true≢false q) }
             means-eq-test false = record { holds = λ _. refl; tests = λ _. refl }
-        by false t = gone (openBut (view s .openFiles) (ofdOf e) (slot (view s .openFiles e SLOT))) refl (ℕ-discrete (view s .tree .file (view s .openFiles e SLOT) LINKS) 0) t
+        by false t = gone (openBut (view s .openFiles) (ofdOf e) (slot (view s .openFiles e OPEN-SLOT))) refl (ℕ-discrete (view s .tree .file (view s .openFiles e OPEN-SLOT) FILE-LINKS) 0) t
 
     dropping-is : (e : ℕ) → tablesOf s .desc (p .0) (i .0) ≡ e + 1 → Releasing (dropping (view s .tree .file) (view s .openFiles) (ofdOf e))
     unfolding dropping
-    dropping-is e d = by (ltb 1 (view s .openFiles e REFERENCES)) refl
+    dropping-is e d = by (ltb 1 (view s .openFiles e OPEN-REFERENCES)) refl
       where
         o : Held (tablesOf s) e
         o = word.held SLOTS (tablesOf s) (h .tables) (p .0) (i .0) e hp hi d
 
-        by : (b : Bool) → ltb 1 (view s .openFiles e REFERENCES) ≡ b → Releasing (cond b (release.Kept (ofdOf e) (view s .openFiles e REFERENCES - 1)) (closing (view s .tree .file) (view s .openFiles) (ofdOf e) (slot (view s .openFiles e SLOT))))
-        by true t = keeps e d (unfold tablesOf in ltb-true 1 (view s .openFiles e REFERENCES) t)
-        by false t = closing-is e d (one (ltb-false 1 (view s .openFiles e REFERENCES) t))
+        by : (b : Bool) → ltb 1 (view s .openFiles e OPEN-REFERENCES) ≡ b → Releasing (cond b (release.Kept (ofdOf e) (view s .openFiles e OPEN-REFERENCES - 1)) (closing (view s .tree .file) (view s .openFiles) (ofdOf e) (slot (view s .openFiles e OPEN-SLOT))))
+        by true t = keeps e d (unfold tablesOf in ltb-true 1 (view s .openFiles e OPEN-REFERENCES) t)
+        by false t = closing-is e d (one (ltb-false 1 (view s .openFiles e OPEN-REFERENCES) t))
           where
-            one : view s .openFiles e REFERENCES ≤ 1 → tablesOf s .openFiles e REFERENCES ≡ 1
-            one l = let n : tablesOf s .openFiles e REFERENCES ≡ 0 → ⊥ = o .open-refs in let q : tablesOf s .openFiles e REFERENCES ≤ 1 = unfold tablesOf in l in omega arith
+            one : view s .openFiles e OPEN-REFERENCES ≤ 1 → tablesOf s .openFiles e OPEN-REFERENCES ≡ 1
+            one l = let n : tablesOf s .openFiles e OPEN-REFERENCES ≡ 0 → ⊥ = o .open-refs in let q : tablesOf s .openFiles e OPEN-REFERENCES ≤ 1 = unfold tablesOf in l in omega arith
 
     pub releasing-is : Releasing (releasing (view s .tree .file) (view s .openFiles) (view s .desc) p i)
     unfolding releasing held
@@ -110,9 +110,9 @@ module _ (s : Store) (h : SoundStore s) (p : Pid) (i : Fd) where
 
 -- each slot is freed, or has the record and the bytes that it had
 abbrev pub Steady : Tables → Tables → Type 0
-Steady m n = (f : ℕ) → (n .file f KIND ≡ FREE) ⊎ ((n .file f ≡ m .file f) × (n .byte f ≡ m .byte f))
+Steady m n = (f : ℕ) → (n .file f FILE-KIND ≡ FREE) ⊎ ((n .file f ≡ m .file f) × (n .byte f ≡ m .byte f))
 
-steady-freed : (m : Tables) (y : ℕ) (row g : ℕ → ℕ) → row KIND ≡ FREE → Steady m (remade y row g m)
+steady-freed : (m : Tables) (y : ℕ) (row g : ℕ → ℕ) → row FILE-KIND ≡ FREE → Steady m (remade y row g m)
 unfolding remade
 steady-freed m y row g e f = split f y (λ q t. rw t (inl e)) (λ q t. rw t (inr (refl, refl)))
 
@@ -134,14 +134,14 @@ from-leaves {s} {t} {m} l a b c = record {
   steady = rw (l .has .is) c;
 }
 
-pub close-leaves : (s : Store) (h : SoundStore s) (p : Pid) (i : Fd) → p .0 < PROCESSES → i .0 < DESCRIPTORS → tablesOf s .proc (p .0) USED ≡ 1 → {r : Release} → Releasing s h p i r → Emptied s (applyAll (closeChanges p i r) s) (p .0) (i .0)
+pub close-leaves : (s : Store) (h : SoundStore s) (p : Pid) (i : Fd) → p .0 < PROCESSES → i .0 < DESCRIPTORS → tablesOf s .proc (p .0) PROCESS-USED ≡ 1 → {r : Release} → Releasing s h p i r → Emptied s (applyAll (closeChanges p i r) s) (p .0) (i .0)
 unfolding closeChanges releaseChanges applyAll handed
 close-leaves s h p i hp hi u (nothing q) = from-leaves {m = descTo (p .0) (i .0) 0 (tablesOf s)} (record {
   has = has-descTo (its-tables s h) (p .0) (i .0) 0 hp hi;
   sound = subst (λ (d : ℕ → ℕ → ℕ). Sound (record { file = tablesOf s .file; byte = tablesOf s .byte; openFiles = tablesOf s .openFiles; proc = tablesOf s .proc; desc = d })) (sym (updRow-id (tablesOf s .desc) (p .0) (i .0) 0 q)) (h .tables);
 }) refl refl (λ f. inr (refl, refl))
-close-leaves s h p i hp hi u (keeps e d l) = from-leaves {m = handed (p .0) (i .0) 0 e (upd (tablesOf s .openFiles e) REFERENCES (tablesOf s .openFiles e REFERENCES - 1)) (tablesOf s)} (record {
-  has = unfold tablesOf in has-openRow (has-descTo (its-tables s h) (p .0) (i .0) 0 hp hi) e REFERENCES (view s .openFiles e REFERENCES - 1) (word.held SLOTS (tablesOf s) (h .tables) (p .0) (i .0) e hp hi d .small) (omega arith);
+close-leaves s h p i hp hi u (keeps e d l) = from-leaves {m = handed (p .0) (i .0) 0 e (upd (tablesOf s .openFiles e) OPEN-REFERENCES (tablesOf s .openFiles e OPEN-REFERENCES - 1)) (tablesOf s)} (record {
+  has = unfold tablesOf in has-openRow (has-descTo (its-tables s h) (p .0) (i .0) 0 hp hi) e OPEN-REFERENCES (view s .openFiles e OPEN-REFERENCES - 1) (word.held SLOTS (tablesOf s) (h .tables) (p .0) (i .0) e hp hi d .small) (omega arith);
   sound = unfold tablesOf in close-keeps (tablesOf s) (h .tables) (p .0) (i .0) e hp hi (λ z. omega (arith, u, z)) d l;
 }) refl refl (λ f. inr (refl, refl))
 close-leaves s h p i hp hi u (named e d r l) = from-leaves {m = handed (p .0) (i .0) 0 e (λ _. 0) (tablesOf s)} (record {
@@ -152,28 +152,28 @@ close-leaves s h p i hp hi u (stays e d r j hj n a b) = from-leaves {m = handed 
   has = has-openZero (has-descTo (its-tables s h) (p .0) (i .0) 0 hp hi) e (word.held SLOTS (tablesOf s) (h .tables) (p .0) (i .0) e hp hi d .small);
   sound = close-open (tablesOf s) (h .tables) (p .0) (i .0) e hp hi (λ z. omega (arith, u, z)) d r j hj n a b;
 }) refl refl (λ f. inr (refl, refl))
-close-leaves s h p i hp hi u (frees e d r l none) = from-leaves {m = freed (tablesOf s .openFiles e SLOT) (up (tablesOf s .file (tablesOf s .openFiles e SLOT) VERSION)) (handed (p .0) (i .0) 0 e (λ _. 0) (tablesOf s))} (record {
+close-leaves s h p i hp hi u (frees e d r l none) = from-leaves {m = freed (tablesOf s .openFiles e OPEN-SLOT) (up (tablesOf s .file (tablesOf s .openFiles e OPEN-SLOT) FILE-VERSION)) (handed (p .0) (i .0) 0 e (λ _. 0) (tablesOf s))} (record {
   has = unfold tablesOf freed in has-clearTo (has-openZero (has-descTo (its-tables s h) (p .0) (i .0) 0 hp hi) e (word.held SLOTS (tablesOf s) (h .tables) (p .0) (i .0) e hp hi d .small))
-      (view s .openFiles e SLOT) (words (checks.freed (view s .tree .file) (slot (view s .openFiles e SLOT)))) (slot-small (tablesOf s) (h .tables) (p .0) (i .0) e hp hi (λ z. omega (arith, u, z)) d) refl;
-  sound = close-frees (tablesOf s) (h .tables) (p .0) (i .0) e hp hi (λ z. omega (arith, u, z)) d r l none (up (tablesOf s .file (tablesOf s .openFiles e SLOT) VERSION)) (up-most (tablesOf s .file (tablesOf s .openFiles e SLOT) VERSION));
+      (view s .openFiles e OPEN-SLOT) (words (checks.freed (view s .tree .file) (slot (view s .openFiles e OPEN-SLOT)))) (slot-small (tablesOf s) (h .tables) (p .0) (i .0) e hp hi (λ z. omega (arith, u, z)) d) refl;
+  sound = close-frees (tablesOf s) (h .tables) (p .0) (i .0) e hp hi (λ z. omega (arith, u, z)) d r l none (up (tablesOf s .file (tablesOf s .openFiles e OPEN-SLOT) FILE-VERSION)) (up-most (tablesOf s .file (tablesOf s .openFiles e OPEN-SLOT) FILE-VERSION));
 }) (unfold freed remade in refl) (unfold freed remade in refl)
-    (unfold freed in steady-freed (handed (p .0) (i .0) 0 e (λ _. 0) (tablesOf s)) (tablesOf s .openFiles e SLOT) (freeRow (up (tablesOf s .file (tablesOf s .openFiles e SLOT) VERSION))) (λ _. 0) refl)
+    (unfold freed in steady-freed (handed (p .0) (i .0) 0 e (λ _. 0) (tablesOf s)) (tablesOf s .openFiles e OPEN-SLOT) (freeRow (up (tablesOf s .file (tablesOf s .openFiles e OPEN-SLOT) FILE-VERSION))) (λ _. 0) refl)
 
 -- ---- exit
 
 steady-both : (a b c : Tables) → Steady a b → Steady b c → Steady a c
 steady-both a b c x y f = by (x f) (y f)
   where
-    by : (b .file f KIND ≡ FREE) ⊎ ((b .file f ≡ a .file f) × (b .byte f ≡ a .byte f)) → (c .file f KIND ≡ FREE) ⊎ ((c .file f ≡ b .file f) × (c .byte f ≡ b .byte f)) →
-        (c .file f KIND ≡ FREE) ⊎ ((c .file f ≡ a .file f) × (c .byte f ≡ a .byte f))
+    by : (b .file f FILE-KIND ≡ FREE) ⊎ ((b .file f ≡ a .file f) × (b .byte f ≡ a .byte f)) → (c .file f FILE-KIND ≡ FREE) ⊎ ((c .file f ≡ b .file f) × (c .byte f ≡ b .byte f)) →
+        (c .file f FILE-KIND ≡ FREE) ⊎ ((c .file f ≡ a .file f) × (c .byte f ≡ a .byte f))
     by u (inl e) = inl e
-    by (inl d) (inr e) = inl (ap (λ (r : ℕ → ℕ). r KIND) (e .0) ∙ d)
+    by (inl d) (inr e) = inl (ap (λ (r : ℕ → ℕ). r FILE-KIND) (e .0) ∙ d)
     by (inr d) (inr e) = inr (e .0 ∙ d .0, e .1 ∙ d .1)
 
 -- the descriptors below i of process p are empty
 pub record Closing (s : Store) (p i : ℕ) (t : Store) : Type 0 where
   pub sound : SoundStore t
-  pub used : tablesOf t .proc p USED ≡ 1
+  pub used : tablesOf t .proc p PROCESS-USED ≡ 1
   pub gone : (j : ℕ) → j < i → tablesOf t .desc p j ≡ 0
   pub steady : Steady (tablesOf s) (tablesOf t)
 
@@ -204,7 +204,7 @@ pub record Exits (s t : Store) : Type 0 where
   pub sound : SoundStore t
   pub steady : Steady (tablesOf s) (tablesOf t)
 
-pub exit-leaves : (s : Store) → SoundStore s → (p : Pid) → p .0 < PROCESSES → tablesOf s .proc (p .0) USED ≡ 1 → Exits s (applyAll (procZero (p .0) ∷ []) (releasedAll p s))
+pub exit-leaves : (s : Store) → SoundStore s → (p : Pid) → p .0 < PROCESSES → tablesOf s .proc (p .0) PROCESS-USED ≡ 1 → Exits s (applyAll (procZero (p .0) ∷ []) (releasedAll p s))
 unfolding applyAll releasedAll
 exit-leaves s h p hp u = record {
   sound = kept _ _ z (subst (λ (d : ℕ → ℕ → ℕ). Sound (record { file = m .file; byte = m .byte; openFiles = m .openFiles; proc = upd (m .proc) (p .0) (λ _. 0); desc = d })) (sym empty)

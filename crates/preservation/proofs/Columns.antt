@@ -3,7 +3,7 @@ use mathlib.Core.Path.{_≡_, ap, fun-ext}
 use mathlib.Core.List.{List}
 use Prim.Native.Nat.{ℕ}
 use lib.ListN.{getD}
-use Rattle.rules.specs.Layout.{KIND, LENGTH, LINKS}
+use Rattle.rules.specs.Layout.{FILE-KIND, FILE-LENGTH, FILE-LINKS}
 use Rattle.preservation.proofs.Tables.{Tables, fileWords, fileRow}
 use Rattle.preservation.proofs.Rows.{file-same}
 use Rattle.preservation.proofs.Sound.{SoundBut}
@@ -18,13 +18,13 @@ pub same-columns : (x : ℕ) (m : Tables) (f : ℕ → ℕ → ℕ) → Columns 
 same-columns x m f c h = record {
   slots = record {
     files = λ i hi. file-same (m .file i) (f i) (c i) (h .slots .files i hi);
-    root-kind = rw (word KIND 0) at (h .slots .root-kind);
-    root-links = rw (word LINKS 0) at (h .slots .root-links);
-    blocks = λ i hi. rw (word KIND i, word LENGTH i) at (h .slots .blocks i hi);
+    root-kind = rw (word FILE-KIND 0) at (h .slots .root-kind);
+    root-links = rw (word FILE-LINKS 0) at (h .slots .root-links);
+    blocks = λ i hi. rw (word FILE-KIND i, word FILE-LENGTH i) at (h .slots .blocks i hi);
   };
-  tree = rw (column KIND, column LENGTH, column LINKS) at (h .tree);
-  live = rw (column KIND, column LINKS) at (h .live);
-  opens = rw (column KIND) at (h .opens);
+  tree = rw (column FILE-KIND, column FILE-LENGTH, column FILE-LINKS) at (h .tree);
+  live = rw (column FILE-KIND, column FILE-LINKS) at (h .live);
+  opens = rw (column FILE-KIND) at (h .opens);
   procs = h .procs;
 }
   where

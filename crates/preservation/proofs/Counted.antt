@@ -8,7 +8,7 @@ use native.Mathlib.Omega.{arith}
 use lib.Dec.{eqb, ltb}
 use lib.ListN.{getD}
 use borrow.Author.Tests.{eqb-true, lt-ltb, ltb-true}
-use Rattle.rules.specs.Layout.{SLOTS, DIRENT, DIRENTS, NAME, OPEN-FILES, PROCESSES, DESCRIPTORS, KIND, SLOT, REFERENCES, DIRECTORY}
+use Rattle.rules.specs.Layout.{SLOTS, DIRENT-WIDTH, DIRENTS, NAME, OPEN-FILES, PROCESSES, DESCRIPTORS, FILE-KIND, OPEN-SLOT, OPEN-REFERENCES, DIRECTORY}
 use Rattle.rules.specs.Choice.{every}
 use Rattle.rules.specs.Scan.{any}
 use Rattle.rules.specs.Scan as scan
@@ -27,7 +27,7 @@ use Rattle.preservation.proofs.Shown.{slot-row, same-tests}
 
 -- ---- one directory
 
-module _ (D : List ℕ) (rows : ℕ → ℕ → ℕ) (agree : (i k : ℕ) → k < DIRENT → getD (direntAt D i) k 0 ≡ rows i k) where
+module _ (D : List ℕ) (rows : ℕ → ℕ → ℕ) (agree : (i k : ℕ) → k < DIRENT-WIDTH → getD (direntAt D i) k 0 ≡ rows i k) where
   pub names-counted : scan.count (isUsed D) 0 DIRENTS ≡ nameCount rows
   unfolding nameCount isUsed isEmpty
   names-counted = count-sum (isUsed D) DIRENTS ∙ sum-same DIRENTS (λ p. ind (not (eqb (rows p NAME) 0))) (λ p. ind (isUsed D p)) (λ p _. rw (slot-row D rows agree p))
@@ -46,20 +46,20 @@ module _ (D : List ℕ) (rows : ℕ → ℕ → ℕ) (agree : (i k : ℕ) → k 
 
 -- ---- all directories: pl d are the rows of directory d
 
-module _ (t : Tree) (pl : ℕ → ℕ → ℕ → ℕ) (agree : (d : ℕ) → d < SLOTS → t .file d KIND ≡ DIRECTORY → (i k : ℕ) → k < DIRENT → getD (direntAt (t .shown d) i) k 0 ≡ pl d i k) where
-  from-one : (s d : ℕ) → d < SLOTS → linksFrom t s d ≡ count DIRENTS (naming (col (t .file) KIND) pl s d)
+module _ (t : Tree) (pl : ℕ → ℕ → ℕ → ℕ) (agree : (d : ℕ) → d < SLOTS → t .file d FILE-KIND ≡ DIRECTORY → (i k : ℕ) → k < DIRENT-WIDTH → getD (direntAt (t .shown d) i) k 0 ≡ pl d i k) where
+  from-one : (s d : ℕ) → d < SLOTS → linksFrom t s d ≡ count DIRENTS (naming (col (t .file) FILE-KIND) pl s d)
   unfolding linksFrom
-  from-one s d h = split (t .file d KIND) DIRECTORY
+  from-one s d h = split (t .file d FILE-KIND) DIRECTORY
       (λ q e. rw e (links-counted (t .shown d) (pl d) (agree d h q) s))
       (λ q e. rw e (sym (sum-none DIRENTS (λ p. ind (false && eqb (pl d p NAME) s)) (λ p _. refl))))
 
-  pub links-total : (s : ℕ) → linksTo t s ≡ linkCount (col (t .file) KIND) pl s
+  pub links-total : (s : ℕ) → linksTo t s ≡ linkCount (col (t .file) FILE-KIND) pl s
   unfolding linksTo linkCount
-  links-total s = total-sum (linksFrom t s) SLOTS ∙ sum-same SLOTS (λ d. count DIRENTS (naming (col (t .file) KIND) pl s d)) (linksFrom t s) (λ d h. from-one s d h)
+  links-total s = total-sum (linksFrom t s) SLOTS ∙ sum-same SLOTS (λ d. count DIRENTS (naming (col (t .file) FILE-KIND) pl s d)) (linksFrom t s) (λ d h. from-one s d h)
 
-  parent-one : (d u : ℕ) → u < SLOTS → isParent t d u ≡ ltb 0 (count DIRENTS (naming (col (t .file) KIND) pl d u))
+  parent-one : (d u : ℕ) → u < SLOTS → isParent t d u ≡ ltb 0 (count DIRENTS (naming (col (t .file) FILE-KIND) pl d u))
   unfolding isParent every
-  parent-one d u h = split (t .file u KIND) DIRECTORY
+  parent-one d u h = split (t .file u FILE-KIND) DIRECTORY
       (λ q e. rw (e, links-any (t .shown u) (pl u) (agree u h q) d) (last (ltb 0 (count DIRENTS (λ p. eqb (pl u p NAME) d)))))
       (λ q e. rw (e, sum-none DIRENTS (λ p. ind (false && eqb (pl u p NAME) d)) (λ p _. refl)))
     where
@@ -67,54 +67,54 @@ module _ (t : Tree) (pl : ℕ → ℕ → ℕ → ℕ) (agree : (d : ℕ) → d 
       last true = refl
       last false = refl
 
-  parent-same : (d : ℕ) → parentOf t d ≡ parent (col (t .file) KIND) pl d
+  parent-same : (d : ℕ) → parentOf t d ≡ parent (col (t .file) FILE-KIND) pl d
   unfolding parent
-  parent-same d = first-same (isParent t d) (λ u. ltb 0 (count DIRENTS (naming (col (t .file) KIND) pl d u))) SLOTS (parent-one d)
+  parent-same d = first-same (isParent t d) (λ u. ltb 0 (count DIRENTS (naming (col (t .file) FILE-KIND) pl d u))) SLOTS (parent-one d)
 
-  climbs-holds : (n d : ℕ) → climbs t n d ≡ true → depthWithin (col (t .file) KIND) pl n d ≤ n
+  climbs-holds : (n d : ℕ) → climbs t n d ≡ true → depthWithin (col (t .file) FILE-KIND) pl n d ≤ n
   unfolding climbs depthWithin
   climbs-holds zero d = split d 0 (λ q e. rw e (λ _. omega arith)) (λ q e. rw e (λ z. absurd (false≢true z)))
   climbs-holds (suc n) d = go (climbs-holds n (parentOf t d)) (parent-same d)
     where
-      go : (climbs t n (parentOf t d) ≡ true → depthWithin (col (t .file) KIND) pl n (parentOf t d) ≤ n) → parentOf t d ≡ parent (col (t .file) KIND) pl d →
-          cond (eqb d 0) true (climbs t n (parentOf t d)) ≡ true → cond (eqb d 0) 0 (suc (depthWithin (col (t .file) KIND) pl n (parent (col (t .file) KIND) pl d))) ≤ suc n
+      go : (climbs t n (parentOf t d) ≡ true → depthWithin (col (t .file) FILE-KIND) pl n (parentOf t d) ≤ n) → parentOf t d ≡ parent (col (t .file) FILE-KIND) pl d →
+          cond (eqb d 0) true (climbs t n (parentOf t d)) ≡ true → cond (eqb d 0) 0 (suc (depthWithin (col (t .file) FILE-KIND) pl n (parent (col (t .file) FILE-KIND) pl d))) ≤ suc n
       go ih p = split d 0 (λ q e. rw e (λ _. omega arith)) (λ q e. rw (e, ← p) (λ z. let a = ih z in omega arith))
 
-  climbs-tests : (n d : ℕ) → depthWithin (col (t .file) KIND) pl n d ≤ n → climbs t n d ≡ true
+  climbs-tests : (n d : ℕ) → depthWithin (col (t .file) FILE-KIND) pl n d ≤ n → climbs t n d ≡ true
   unfolding climbs depthWithin
   climbs-tests zero d = split d 0 (λ q e. rw e (λ _. refl)) (λ q e. rw e (λ z. absurd (not-suc-le-zero z)))
   climbs-tests (suc n) d = go (climbs-tests n (parentOf t d)) (parent-same d)
     where
-      go : (depthWithin (col (t .file) KIND) pl n (parentOf t d) ≤ n → climbs t n (parentOf t d) ≡ true) → parentOf t d ≡ parent (col (t .file) KIND) pl d →
-          cond (eqb d 0) 0 (suc (depthWithin (col (t .file) KIND) pl n (parent (col (t .file) KIND) pl d))) ≤ suc n → cond (eqb d 0) true (climbs t n (parentOf t d)) ≡ true
+      go : (depthWithin (col (t .file) FILE-KIND) pl n (parentOf t d) ≤ n → climbs t n (parentOf t d) ≡ true) → parentOf t d ≡ parent (col (t .file) FILE-KIND) pl d →
+          cond (eqb d 0) 0 (suc (depthWithin (col (t .file) FILE-KIND) pl n (parent (col (t .file) FILE-KIND) pl d))) ≤ suc n → cond (eqb d 0) true (climbs t n (parentOf t d)) ≡ true
       go ih p = split d 0 (λ q e. rw e (λ _. refl)) (λ q e. rw (e, ← p) (λ z. ih (omega arith)))
 
-  pub means-climbs : (n d : ℕ) → Means (climbs t n d) (depthWithin (col (t .file) KIND) pl n d ≤ n)
+  pub means-climbs : (n d : ℕ) → Means (climbs t n d) (depthWithin (col (t .file) FILE-KIND) pl n d ≤ n)
   means-climbs n d = record { holds = climbs-holds n d; tests = climbs-tests n d }
 
 -- ---- open files and descriptors
 
 -- open file e, another than x, is on slot s
-pub means-on : (openFiles : ℕ → ℕ → ℕ) (x s e : ℕ) → Means (isOn openFiles (ofdOf x) (slot s) e) ((e ≡ x → ⊥) × ((openFiles e REFERENCES ≡ 0 → ⊥) × (openFiles e SLOT ≡ s)))
+pub means-on : (openFiles : ℕ → ℕ → ℕ) (x s e : ℕ) → Means (isOn openFiles (ofdOf x) (slot s) e) ((e ≡ x → ⊥) × ((openFiles e OPEN-REFERENCES ≡ 0 → ⊥) × (openFiles e OPEN-SLOT ≡ s)))
 unfolding isOn
-means-on openFiles x s e = means-every (means-and (means-not (means-eq e x)) (means-and (means-not (means-eq (openFiles e REFERENCES) 0)) (means-last (means-eq (openFiles e SLOT) s))))
+means-on openFiles x s e = means-every (means-and (means-not (means-eq e x)) (means-and (means-not (means-eq (openFiles e OPEN-REFERENCES) 0)) (means-last (means-eq (openFiles e OPEN-SLOT) s))))
 
-pub means-open : (openFiles : ℕ → ℕ → ℕ) (s : ℕ) → Means (isOpen openFiles (slot s)) (0 < openCount (col openFiles SLOT) (col openFiles REFERENCES) s)
+pub means-open : (openFiles : ℕ → ℕ → ℕ) (s : ℕ) → Means (isOpen openFiles (slot s)) (0 < openCount (col openFiles OPEN-SLOT) (col openFiles OPEN-REFERENCES) s)
 unfolding openBut
 means-open openFiles s = record {
   holds = λ t. let f = any-found (isOn openFiles (ofdOf OPEN-FILES) (slot s)) OPEN-FILES t in let w = means-on openFiles OPEN-FILES s (f .at) .holds (f .passes) in
-      openCount-at (col openFiles SLOT) (col openFiles REFERENCES) (f .at) s (f .small) (w .1 .1) (w .1 .0);
-  tests = λ h. found (unfold openCount in sum-some OPEN-FILES (λ e. ind (eqb (openFiles e SLOT) s && ltb 0 (openFiles e REFERENCES))) h);
+      openCount-at (col openFiles OPEN-SLOT) (col openFiles OPEN-REFERENCES) (f .at) s (f .small) (w .1 .1) (w .1 .0);
+  tests = λ h. found (unfold openCount in sum-some OPEN-FILES (λ e. ind (eqb (openFiles e OPEN-SLOT) s && ltb 0 (openFiles e OPEN-REFERENCES))) h);
 }
   where
-    found : Some OPEN-FILES (λ e. ind (eqb (openFiles e SLOT) s && ltb 0 (openFiles e REFERENCES))) → any (isOn openFiles (ofdOf OPEN-FILES) (slot s)) 0 OPEN-FILES ≡ true
+    found : Some OPEN-FILES (λ e. ind (eqb (openFiles e OPEN-SLOT) s && ltb 0 (openFiles e OPEN-REFERENCES))) → any (isOn openFiles (ofdOf OPEN-FILES) (slot s)) 0 OPEN-FILES ≡ true
     found f =
-        let b : eqb (openFiles (f .at) SLOT) s && ltb 0 (openFiles (f .at) REFERENCES) ≡ true = ind-more (eqb (openFiles (f .at) SLOT) s && ltb 0 (openFiles (f .at) REFERENCES)) (f .more) in
+        let b : eqb (openFiles (f .at) OPEN-SLOT) s && ltb 0 (openFiles (f .at) OPEN-REFERENCES) ≡ true = ind-more (eqb (openFiles (f .at) OPEN-SLOT) s && ltb 0 (openFiles (f .at) OPEN-REFERENCES)) (f .more) in
         any-passes (isOn openFiles (ofdOf OPEN-FILES) (slot s)) OPEN-FILES (f .at) (f .small) (means-on openFiles OPEN-FILES s (f .at) .tests (
           (λ q. omega (arith, f .small)),
           (
-            (λ q. omega (arith, ltb-true 0 (openFiles (f .at) REFERENCES) (and-right (eqb (openFiles (f .at) SLOT) s) (ltb 0 (openFiles (f .at) REFERENCES)) b))),
-            eqb-true (openFiles (f .at) SLOT) s (and-left (eqb (openFiles (f .at) SLOT) s) (ltb 0 (openFiles (f .at) REFERENCES)) b),
+            (λ q. omega (arith, ltb-true 0 (openFiles (f .at) OPEN-REFERENCES) (and-right (eqb (openFiles (f .at) OPEN-SLOT) s) (ltb 0 (openFiles (f .at) OPEN-REFERENCES)) b))),
+            eqb-true (openFiles (f .at) OPEN-SLOT) s (and-left (eqb (openFiles (f .at) OPEN-SLOT) s) (ltb 0 (openFiles (f .at) OPEN-REFERENCES)) b),
           ),
         ))
 

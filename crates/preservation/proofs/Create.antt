@@ -13,22 +13,22 @@ use Rattle.preservation.proofs.Dirents.{placed, Fits, used-at}
 use Rattle.preservation.proofs.Link.{loosen, tighten, linked, linked-sound}
 use Rattle.preservation.proofs.Unlink.{unlinked, unlinked-sound}
 use Rattle.preservation.proofs.Remake.{remade, remade-sound, remade-depths, Bare, Fresh}
-use Rattle.rules.specs.Layout.{SLOTS, BLOCK, DIRENTS, DIRENT, OPEN-FILES, NAME, NAMES, KIND, LENGTH, LINKS, FREE, PLAIN, DIRECTORY, SLOT, REFERENCES, WORD-MAX}
+use Rattle.rules.specs.Layout.{SLOTS, BLOCK, DIRENTS, DIRENT-WIDTH, OPEN-FILES, NAME, NAMES, FILE-KIND, FILE-LENGTH, FILE-LINKS, FREE, PLAIN, DIRECTORY, OPEN-SLOT, OPEN-REFERENCES, WORD-MAX}
 
 -- ---- a name as a granted call has it
 
 pub record Name (m : Tables) (d p : ℕ) (r : ℕ → ℕ) (y : ℕ) : Type 0 where
   pub dir-small : d < SLOTS
-  pub dir-kind : m .file d KIND ≡ DIRECTORY
+  pub dir-kind : m .file d FILE-KIND ≡ DIRECTORY
   pub dirent-small : p < DIRENTS
   pub dirent-empty : direntRow (m .byte) d p NAME ≡ 0
   pub row-slot : r NAME ≡ y
   pub row-last : r (NAME + 1) ≡ 0
-  pub row-end : (k : ℕ) → DIRENT ≤ k → r k ≡ 0
+  pub row-end : (k : ℕ) → DIRENT-WIDTH ≤ k → r k ≡ 0
   pub row-valid : validRow r ≡ true
   pub row-new : (q : ℕ) → q < DIRENTS → (direntRow (m .byte) d q NAME ≡ 0 → ⊥) → sameRow (direntRow (m .byte) d q) r ≡ true → ⊥
 
-pub name-fits : (m : Tables) (d p : ℕ) (r : ℕ → ℕ) (t y : ℕ) → Name m d p r y → t ≤ WORD-MAX → y < SLOTS → (y ≡ 0 → ⊥) → (m .file y KIND ≡ FREE → ⊥) → Fits m d p r t y
+pub name-fits : (m : Tables) (d p : ℕ) (r : ℕ → ℕ) (t y : ℕ) → Name m d p r y → t ≤ WORD-MAX → y < SLOTS → (y ≡ 0 → ⊥) → (m .file y FILE-KIND ≡ FREE → ⊥) → Fits m d p r t y
 name-fits m d p r t y n ht hy n0 u = record {
   dir-small = n .dir-small;
   dir-kind = n .dir-kind;
@@ -49,7 +49,7 @@ name-fits m d p r t y n ht hy n0 u = record {
 
 -- ---- link
 
-pub link-sound : (m : Tables) → Sound m → (d p : ℕ) (r : ℕ → ℕ) (t y : ℕ) → Name m d p r y → t ≤ WORD-MAX → y < SLOTS → m .file y KIND ≡ PLAIN → Sound (linked d p r t y m)
+pub link-sound : (m : Tables) → Sound m → (d p : ℕ) (r : ℕ → ℕ) (t y : ℕ) → Name m d p r y → t ≤ WORD-MAX → y < SLOTS → m .file y FILE-KIND ≡ PLAIN → Sound (linked d p r t y m)
 link-sound m h d p r t y n ht hy k =
     linked-sound m d p r t y (loosen y m h) (name-fits m d p r t y n ht hy (λ z. omega (arith, h .slots .root-kind, rw z at k)) (λ z. omega arith)) (n .row-slot) (n .dirent-empty)
     (λ z. omega (arith, n .dir-kind, rw (← z) at k)) (h .tree .depths) (λ z. absurd (omega arith))
@@ -59,15 +59,15 @@ link-sound m h d p r t y n ht hy k =
 -- the record of a new file that has no name yet
 pub record NewFile (row : ℕ → ℕ) : Type 0 where
   pub file-row : File row
-  pub used : row KIND ≡ FREE → ⊥
-  pub no-length : row LENGTH ≡ 0
-  pub no-links : row LINKS ≡ 0
+  pub used : row FILE-KIND ≡ FREE → ⊥
+  pub no-length : row FILE-LENGTH ≡ 0
+  pub no-links : row FILE-LINKS ≡ 0
 
 unfoldable pub created : (d p : ℕ) → (ℕ → ℕ) → (t y : ℕ) → (ℕ → ℕ) → Tables → Tables
 created d p r t y row m = linked d p r t y (remade y row (m .byte y) m)
 
-module _ (m : Tables) (h : Sound m) (d p : ℕ) (r : ℕ → ℕ) (t y : ℕ) (row : ℕ → ℕ) (n : Name m d p r y) (ht : t ≤ WORD-MAX) (hy : y < SLOTS) (free : m .file y KIND ≡ FREE)
-    (new : NewFile row) (deep : row KIND ≡ DIRECTORY → h .tree .depths .depth d < NAMES) where
+module _ (m : Tables) (h : Sound m) (d p : ℕ) (r : ℕ → ℕ) (t y : ℕ) (row : ℕ → ℕ) (n : Name m d p r y) (ht : t ≤ WORD-MAX) (hy : y < SLOTS) (free : m .file y FILE-KIND ≡ FREE)
+    (new : NewFile row) (deep : row FILE-KIND ≡ DIRECTORY → h .tree .depths .depth d < NAMES) where
   not-root : y ≡ 0 → ⊥
   not-root z = omega (arith, h .slots .root-kind, rw z at free)
 
@@ -102,7 +102,7 @@ module _ (m : Tables) (h : Sound m) (d p : ℕ) (r : ℕ → ℕ) (t y : ℕ) (r
       (n .row-slot) (name .dirent-empty) not-dir (remade-depths m y row (m .byte y) (loosen y m h) bare fresh (h .tree .depths))
       (rw (eq-eqb y y refl) (λ z. record {
         no-links = rw (eq-eqb y y refl) (new .no-links);
-        no-dirents = λ q hq. rw (eq-eqb y y refl) (zeros (DIRENT * q + NAME) (omega arith));
+        no-dirents = λ q hq. rw (eq-eqb y y refl) (zeros (DIRENT-WIDTH * q + NAME) (omega arith));
         not-deep = rw (ne-eqb d y not-dir) (deep z);
       }))
     where
@@ -141,17 +141,17 @@ freed-sound m y t h a ht = tighten y (freed y t m)
 
 -- ---- unlink: directory d loses entry p, which names y
 
-module _ (m : Tables) (h : Sound m) (d p t y : ℕ) (hd : d < SLOTS) (kd : m .file d KIND ≡ DIRECTORY) (hp : p < DIRENTS) (e : direntRow (m .byte) d p NAME ≡ y) (n0 : y ≡ 0 → ⊥) (ht : t ≤ WORD-MAX) where
+module _ (m : Tables) (h : Sound m) (d p t y : ℕ) (hd : d < SLOTS) (kd : m .file d FILE-KIND ≡ DIRECTORY) (hp : p < DIRENTS) (e : direntRow (m .byte) d p NAME ≡ y) (n0 : y ≡ 0 → ⊥) (ht : t ≤ WORD-MAX) where
   pub target-small : y < SLOTS
   target-small = rw e at (h .tree .dirs d hd kd .dirents p hp .slot-small)
 
   -- the file keeps a name, or is open
-  pub unlink-sound : m .file y KIND ≡ PLAIN → 0 < m .file y LINKS - 1 + openCount (col (m .openFiles) SLOT) (col (m .openFiles) REFERENCES) y → Sound (unlinked d p t y m)
+  pub unlink-sound : m .file y FILE-KIND ≡ PLAIN → 0 < m .file y FILE-LINKS - 1 + openCount (col (m .openFiles) OPEN-SLOT) (col (m .openFiles) OPEN-REFERENCES) y → Sound (unlinked d p t y m)
   unlink-sound k a = tighten y (unlinked d p t y m) (unlinked-sound m d p t y (loosen y m h) hd kd hp e n0 ht)
       (unfold unlinked placed in (λ z. absurd (omega (arith, k, z)))) (unfold unlinked placed in rw (eq-eqb y y refl) (λ _. a))
 
   -- the file has no other name and is not open
-  pub unlink-frees : m .file y KIND ≡ PLAIN → m .file y LINKS - 1 ≡ 0 → ((i : ℕ) → i < OPEN-FILES → (m .openFiles i REFERENCES ≡ 0 → ⊥) → m .openFiles i SLOT ≡ y → ⊥) → (t′ : ℕ) → t′ ≤ WORD-MAX → Sound (freed y t′ (unlinked d p t y m))
+  pub unlink-frees : m .file y FILE-KIND ≡ PLAIN → m .file y FILE-LINKS - 1 ≡ 0 → ((i : ℕ) → i < OPEN-FILES → (m .openFiles i OPEN-REFERENCES ≡ 0 → ⊥) → m .openFiles i OPEN-SLOT ≡ y → ⊥) → (t′ : ℕ) → t′ ≤ WORD-MAX → Sound (freed y t′ (unlinked d p t y m))
   unfolding unlinked placed
   unlink-frees k l o t′ ht′ = freed-sound (unlinked d p t y m) y t′ (unlinked-sound m d p t y (loosen y m h) hd kd hp e n0 ht) (record {
     small = target-small;
@@ -163,8 +163,8 @@ module _ (m : Tables) (h : Sound m) (d p t y : ℕ) (hd : d < SLOTS) (kd : m .fi
 
 -- ---- remove directory
 
-pub remove-sound : (m : Tables) → Sound m → (d p t y t′ : ℕ) → d < SLOTS → m .file d KIND ≡ DIRECTORY → p < DIRENTS → direntRow (m .byte) d p NAME ≡ y → (y ≡ 0 → ⊥) → t ≤ WORD-MAX →
-    m .file y KIND ≡ DIRECTORY → m .file y LENGTH ≡ 0 → t′ ≤ WORD-MAX → Sound (freed y t′ (unlinked d p t y m))
+pub remove-sound : (m : Tables) → Sound m → (d p t y t′ : ℕ) → d < SLOTS → m .file d FILE-KIND ≡ DIRECTORY → p < DIRENTS → direntRow (m .byte) d p NAME ≡ y → (y ≡ 0 → ⊥) → t ≤ WORD-MAX →
+    m .file y FILE-KIND ≡ DIRECTORY → m .file y FILE-LENGTH ≡ 0 → t′ ≤ WORD-MAX → Sound (freed y t′ (unlinked d p t y m))
 unfolding unlinked placed
 remove-sound m h d p t y t′ hd kd hp e n0 ht k z0 ht′ =
     freed-sound (unlinked d p t y m) y t′ (unlinked-sound m d p t y (loosen y m h) hd kd hp e n0 ht) (record {

@@ -8,7 +8,7 @@ use lib.Dec.{eqb, ltb, leb}
 use lib.ListN.{length}
 use borrow.Author.Tests.{eqb-true, ltb-true, leb-true}
 use Rattle.rules.specs.Layout.{SLOTS, BLOCK, DIRENTS, OPEN-FILES, PROCESSES, DESCRIPTORS, KIND-MAX, USER-MAX, BITS-MAX, LABEL-MAX, MODE-MAX}
-use Rattle.rules.specs.Layout.{KIND, OWNER, LABEL, LENGTH, SLOT, MODE, OFFSET, USER, PROCESS-LABEL, PLAIN, DIRECTORY}
+use Rattle.rules.specs.Layout.{FILE-KIND, FILE-OWNER, FILE-LABEL, FILE-LENGTH, OPEN-SLOT, OPEN-MODE, OPEN-OFFSET, PROCESS-USER, PROCESS-LABEL, PLAIN, DIRECTORY}
 use Rattle.rules.specs.Choice.{every}
 use Rattle.rules.specs.Store.{Store, view, isSlot, isPid, isFd, ofdOf, isOfd, isDirent, modeAt, subjectOf}
 use Rattle.rules.specs.Paths.{names, lastName, pathOk}
@@ -93,19 +93,19 @@ module _ (Q : List ℕ) (s : Store) (h : SoundStore s) (c : Call) (safe : policy
   allowed-fit : (y : Slot) (want : Rights) (d : Decision) → Fit (Granting s h c) d → Fit (Granting s h c) (allowed (view s .tree .file) Q (subjectOf (view s .proc) (c .process)) y want d)
   allowed-fit y want d f = need-fit _ _ _ (λ _. need-fit _ _ d (λ _. f))
 
-  is-plain : (y : Slot) → isPlain (view s .tree .file) y ≡ true → tablesOf s .file (y .0) KIND ≡ PLAIN
+  is-plain : (y : Slot) → isPlain (view s .tree .file) y ≡ true → tablesOf s .file (y .0) FILE-KIND ≡ PLAIN
   unfolding tablesOf
-  is-plain y t = eqb-true (view s .tree .file (y .0) KIND) PLAIN t
+  is-plain y t = eqb-true (view s .tree .file (y .0) FILE-KIND) PLAIN t
 
-  is-directory : (y : Slot) → isDirectory (view s .tree .file) y ≡ true → tablesOf s .file (y .0) KIND ≡ DIRECTORY
+  is-directory : (y : Slot) → isDirectory (view s .tree .file) y ≡ true → tablesOf s .file (y .0) FILE-KIND ≡ DIRECTORY
   unfolding tablesOf
-  is-directory y t = eqb-true (view s .tree .file (y .0) KIND) DIRECTORY t
+  is-directory y t = eqb-true (view s .tree .file (y .0) FILE-KIND) DIRECTORY t
 
   -- ---- 1. Open
 
   opening-fit : (y : Slot) (m : OpenMode) (b : Bool) (i : Fd) (e : Ofd) → Opens (tablesOf s) (c .process) (newOpen y m i e) → Granting s h c (i .0) output.Nothing (opening (view s .tree .file) y m b i e)
   unfolding opening
-  opening-fit y m b i e o = by (every (b ∷ ltb 0 (view s .tree .file (y .0) LENGTH) ∷ []))
+  opening-fit y m b i e o = by (every (b ∷ ltb 0 (view s .tree .file (y .0) FILE-LENGTH) ∷ []))
     where
       by : (t : Bool) → Granting s h c (i .0) output.Nothing (cond t (effect.Truncated (newOpen y m i e) (truncated (view s .tree .file) y)) (effect.Opened (newOpen y m i e)))
       by true = truncates (newOpen y m i e) o
@@ -139,7 +139,7 @@ module _ (Q : List ℕ) (s : Store) (h : SoundStore s) (c : Call) (safe : policy
 
   -- ---- 2. Create, 3. Make directory
 
-  user-most : tablesOf s .proc (c .process .0) USER ≤ USER-MAX
+  user-most : tablesOf s .proc (c .process .0) PROCESS-USER ≤ USER-MAX
   user-most = h .tables .procs (c .process .0) (u .small) .user-most
 
   create-fit : (kind : ℕ) {n : BitsNumber} → 0 < kind → kind ≤ KIND-MAX → GoodBits n → GoodPath (c .path) → 0 < length (names (c .path)) → Fit (Granting s h c) (decideCreate Q (view s .tree) (subjectOf (view s .proc) (c .process)) kind n (c .path))
@@ -183,8 +183,8 @@ module _ (Q : List ℕ) (s : Store) (h : SoundStore s) (c : Call) (safe : policy
   remove-fit : (p : List ℕ) → GoodPath p → 0 < length (names p) → Fit (Granting s h c) (decideRemove Q (view s .tree) (subjectOf (view s .proc) (c .process)) p)
   unfolding decideRemove removeAt
   remove-fit p g some-names = after-fit _ (path-fit s h Q (subjectOf (view s .proc) (c .process)) p g) (λ at f. need-fit (isDirectory (view s .tree .file) (at .slot)) _ _ (λ k.
-      allowed-fit (at .dir) WRITE _ (need-fit (eqb (view s .tree .file (at .slot .0) LENGTH) 0) _ _ (λ l.
-      granting _ _ _ (removes (at .dir) (at .dirent .0) (at .slot) (f .named (λ z. omega arith)) (is-directory (at .slot) k) (unfold tablesOf in eqb-true (view s .tree .file (at .slot .0) LENGTH) 0 l))))))
+      allowed-fit (at .dir) WRITE _ (need-fit (eqb (view s .tree .file (at .slot .0) FILE-LENGTH) 0) _ _ (λ l.
+      granting _ _ _ (removes (at .dir) (at .dirent .0) (at .slot) (f .named (λ z. omega arith)) (is-directory (at .slot) k) (unfold tablesOf in eqb-true (view s .tree .file (at .slot .0) FILE-LENGTH) 0 l))))))
 
   -- ---- 6. Link
 
@@ -213,7 +213,7 @@ module _ (Q : List ℕ) (s : Store) (h : SoundStore s) (c : Call) (safe : policy
   bits-fit : {n : BitsNumber} (p : List ℕ) → GoodBits n → GoodPath p → Fit (Granting s h c) (decideChangeBits Q (view s .tree) (subjectOf (view s .proc) (c .process)) n p)
   unfolding decideChangeBits changeBitsAt
   bits-fit p over g = refusing _ _
-  bits-fit p (valid b hb) g = after-fit _ (path-fit s h Q (subjectOf (view s .proc) (c .process)) p g) (λ at f. need-fit (owns (subjectOf (view s .proc) (c .process)) (view s .tree .file (at .slot .0) OWNER)) _ _ (λ o.
+  bits-fit p (valid b hb) g = after-fit _ (path-fit s h Q (subjectOf (view s .proc) (c .process)) p g) (λ at f. need-fit (owns (subjectOf (view s .proc) (c .process)) (view s .tree .file (at .slot .0) FILE-OWNER)) _ _ (λ o.
       need-fit (labelAllows (view s .tree .file) Q (subjectOf (view s .proc) (c .process)) (at .slot) WRITE) _ _ (λ _.
       granting _ _ _ (changesBits (at .slot) b (found-small s h Q (subjectOf (view s .proc) (c .process)) f) (reach-used (tablesOf s) (h .tables) (f .reach)) hb o))))
 
@@ -232,18 +232,18 @@ module _ (Q : List ℕ) (s : Store) (h : SoundStore s) (c : Call) (safe : policy
 
   read-fit : (i : Fd) (size : ℕ) → Fit (Granting s h c) (decideRead (view s .tree .file) (view s .openFiles) (view s .desc) (c .process) i size)
   unfolding decideRead readOpen
-  read-fit i size = need-fit (held (view s .desc) (c .process) i) _ _ (λ t. need-fit (reads (modeAt (view s .openFiles (ofdHeld (view s .desc) (c .process) i .0) MODE))) _ _ (λ _.
+  read-fit i size = need-fit (held (view s .desc) (c .process) i) _ _ (λ t. need-fit (reads (modeAt (view s .openFiles (ofdHeld (view s .desc) (c .process) i .0) OPEN-MODE))) _ _ (λ _.
       granting _ _ _ (granted.reads (ofdHeld (view s .desc) (c .process) i .0) (min size (remaining (view s .tree .file) (view s .openFiles) (ofdHeld (view s .desc) (c .process) i))) (open-at i t) (within (ofdHeld (view s .desc) (c .process) i .0) (open-at i t)))))
     where
-      within : (e : ℕ) → Held (tablesOf s) e → tablesOf s .openFiles e OFFSET + min size (remaining (view s .tree .file) (view s .openFiles) (ofdOf e)) ≤ BLOCK
+      within : (e : ℕ) → Held (tablesOf s) e → tablesOf s .openFiles e OPEN-OFFSET + min size (remaining (view s .tree .file) (view s .openFiles) (ofdOf e)) ≤ BLOCK
       within e o =
-          let a : tablesOf s .openFiles e OFFSET ≤ BLOCK = offsets-most SLOTS (tablesOf s) (h .tables) e (o .small) in
-          let b : tablesOf s .file (tablesOf s .openFiles e SLOT) LENGTH ≤ BLOCK = length-most SLOTS (tablesOf s) (h .tables) (tablesOf s .openFiles e SLOT) (h .tables .opens .open-files e (o .small) .slot-small (o .open-refs)) in
+          let a : tablesOf s .openFiles e OPEN-OFFSET ≤ BLOCK = offsets-most SLOTS (tablesOf s) (h .tables) e (o .small) in
+          let b : tablesOf s .file (tablesOf s .openFiles e OPEN-SLOT) FILE-LENGTH ≤ BLOCK = length-most SLOTS (tablesOf s) (h .tables) (tablesOf s .openFiles e OPEN-SLOT) (h .tables .opens .open-files e (o .small) .slot-small (o .open-refs)) in
           unfold tablesOf in (omega (arith, a, b))
 
   write-fit : (i : Fd) → Fit (Granting s h c) (decideWrite (view s .tree .file) (view s .openFiles) (view s .desc) (c .process) i (length (c .«data»)))
   unfolding decideWrite writeOpen writeSome writeFile
-  write-fit i = need-fit (held (view s .desc) (c .process) i) _ _ (λ t. need-fit (writes (modeAt (view s .openFiles (ofdHeld (view s .desc) (c .process) i .0) MODE))) _ _ (λ _. by (ofdHeld (view s .desc) (c .process) i .0) (open-at i t) (eqb (length (c .«data»)) 0)))
+  write-fit i = need-fit (held (view s .desc) (c .process) i) _ _ (λ t. need-fit (writes (modeAt (view s .openFiles (ofdHeld (view s .desc) (c .process) i .0) OPEN-MODE))) _ _ (λ _. by (ofdHeld (view s .desc) (c .process) i .0) (open-at i t) (eqb (length (c .«data»)) 0)))
     where
       by : (e : ℕ) → Held (tablesOf s) e → (b : Bool) → Fit (Granting s h c) (cond b (checks.granted 0 effect.Nothing) (writeFile (view s .tree .file) (view s .openFiles) (ofdOf e) (writeAt (view s .tree .file) (view s .openFiles) (ofdOf e)) (length (c .«data»))))
       by e o true = granting _ _ _ (nothing 0 _)
@@ -268,15 +268,15 @@ module _ (Q : List ℕ) (s : Store) (h : SoundStore s) (c : Call) (safe : policy
   execute-fit : (p : List ℕ) → GoodPath p → Fit (Granting s h c) (decideExecute Q (view s .tree) (subjectOf (view s .proc) (c .process)) p)
   unfolding decideExecute executeAt
   execute-fit p g = after-fit _ (path-fit s h Q (subjectOf (view s .proc) (c .process)) p g) (λ at f. need-fit (isPlain (view s .tree .file) (at .slot)) _ _ (λ k. allowed-fit (at .slot) EXECUTE _
-      (granting _ _ _ (executes (moved Q (subjectOf (view s .proc) (c .process) .label) (view s .tree .file (at .slot .0) LABEL)) u (label at (found-small s h Q (subjectOf (view s .proc) (c .process)) f))))))
+      (granting _ _ _ (executes (moved Q (subjectOf (view s .proc) (c .process) .label) (view s .tree .file (at .slot .0) FILE-LABEL)) u (label at (found-small s h Q (subjectOf (view s .proc) (c .process)) f))))))
     where
-      label : (at : Location) → at .slot .0 < SLOTS → moved Q (subjectOf (view s .proc) (c .process) .label) (view s .tree .file (at .slot .0) LABEL) ≤ LABEL-MAX
-      label at l = moved-small Q (view s .proc (c .process .0) PROCESS-LABEL) (view s .tree .file (at .slot .0) LABEL) safe (unfold tablesOf in own) (unfold tablesOf in program)
+      label : (at : Location) → at .slot .0 < SLOTS → moved Q (subjectOf (view s .proc) (c .process) .label) (view s .tree .file (at .slot .0) FILE-LABEL) ≤ LABEL-MAX
+      label at l = moved-small Q (view s .proc (c .process .0) PROCESS-LABEL) (view s .tree .file (at .slot .0) FILE-LABEL) safe (unfold tablesOf in own) (unfold tablesOf in program)
         where
           own : tablesOf s .proc (c .process .0) PROCESS-LABEL ≤ LABEL-MAX
           own = h .tables .procs (c .process .0) (u .small) .label-most
 
-          program : tablesOf s .file (at .slot .0) LABEL ≤ LABEL-MAX
+          program : tablesOf s .file (at .slot .0) FILE-LABEL ≤ LABEL-MAX
           program = h .tables .slots .files (at .slot .0) l .label-most
 
   -- ---- every call

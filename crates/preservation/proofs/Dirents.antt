@@ -12,28 +12,28 @@ use Rattle.preservation.proofs.Tables.{Tables, col, direntRow, rowsOf, 
 use Rattle.preservation.proofs.Sound.{All, Slots, Directories, SoundBut, File, Block, Dirent, Directory, Depths, naming, linkCount, nameCount, sameRow}
 use Rattle.preservation.proofs.Rows.{length-to, links-to, version-to}
 use Rattle.preservation.proofs.Counts.{ind-eq}
-use Rattle.rules.specs.Layout.{SLOTS, DIRENTS, DIRENT, NAME, KIND, LENGTH, LINKS, VERSION, FREE, DIRECTORY, WORD-MAX}
+use Rattle.rules.specs.Layout.{SLOTS, DIRENTS, DIRENT-WIDTH, NAME, FILE-KIND, FILE-LENGTH, FILE-LINKS, FILE-VERSION, FREE, DIRECTORY, WORD-MAX}
 
 -- ---- a block with one entry changed, as rows
 
-fill-at : (g : ℕ → ℕ) (p : ℕ) (r : ℕ → ℕ) → ((k : ℕ) → DIRENT ≤ k → r k ≡ 0) → (q k : ℕ) → rowsOf (fill g p r) q k ≡ upd (rowsOf g) p r q k
-fill-at g p r w q k = go (decLt k DIRENT)
+fill-at : (g : ℕ → ℕ) (p : ℕ) (r : ℕ → ℕ) → ((k : ℕ) → DIRENT-WIDTH ≤ k → r k ≡ 0) → (q k : ℕ) → rowsOf (fill g p r) q k ≡ upd (rowsOf g) p r q k
+fill-at g p r w q k = go (decLt k DIRENT-WIDTH)
   where
-    go : Dec (k < DIRENT) → rowsOf (fill g p r) q k ≡ upd (rowsOf g) p r q k
+    go : Dec (k < DIRENT-WIDTH) → rowsOf (fill g p r) q k ≡ upd (rowsOf g) p r q k
     go (yes l) =
-        let a : (DIRENT * q + k) / DIRENT ≡ q = omega arith in
-        let b : (DIRENT * q + k) % DIRENT ≡ k = omega arith in
-        let c : ltb k DIRENT ≡ true = lt-ltb k DIRENT l in
+        let a : (DIRENT-WIDTH * q + k) / DIRENT-WIDTH ≡ q = omega arith in
+        let b : (DIRENT-WIDTH * q + k) % DIRENT-WIDTH ≡ k = omega arith in
+        let c : ltb k DIRENT-WIDTH ≡ true = lt-ltb k DIRENT-WIDTH l in
         split q p (λ e t. rw (c, a, b, t)) (λ e t. rw (c, a, t, c))
     go (no n) =
-        let c : ltb k DIRENT ≡ false = le-ltb k DIRENT (omega arith) in
+        let c : ltb k DIRENT-WIDTH ≡ false = le-ltb k DIRENT-WIDTH (omega arith) in
         split q p (λ e t. rw (c, t) (sym (w k (omega arith)))) (λ e t. rw (c, t, c))
 
-pub rows-fill : (g : ℕ → ℕ) (p : ℕ) (r : ℕ → ℕ) → ((k : ℕ) → DIRENT ≤ k → r k ≡ 0) → rowsOf (fill g p r) ≡ upd (rowsOf g) p r
+pub rows-fill : (g : ℕ → ℕ) (p : ℕ) (r : ℕ → ℕ) → ((k : ℕ) → DIRENT-WIDTH ≤ k → r k ≡ 0) → rowsOf (fill g p r) ≡ upd (rowsOf g) p r
 rows-fill g p r w = fun-ext (λ q. fun-ext (λ k. fill-at g p r w q k))
 
-pub tail-fill : (g : ℕ → ℕ) (p : ℕ) (r : ℕ → ℕ) (b : ℕ) → p < DIRENTS → DIRENTS * DIRENT ≤ b → fill g p r b ≡ g b
-tail-fill g p r b hp hb = let n : b / DIRENT ≡ p → ⊥ = λ e. omega arith in rw (ne-eqb (b / DIRENT) p n)
+pub tail-fill : (g : ℕ → ℕ) (p : ℕ) (r : ℕ → ℕ) (b : ℕ) → p < DIRENTS → DIRENTS * DIRENT-WIDTH ≤ b → fill g p r b ≡ g b
+tail-fill g p r b hp hb = let n : b / DIRENT-WIDTH ≡ p → ⊥ = λ e. omega arith in rw (ne-eqb (b / DIRENT-WIDTH) p n)
 
 -- ---- names
 
@@ -88,45 +88,45 @@ naming-at kind pl d p s hd hp k e =
 -- ---- entry p of directory d becomes r; d's length z and version t; slot y has c links
 
 unfoldable pub placed : (d p : ℕ) → (ℕ → ℕ) → (z t y c : ℕ) → Tables → Tables
-placed d p r z t y c m = fileTo y LINKS c (fileTo d VERSION t (fileTo d LENGTH z (bytesTo d (fill (m .byte d) p r) m)))
+placed d p r z t y c m = fileTo y FILE-LINKS c (fileTo d FILE-VERSION t (fileTo d FILE-LENGTH z (bytesTo d (fill (m .byte d) p r) m)))
 
 -- what such a change owes, beside its counts
 pub record Fits (m : Tables) (d p : ℕ) (r : ℕ → ℕ) (t y : ℕ) : Type 0 where
   pub dir-small : d < SLOTS
-  pub dir-kind : m .file d KIND ≡ DIRECTORY
+  pub dir-kind : m .file d FILE-KIND ≡ DIRECTORY
   pub dirent-small : p < DIRENTS
-  pub row-end : (k : ℕ) → DIRENT ≤ k → r k ≡ 0
-  pub row-dirent : Dirent (col (m .file) KIND) r
+  pub row-end : (k : ℕ) → DIRENT-WIDTH ≤ k → r k ≡ 0
+  pub row-dirent : Dirent (col (m .file) FILE-KIND) r
   pub row-new : (r NAME ≡ 0 → ⊥) → (q : ℕ) → q < DIRENTS → (direntRow (m .byte) d q NAME ≡ 0 → ⊥) → sameRow (direntRow (m .byte) d q) r ≡ true → ⊥
   pub version-small : t ≤ WORD-MAX
-  pub file-used : m .file y KIND ≡ FREE → ⊥
+  pub file-used : m .file y FILE-KIND ≡ FREE → ⊥
   pub file-root : y ≡ 0 → ⊥
 
 module _ (x : ℕ) (m : Tables) (h : SoundBut x m) (d p : ℕ) (r : ℕ → ℕ) (z t y c : ℕ) (f : Fits m d p r t y) where
   abbrev pub byte′ : ℕ → ℕ → ℕ
   byte′ = upd (m .byte) d (fill (m .byte d) p r)
 
-  placed-files : All SLOTS (λ i. File (upd2 (upd2 (upd2 (m .file) d LENGTH z) d VERSION t) y LINKS c i))
-  placed-files = links-to (upd2 (upd2 (m .file) d LENGTH z) d VERSION t) (version-to (upd2 (m .file) d LENGTH z) (length-to (m .file) (h .slots .files) d z used) d t used (f .version-small)) y c (f .file-used)
+  placed-files : All SLOTS (λ i. File (upd2 (upd2 (upd2 (m .file) d FILE-LENGTH z) d FILE-VERSION t) y FILE-LINKS c i))
+  placed-files = links-to (upd2 (upd2 (m .file) d FILE-LENGTH z) d FILE-VERSION t) (version-to (upd2 (m .file) d FILE-LENGTH z) (length-to (m .file) (h .slots .files) d z used) d t used (f .version-small)) y c (f .file-used)
     where
-      used : m .file d KIND ≡ FREE → ⊥
+      used : m .file d FILE-KIND ≡ FREE → ⊥
       used k = omega (arith, f .dir-kind)
 
-  placed-blocks : All SLOTS (λ i. Block (m .file i KIND) (upd (col (m .file) LENGTH) d z i) (byte′ i))
+  placed-blocks : All SLOTS (λ i. Block (m .file i FILE-KIND) (upd (col (m .file) FILE-LENGTH) d z i) (byte′ i))
   placed-blocks i hi = split i d
-      (λ q e. let k : m .file i KIND ≡ DIRECTORY = rw q (f .dir-kind) in rw e (record {
+      (λ q e. let k : m .file i FILE-KIND ≡ DIRECTORY = rw q (f .dir-kind) in rw e (record {
         length-most = λ n. absurd (n k);
         past-zero = λ n. absurd (n k);
         tail-zero = λ _ b hb l. tail-fill (m .byte d) p r b (f .dirent-small) l ∙ h .slots .blocks d (f .dir-small) .tail-zero (f .dir-kind) b hb l;
       }))
       (λ q e. rw e (h .slots .blocks i hi))
 
-  placed-dirs : All SLOTS (λ i. m .file i KIND ≡ DIRECTORY → Directory (col (m .file) KIND) (direntRow byte′ i))
+  placed-dirs : All SLOTS (λ i. m .file i FILE-KIND ≡ DIRECTORY → Directory (col (m .file) FILE-KIND) (direntRow byte′ i))
   placed-dirs i hi k = split i d
-      (λ q e. rw (e, rows-fill (m .byte d) p r (f .row-end)) (dir-fill (col (m .file) KIND) (direntRow (m .byte) d) p r (h .tree .dirs d (f .dir-small) (f .dir-kind)) (f .row-dirent) (f .row-new)))
+      (λ q e. rw (e, rows-fill (m .byte d) p r (f .row-end)) (dir-fill (col (m .file) FILE-KIND) (direntRow (m .byte) d) p r (h .tree .dirs d (f .dir-small) (f .dir-kind)) (f .row-dirent) (f .row-new)))
       (λ q e. rw e (h .tree .dirs i hi k))
 
-  placed-lengths : z + ind (not (eqb (direntRow (m .byte) d p NAME) 0)) ≡ m .file d LENGTH + ind (not (eqb (r NAME) 0)) → All SLOTS (λ i. m .file i KIND ≡ DIRECTORY → upd (col (m .file) LENGTH) d z i ≡ nameCount (direntRow byte′ i))
+  placed-lengths : z + ind (not (eqb (direntRow (m .byte) d p NAME) 0)) ≡ m .file d FILE-LENGTH + ind (not (eqb (r NAME) 0)) → All SLOTS (λ i. m .file i FILE-KIND ≡ DIRECTORY → upd (col (m .file) FILE-LENGTH) d z i ≡ nameCount (direntRow byte′ i))
   placed-lengths a i hi k = split i d
       (λ q e. rw (e, rows-fill (m .byte d) p r (f .row-end)) (omega (arith, used-to (direntRow (m .byte) d) p r (f .dirent-small), h .tree .lengths d (f .dir-small) (f .dir-kind))))
       (λ q e. rw e (h .tree .lengths i hi k))
@@ -147,24 +147,24 @@ module _ (x : ℕ) (m : Tables) (h : SoundBut x m) (d p : ℕ) (r : ℕ → ℕ)
   pub placed-here-slot : direntRow byte′ d p NAME ≡ r NAME
   placed-here-slot = ap (λ (row : ℕ → ℕ). row NAME) placed-here
 
-  placed-links : All SLOTS (λ s. (s ≡ 0 → ⊥) → upd (col (m .file) LINKS) y c s + ind (eqb (direntRow (m .byte) d p NAME) s) ≡ m .file s LINKS + ind (eqb (r NAME) s)) →
-      All SLOTS (λ s. (s ≡ 0 → ⊥) → upd (col (m .file) LINKS) y c s ≡ linkCount (col (m .file) KIND) (direntRow byte′) s)
+  placed-links : All SLOTS (λ s. (s ≡ 0 → ⊥) → upd (col (m .file) FILE-LINKS) y c s + ind (eqb (direntRow (m .byte) d p NAME) s) ≡ m .file s FILE-LINKS + ind (eqb (r NAME) s)) →
+      All SLOTS (λ s. (s ≡ 0 → ⊥) → upd (col (m .file) FILE-LINKS) y c s ≡ linkCount (col (m .file) FILE-KIND) (direntRow byte′) s)
   placed-links a s hs n =
-      let b = naming-change (col (m .file) KIND) (direntRow (m .byte)) (direntRow byte′) d p s (f .dir-small) (f .dirent-small) (f .dir-kind) placed-other-slot in
+      let b = naming-change (col (m .file) FILE-KIND) (direntRow (m .byte)) (direntRow byte′) d p s (f .dir-small) (f .dirent-small) (f .dir-kind) placed-other-slot in
       let e : ind (eqb (direntRow byte′ d p NAME) s) ≡ ind (eqb (r NAME) s) = ap (λ (v : ℕ). ind (eqb v s)) placed-here-slot in
       omega (arith, a s hs n, h .tree .links s hs n)
 
   -- the groups
 
-  pub placed-slots : Slots (upd2 (upd2 (upd2 (m .file) d LENGTH z) d VERSION t) y LINKS c) byte′
+  pub placed-slots : Slots (upd2 (upd2 (upd2 (m .file) d FILE-LENGTH z) d FILE-VERSION t) y FILE-LINKS c) byte′
   placed-slots = record {
     files = placed-files;
     root-kind = h .slots .root-kind;
-    root-links = upd-other (col (m .file) LINKS) y c 0 (λ q. f .file-root (sym q)) ∙ h .slots .root-links;
+    root-links = upd-other (col (m .file) FILE-LINKS) y c 0 (λ q. f .file-root (sym q)) ∙ h .slots .root-links;
     blocks = placed-blocks;
   }
 
-  pub placed-tree : z + ind (not (eqb (direntRow (m .byte) d p NAME) 0)) ≡ m .file d LENGTH + ind (not (eqb (r NAME) 0)) →
-      All SLOTS (λ s. (s ≡ 0 → ⊥) → upd (col (m .file) LINKS) y c s + ind (eqb (direntRow (m .byte) d p NAME) s) ≡ m .file s LINKS + ind (eqb (r NAME) s)) →
-      Depths (col (m .file) KIND) (direntRow byte′) → Directories (col (m .file) KIND) (upd (col (m .file) LENGTH) d z) (upd (col (m .file) LINKS) y c) (direntRow byte′)
+  pub placed-tree : z + ind (not (eqb (direntRow (m .byte) d p NAME) 0)) ≡ m .file d FILE-LENGTH + ind (not (eqb (r NAME) 0)) →
+      All SLOTS (λ s. (s ≡ 0 → ⊥) → upd (col (m .file) FILE-LINKS) y c s + ind (eqb (direntRow (m .byte) d p NAME) s) ≡ m .file s FILE-LINKS + ind (eqb (r NAME) s)) →
+      Depths (col (m .file) FILE-KIND) (direntRow byte′) → Directories (col (m .file) FILE-KIND) (upd (col (m .file) FILE-LENGTH) d z) (upd (col (m .file) FILE-LINKS) y c) (direntRow byte′)
   placed-tree a b e = record { dirs = placed-dirs; lengths = placed-lengths a; links = placed-links b; depths = e }

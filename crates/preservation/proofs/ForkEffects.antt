@@ -7,7 +7,7 @@ use native.Mathlib.Omega.{arith}
 use native.Mathlib.Decide.{ℕ-discrete}
 use lib.Dec.{eqb}
 use borrow.Author.Tests.{eq-eqb, ne-eqb}
-use Rattle.rules.specs.Layout.{SLOTS, PROCESSES, DESCRIPTORS, REFERENCES, USED, USER-MAX, LABEL-MAX}
+use Rattle.rules.specs.Layout.{SLOTS, PROCESSES, DESCRIPTORS, OPEN-REFERENCES, PROCESS-USED, USER-MAX, LABEL-MAX}
 use Rattle.rules.specs.Scan.{repeat}
 use Rattle.rules.specs.Store.{Store, view, ofdOf, up, applyAll, change, descTo, fdOf}
 use Rattle.rules.specs.Store as rules
@@ -61,10 +61,10 @@ module _ (p q : Pid) (u l : ℕ) (hp : p .0 < PROCESSES) (hq : q .0 < PROCESSES)
       pub shared-held : Held (spawned (tablesOf t)) e
       shared-held = word.held SLOTS (spawned (tablesOf t)) (c .sound) (p .0) i e hp hi z
 
-      pub shared-up : up (tablesOf t .openFiles e REFERENCES) ≡ tablesOf t .openFiles e REFERENCES + 1
-      shared-up = up-is (tablesOf t .openFiles e REFERENCES) (omega (arith, references-most SLOTS (spawned (tablesOf t)) (c .sound) e (shared-held .small)))
+      pub shared-up : up (tablesOf t .openFiles e OPEN-REFERENCES) ≡ tablesOf t .openFiles e OPEN-REFERENCES + 1
+      shared-up = up-is (tablesOf t .openFiles e OPEN-REFERENCES) (omega (arith, references-most SLOTS (spawned (tablesOf t)) (c .sound) e (shared-held .small)))
 
-      share-one : Sharing s (i + 1) (applyAll (shareChanges q (fdOf i) (share.Held (ofdOf e) (up (tablesOf t .openFiles e REFERENCES)))) t)
+      share-one : Sharing s (i + 1) (applyAll (shareChanges q (fdOf i) (share.Held (ofdOf e) (up (tablesOf t .openFiles e OPEN-REFERENCES)))) t)
       unfolding shareChanges applyAll
       share-one = record {
         sized = w .sized;
@@ -75,9 +75,9 @@ module _ (p q : Pid) (u l : ℕ) (hp : p .0 < PROCESSES) (hq : q .0 < PROCESSES)
         bytes-same = ap (λ (m : Tables). m .byte) (w .is) ∙ (unfold shared handed in c .bytes-same);
       }
         where
-          w : Has (change (rules.openWord e REFERENCES (up (tablesOf t .openFiles e REFERENCES))) (change (descTo (q .0) i (up e)) t)) (shared (q .0) i e (tablesOf t))
+          w : Has (change (rules.openWord e OPEN-REFERENCES (up (tablesOf t .openFiles e OPEN-REFERENCES))) (change (descTo (q .0) i (up e)) t)) (shared (q .0) i e (tablesOf t))
           w = unfold shared handed in rw (up-is e (omega (arith, shared-held .small)), shared-up)
-              (has-openRow (has-descTo its (q .0) i (e + 1) hq hi) e REFERENCES (tablesOf t .openFiles e REFERENCES + 1) (shared-held .small) (omega arith))
+              (has-openRow (has-descTo its (q .0) i (e + 1) hq hi) e OPEN-REFERENCES (tablesOf t .openFiles e OPEN-REFERENCES + 1) (shared-held .small) (omega arith))
 
     pub sharing-one : Sharing s (i + 1) (effects.shared p q i t)
     unfolding effects.shared shareOf held
@@ -96,7 +96,7 @@ module _ (p q : Pid) (u l : ℕ) (hp : p .0 < PROCESSES) (hq : q .0 < PROCESSES)
       subst (λ (v : Store). Sharing s n v) (repeat-step (effects.shared p q) i n t refl (omega arith))
       (sharing-some s k (i + 1) n (effects.shared p q i t) (omega arith) hn (sharing-one s i t (omega arith) c))
 
-  pub sharing-start : (s : Store) → SoundStore s → tablesOf s .proc (q .0) USED ≡ 0 → u ≤ USER-MAX → l ≤ LABEL-MAX → Sharing s 0 s
+  pub sharing-start : (s : Store) → SoundStore s → tablesOf s .proc (q .0) PROCESS-USED ≡ 0 → u ≤ USER-MAX → l ≤ LABEL-MAX → Sharing s 0 s
   sharing-start s h f hu hl = record {
     sized = h .sized;
     sound = spawn-sound SLOTS (tablesOf s) (h .tables) (q .0) u l hq hu hl;
@@ -111,7 +111,7 @@ module _ (p q : Pid) (u l : ℕ) (hp : p .0 < PROCESSES) (hq : q .0 < PROCESSES)
     pub files-same : tables .file ≡ tablesOf s .file
     pub bytes-same : tables .byte ≡ tablesOf s .byte
 
-  pub fork-leaves : (s : Store) → SoundStore s → tablesOf s .proc (q .0) USED ≡ 0 → u ≤ USER-MAX → l ≤ LABEL-MAX → Forks s (applyAll (forkChanges q (record { user = u; label = l })) (sharedAll p q s))
+  pub fork-leaves : (s : Store) → SoundStore s → tablesOf s .proc (q .0) PROCESS-USED ≡ 0 → u ≤ USER-MAX → l ≤ LABEL-MAX → Forks s (applyAll (forkChanges q (record { user = u; label = l })) (sharedAll p q s))
   unfolding forkChanges sharedAll applyAll
   fork-leaves s h f hu hl = record {
     tables = spawned (tablesOf (repeat (effects.shared p q) 0 DESCRIPTORS s));

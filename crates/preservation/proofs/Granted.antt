@@ -8,8 +8,8 @@ use native.Mathlib.Decide.{decLt}
 use lib.Dec.{eqb}
 use lib.ListN.{length, getD, List·getD-eq-default}
 use borrow.Author.Tests.{eqb-true, eqb-false, ltb-true}
-use Rattle.rules.specs.Layout.{SLOTS, BLOCK, DIRENTS, OPEN-FILES, PROCESSES, DESCRIPTORS, RIGHTS, LABELS, NONE, BITS-MAX, LABEL-MAX}
-use Rattle.rules.specs.Layout.{KIND, OWNER, LENGTH, LINKS, SLOT, OFFSET, REFERENCES, USED, FREE, PLAIN, DIRECTORY}
+use Rattle.rules.specs.Layout.{SLOTS, BLOCK, DIRENTS, OPEN-FILES, PROCESSES, DESCRIPTORS, RIGHTS-SIZE, LABELS, NO-TRANSITION, BITS-MAX, LABEL-MAX}
+use Rattle.rules.specs.Layout.{FILE-KIND, FILE-OWNER, FILE-LENGTH, FILE-LINKS, OPEN-SLOT, OPEN-OFFSET, OPEN-REFERENCES, PROCESS-USED, FREE, PLAIN, DIRECTORY}
 use Rattle.rules.specs.Scan.{all}
 use Rattle.rules.specs.Store.{Store, view, slot, isSlot, isPid, isFd, ofdOf, isOfd, entry, isDirent, bitsAt, subjectOf, up, plus}
 use Rattle.rules.specs.Paths.{names, lastName}
@@ -80,7 +80,7 @@ fit-of (refusing r k) = tt
 module _ (s : Store) (h : SoundStore s) (c : Call) where
   -- call 4
   pub data Unlinking : ℕ → Output → Effect → Type 0 where
-    unlinking : (d : Slot) (i : ℕ) (y : Slot) → Names s h d i y → tablesOf s .file (y .0) KIND ≡ PLAIN → Unlinking 0 output.Nothing (effect.Unlinked (loses (view s .tree .file) d (entry i)) (unnaming (view s .tree .file) (view s .openFiles) y))
+    unlinking : (d : Slot) (i : ℕ) (y : Slot) → Names s h d i y → tablesOf s .file (y .0) FILE-KIND ≡ PLAIN → Unlinking 0 output.Nothing (effect.Unlinked (loses (view s .tree .file) d (entry i)) (unnaming (view s .tree .file) (view s .openFiles) y))
 
   -- every call
   pub data Granting : ℕ → Output → Effect → Type 0 where
@@ -90,19 +90,19 @@ module _ (s : Store) (h : SoundStore s) (c : Call) where
     creates : (d : Slot) (i y kind bits : ℕ) → Creates s h (lastName (names (c .path))) (subjectOf (view s .proc) (c .process)) d i (slot y) kind bits →
         Granting y output.Nothing (effect.Created (gains (view s .tree .file) d (entry i)) (slot y) (newRecord (view s .tree .file) (subjectOf (view s .proc) (c .process)) kind (bitsAt bits) d (slot y)))
     unlinks : {n : ℕ} {o : Output} {e : Effect} → Unlinking n o e → Granting n o e
-    removes : (d : Slot) (i : ℕ) (y : Slot) → Names s h d i y → tablesOf s .file (y .0) KIND ≡ DIRECTORY → tablesOf s .file (y .0) LENGTH ≡ 0 →
+    removes : (d : Slot) (i : ℕ) (y : Slot) → Names s h d i y → tablesOf s .file (y .0) FILE-KIND ≡ DIRECTORY → tablesOf s .file (y .0) FILE-LENGTH ≡ 0 →
         Granting 0 output.Nothing (effect.Removed (loses (view s .tree .file) d (entry i)) y (checks.freed (view s .tree .file) y))
-    links : (d : Slot) (i : ℕ) (y : Slot) → Naming (tablesOf s) (lastName (names (c .«data»))) d i y → y .0 < SLOTS → tablesOf s .file (y .0) KIND ≡ PLAIN →
-        Granting 0 output.Nothing (effect.Linked (gains (view s .tree .file) d (entry i)) y (up (view s .tree .file (y .0) LINKS)))
-    changesBits : (y : Slot) (b : Bits) → y .0 < SLOTS → (tablesOf s .file (y .0) KIND ≡ FREE → ⊥) → b .0 ≤ BITS-MAX → owns (subjectOf (view s .proc) (c .process)) (view s .tree .file (y .0) OWNER) ≡ true → Granting 0 output.Nothing (effect.BitsChanged y b)
+    links : (d : Slot) (i : ℕ) (y : Slot) → Naming (tablesOf s) (lastName (names (c .«data»))) d i y → y .0 < SLOTS → tablesOf s .file (y .0) FILE-KIND ≡ PLAIN →
+        Granting 0 output.Nothing (effect.Linked (gains (view s .tree .file) d (entry i)) y (up (view s .tree .file (y .0) FILE-LINKS)))
+    changesBits : (y : Slot) (b : Bits) → y .0 < SLOTS → (tablesOf s .file (y .0) FILE-KIND ≡ FREE → ⊥) → b .0 ≤ BITS-MAX → owns (subjectOf (view s .proc) (c .process)) (view s .tree .file (y .0) FILE-OWNER) ≡ true → Granting 0 output.Nothing (effect.BitsChanged y b)
     closes : (i : Fd) → Caller (tablesOf s) (c .process) → i .0 < DESCRIPTORS → Granting 0 output.Nothing (effect.Closed i (releasing (view s .tree .file) (view s .openFiles) (view s .desc) (c .process) i))
     stores : (e at : ℕ) → Held (tablesOf s) e → at + length (c .«data») ≤ BLOCK →
-        Granting (length (c .«data»)) output.Nothing (effect.Stored (placement (view s .tree .file) (ofdOf e) (slot (view s .openFiles e SLOT)) at (length (c .«data»))))
-    reads : (e n : ℕ) → Held (tablesOf s) e → tablesOf s .openFiles e OFFSET + n ≤ BLOCK → Granting n (output.Bytes (slot (view s .openFiles e SLOT)) (view s .openFiles e OFFSET) n) (effect.Moved (ofdOf e) (plus (view s .openFiles e OFFSET) n))
+        Granting (length (c .«data»)) output.Nothing (effect.Stored (placement (view s .tree .file) (ofdOf e) (slot (view s .openFiles e OPEN-SLOT)) at (length (c .«data»))))
+    reads : (e n : ℕ) → Held (tablesOf s) e → tablesOf s .openFiles e OPEN-OFFSET + n ≤ BLOCK → Granting n (output.Bytes (slot (view s .openFiles e OPEN-SLOT)) (view s .openFiles e OPEN-OFFSET) n) (effect.Moved (ofdOf e) (plus (view s .openFiles e OPEN-OFFSET) n))
     seeks : (e n : ℕ) → Held (tablesOf s) e → n ≤ BLOCK → Granting n output.Nothing (effect.Moved (ofdOf e) n)
     duplicates : (i j : Fd) (e : ℕ) → Holds (tablesOf s) (c .process) i e → j .0 < DESCRIPTORS → tablesOf s .desc (c .process .0) (j .0) ≡ 0 →
-        Granting (j .0) output.Nothing (effect.Duplicated j (ofdOf e) (up (view s .openFiles e REFERENCES)))
-    forks : (q : Pid) → Caller (tablesOf s) (c .process) → q .0 < PROCESSES → tablesOf s .proc (q .0) USED ≡ 0 →
+        Granting (j .0) output.Nothing (effect.Duplicated j (ofdOf e) (up (view s .openFiles e OPEN-REFERENCES)))
+    forks : (q : Pid) → Caller (tablesOf s) (c .process) → q .0 < PROCESSES → tablesOf s .proc (q .0) PROCESS-USED ≡ 0 →
         Granting (q .0) output.Nothing (effect.Forked q (subjectOf (view s .proc) (c .process)))
     exits : Caller (tablesOf s) (c .process) → Granting 0 output.Nothing effect.Exited
     executes : (l : ℕ) → Caller (tablesOf s) (c .process) → l ≤ LABEL-MAX → Granting 0 output.Nothing (effect.Relabelled l)
@@ -111,7 +111,7 @@ module _ (s : Store) (h : SoundStore s) (c : Call) where
 
 module _ (s : Store) (h : SoundStore s) where
   -- a record past the last slot is 0
-  pub used-small : (i : ℕ) → (tablesOf s .file i KIND ≡ FREE → ⊥) → i < SLOTS
+  pub used-small : (i : ℕ) → (tablesOf s .file i FILE-KIND ≡ FREE → ⊥) → i < SLOTS
   unfolding tablesOf
   used-small i n = by (decLt i SLOTS)
     where
@@ -119,12 +119,12 @@ module _ (s : Store) (h : SoundStore s) where
       by (yes l) = l
       by (no l) = absurd (n (List·getD-eq-default (s .files) 0 (omega (arith, h .sized .files-size))))
 
-  pub plain-small : (i : ℕ) → tablesOf s .file i KIND ≡ PLAIN → i < SLOTS
+  pub plain-small : (i : ℕ) → tablesOf s .file i FILE-KIND ≡ PLAIN → i < SLOTS
   plain-small i e = used-small i (λ z. omega (arith, e, z))
 
   pub in-use : (p : Pid) → inUse (view s .proc) p ≡ true → Caller (tablesOf s) p
   unfolding inUse tablesOf
-  in-use p e = let w = means-every (means-and (means-lt (p .0) PROCESSES) (means-last (means-eq (view s .proc (p .0) USED) 1))) .holds e in record { small = w .0; used = w .1 }
+  in-use p e = let w = means-every (means-and (means-lt (p .0) PROCESSES) (means-last (means-eq (view s .proc (p .0) PROCESS-USED) 1))) .holds e in record { small = w .0; used = w .1 }
 
   pub holds : (p : Pid) (i : Fd) → Caller (tablesOf s) p → held (view s .desc) p i ≡ true → Holds (tablesOf s) p i (ofdHeld (view s .desc) p i .0)
   unfolding held tablesOf
@@ -143,21 +143,21 @@ module _ (s : Store) (h : SoundStore s) where
 
   -- ---- the lowest free ones
 
-  pub slot-free : isSlot (freeSlot (view s .tree .file)) ≡ true → tablesOf s .file (freeSlot (view s .tree .file) .0) KIND ≡ FREE
+  pub slot-free : isSlot (freeSlot (view s .tree .file)) ≡ true → tablesOf s .file (freeSlot (view s .tree .file) .0) FILE-KIND ≡ FREE
   unfolding tablesOf
-  slot-free t = eqb-true (view s .tree .file (freeSlot (view s .tree .file) .0) KIND) FREE (unfold slotFree in first-passes (slotFree (view s .tree .file)) SLOTS (ltb-true (freeSlot (view s .tree .file) .0) SLOTS t))
+  slot-free t = eqb-true (view s .tree .file (freeSlot (view s .tree .file) .0) FILE-KIND) FREE (unfold slotFree in first-passes (slotFree (view s .tree .file)) SLOTS (ltb-true (freeSlot (view s .tree .file) .0) SLOTS t))
 
-  pub ofd-free : isOfd (freeOfd (view s .openFiles)) ≡ true → tablesOf s .openFiles (freeOfd (view s .openFiles) .0) REFERENCES ≡ 0
+  pub ofd-free : isOfd (freeOfd (view s .openFiles)) ≡ true → tablesOf s .openFiles (freeOfd (view s .openFiles) .0) OPEN-REFERENCES ≡ 0
   unfolding tablesOf
-  ofd-free t = eqb-true (view s .openFiles (freeOfd (view s .openFiles) .0) REFERENCES) 0 (unfold ofdFree in first-passes (ofdFree (view s .openFiles)) OPEN-FILES (ltb-true (freeOfd (view s .openFiles) .0) OPEN-FILES t))
+  ofd-free t = eqb-true (view s .openFiles (freeOfd (view s .openFiles) .0) OPEN-REFERENCES) 0 (unfold ofdFree in first-passes (ofdFree (view s .openFiles)) OPEN-FILES (ltb-true (freeOfd (view s .openFiles) .0) OPEN-FILES t))
 
   pub fd-free : (p : Pid) → isFd (freeFd (view s .desc) p) ≡ true → tablesOf s .desc (p .0) (freeFd (view s .desc) p .0) ≡ 0
   unfolding tablesOf
   fd-free p t = eqb-true (view s .desc (p .0) (freeFd (view s .desc) p .0)) 0 (unfold fdFree in first-passes (fdFree (view s .desc) p) DESCRIPTORS (ltb-true (freeFd (view s .desc) p .0) DESCRIPTORS t))
 
-  pub pid-free : isPid (freePid (view s .proc)) ≡ true → tablesOf s .proc (freePid (view s .proc) .0) USED ≡ 0
+  pub pid-free : isPid (freePid (view s .proc)) ≡ true → tablesOf s .proc (freePid (view s .proc) .0) PROCESS-USED ≡ 0
   unfolding tablesOf
-  pid-free t = eqb-true (view s .proc (freePid (view s .proc) .0) USED) 0 (unfold pidFree in first-passes (pidFree (view s .proc)) PROCESSES (ltb-true (freePid (view s .proc) .0) PROCESSES t))
+  pid-free t = eqb-true (view s .proc (freePid (view s .proc) .0) PROCESS-USED) 0 (unfold pidFree in first-passes (pidFree (view s .proc)) PROCESSES (ltb-true (freePid (view s .proc) .0) PROCESSES t))
 
   pub dirent-free : (d : ℕ) → isDirent (freeDirent (view s .tree .shown d)) ≡ true → isEmpty (view s .tree .shown d) (freeDirent (view s .tree .shown d) .0) ≡ true
   dirent-free d t = first-passes (isEmpty (view s .tree .shown d)) DIRENTS (ltb-true (freeDirent (view s .tree .shown d) .0) DIRENTS t)
@@ -166,22 +166,22 @@ module _ (s : Store) (h : SoundStore s) where
 
 pub moved-small : (Q : List ℕ) (l m : ℕ) → policySound Q ≡ true → l ≤ LABEL-MAX → m ≤ LABEL-MAX → moved Q l m ≤ LABEL-MAX
 unfolding moved policySound transition transitionSound
-moved-small Q l m e hl hm = by (eqb (transition Q l m) NONE) refl
+moved-small Q l m e hl hm = by (eqb (transition Q l m) NO-TRANSITION) refl
   where
     t : ℕ
-    t = getD Q (RIGHTS + (LABELS * l + m)) 0
+    t = getD Q (RIGHTS-SIZE + (LABELS * l + m)) 0
 
-    parts : all (transitionSound Q) RIGHTS (RIGHTS + RIGHTS) ≡ true
-    parts = means-every (means-and (means-test (eqb (length Q) (RIGHTS + RIGHTS))) (means-and (means-test (all (rightSound Q) 0 RIGHTS)) (means-last (means-test (all (transitionSound Q) RIGHTS (RIGHTS + RIGHTS)))))) .holds e .1 .1
+    parts : all (transitionSound Q) RIGHTS-SIZE (RIGHTS-SIZE + RIGHTS-SIZE) ≡ true
+    parts = means-every (means-and (means-test (eqb (length Q) (RIGHTS-SIZE + RIGHTS-SIZE))) (means-and (means-test (all (rightSound Q) 0 RIGHTS-SIZE)) (means-last (means-test (all (transitionSound Q) RIGHTS-SIZE (RIGHTS-SIZE + RIGHTS-SIZE)))))) .holds e .1 .1
 
-    either : (t ≤ LABEL-MAX → ⊥) → t ≡ NONE
-    either = unfold transitionSound in (means-or (means-le (getD Q (RIGHTS + (LABELS * l + m)) 0) LABEL-MAX) (means-eq (getD Q (RIGHTS + (LABELS * l + m)) 0) NONE)
-        .holds (all-at (transitionSound Q) RIGHTS (RIGHTS + RIGHTS) parts (RIGHTS + (LABELS * l + m)) (omega arith) (omega arith)))
+    either : (t ≤ LABEL-MAX → ⊥) → t ≡ NO-TRANSITION
+    either = unfold transitionSound in (means-or (means-le (getD Q (RIGHTS-SIZE + (LABELS * l + m)) 0) LABEL-MAX) (means-eq (getD Q (RIGHTS-SIZE + (LABELS * l + m)) 0) NO-TRANSITION)
+        .holds (all-at (transitionSound Q) RIGHTS-SIZE (RIGHTS-SIZE + RIGHTS-SIZE) parts (RIGHTS-SIZE + (LABELS * l + m)) (omega arith) (omega arith)))
 
-    by : (b : Bool) → eqb (getD Q (RIGHTS + (LABELS * l + m)) 0) NONE ≡ b → cond b l (getD Q (RIGHTS + (LABELS * l + m)) 0) ≤ LABEL-MAX
+    by : (b : Bool) → eqb (getD Q (RIGHTS-SIZE + (LABELS * l + m)) 0) NO-TRANSITION ≡ b → cond b l (getD Q (RIGHTS-SIZE + (LABELS * l + m)) 0) ≤ LABEL-MAX
     by true q = hl
-    by false q = label (decLt LABEL-MAX (getD Q (RIGHTS + (LABELS * l + m)) 0))
+    by false q = label (decLt LABEL-MAX (getD Q (RIGHTS-SIZE + (LABELS * l + m)) 0))
       where
-        label : Dec (LABEL-MAX < getD Q (RIGHTS + (LABELS * l + m)) 0) → getD Q (RIGHTS + (LABELS * l + m)) 0 ≤ LABEL-MAX
-        label (yes g) = absurd (eqb-false (getD Q (RIGHTS + (LABELS * l + m)) 0) NONE q (either (λ y. omega arith)))
+        label : Dec (LABEL-MAX < getD Q (RIGHTS-SIZE + (LABELS * l + m)) 0) → getD Q (RIGHTS-SIZE + (LABELS * l + m)) 0 ≤ LABEL-MAX
+        label (yes g) = absurd (eqb-false (getD Q (RIGHTS-SIZE + (LABELS * l + m)) 0) NO-TRANSITION q (either (λ y. omega arith)))
         label (no g) = omega arith

@@ -3,7 +3,7 @@ use mathlib.Core.Path.{_≡_, refl, sym, ap, _∙_}
 use Prim.Native.Nat.{ℕ, _<_}
 use lib.Seq.{ext-getD}
 use borrow.Author.Tests.{ne-eqb}
-use Rattle.rules.specs.Layout.{SLOTS, KIND, LENGTH, LINKS, VERSION, FREE}
+use Rattle.rules.specs.Layout.{SLOTS, FILE-KIND, FILE-LENGTH, FILE-LINKS, FILE-VERSION, FREE}
 use Rattle.rules.specs.Store.{Store, block}
 use Rattle.rules.specs.declared.ids.Slot.{Slot}
 use Rattle.rules.specs.declared.decision.Record.{Record}
@@ -37,9 +37,9 @@ module _ {K : ℕ → Type 0} (f : ℕ) where
   -- ---- changes of another slot, or of a column that is not meant
 
   -- bytes, length and version: a directory that gains or loses a name, a file that is written
-  pub kept-written : (d : ℕ) (g : ℕ → ℕ) (z t : ℕ) (m : Tables) → (f ≡ d → ⊥) → Kept K f m (fileTo d VERSION t (fileTo d LENGTH z (bytesTo d g m)))
+  pub kept-written : (d : ℕ) (g : ℕ → ℕ) (z t : ℕ) (m : Tables) → (f ≡ d → ⊥) → Kept K f m (fileTo d FILE-VERSION t (fileTo d FILE-LENGTH z (bytesTo d g m)))
   kept-written d g z t m n = record {
-    words = λ k _. row-other (fileTo d LENGTH z m .file) d VERSION t f k n ∙ row-other (m .file) d LENGTH z f k n;
+    words = λ k _. row-other (fileTo d FILE-LENGTH z m .file) d FILE-VERSION t f k n ∙ row-other (m .file) d FILE-LENGTH z f k n;
     bytes = upd-other (m .byte) d g f n;
   }
 
@@ -58,10 +58,10 @@ module _ {K : ℕ → Type 0} (f : ℕ) where
   kept-remove s h d i y r n q = kept-both (kept-written (d .0) _ _ _ (tablesOf s) n) (kept-remade (y .0) _ _ _ q)
 
   -- an unlink leaves each slot that it does not free, but for its link count
-  pub kept-unlink : (s : Store) (h : SoundStore s) (d : Slot) (i : ℕ) (y : Slot) → (f ≡ d .0 → ⊥) → ((k : ℕ) → K k → k ≡ LINKS → ⊥) → {u : Unnamed} → Unnaming s h y u → (unlinkedTables s h d i u .file f KIND ≡ FREE → ⊥) →
+  pub kept-unlink : (s : Store) (h : SoundStore s) (d : Slot) (i : ℕ) (y : Slot) → (f ≡ d .0 → ⊥) → ((k : ℕ) → K k → k ≡ FILE-LINKS → ⊥) → {u : Unnamed} → Unnaming s h y u → (unlinkedTables s h d i u .file f FILE-KIND ≡ FREE → ⊥) →
       Kept K f (tablesOf s) (unlinkedTables s h d i u)
   unfolding unlinkedTables
-  kept-unlink s h d i y n l (keeps a) u = kept-both (kept-written (d .0) _ _ _ (tablesOf s) n) (kept-column (y .0) LINKS _ _ l)
+  kept-unlink s h d i y n l (keeps a) u = kept-both (kept-written (d .0) _ _ _ (tablesOf s) n) (kept-column (y .0) FILE-LINKS _ _ l)
   kept-unlink s h d i y n l (frees a b) u = split f (y .0) (λ q e. absurd (u (unfold remade in rw e))) (λ q _. kept-remove s h d i y _ n q)
 
 pub unlinked-open-files : (s : Store) (h : SoundStore s) (d : Slot) (i : ℕ) {y : Slot} {u : Unnamed} → Unnaming s h y u → unlinkedTables s h d i u .openFiles ≡ tablesOf s .openFiles

@@ -11,7 +11,7 @@ use Rattle.preservation.proofs.Tables.{Tables, col, direntRow, fill}
 use Rattle.preservation.proofs.Sound.{All, Sound, SoundBut, Depths, openCount}
 use Rattle.preservation.proofs.Counts.{ind-eq, ind-ne}
 use Rattle.preservation.proofs.Dirents.{placed, Fits, placed-slots, placed-tree, placed-other-slot, placed-here-slot, naming-at}
-use Rattle.rules.specs.Layout.{SLOTS, DIRENTS, NAME, NAMES, KIND, LENGTH, LINKS, PLAIN, DIRECTORY, SLOT, REFERENCES}
+use Rattle.rules.specs.Layout.{SLOTS, DIRENTS, NAME, NAMES, FILE-KIND, FILE-LENGTH, FILE-LINKS, PLAIN, DIRECTORY, OPEN-SLOT, OPEN-REFERENCES}
 
 pub loosen : (x : ℕ) (m : Tables) → Sound m → SoundBut x m
 loosen x m h = record {
@@ -26,7 +26,7 @@ loosen x m h = record {
 }
 
 -- slot x is a directory named once, or a plain file that is named or open
-pub tighten : (x : ℕ) (m : Tables) → SoundBut x m → (m .file x KIND ≡ DIRECTORY → (x ≡ 0 → ⊥) → m .file x LINKS ≡ 1) → (m .file x KIND ≡ PLAIN → 0 < m .file x LINKS + openCount (col (m .openFiles) SLOT) (col (m .openFiles) REFERENCES) x) → Sound m
+pub tighten : (x : ℕ) (m : Tables) → SoundBut x m → (m .file x FILE-KIND ≡ DIRECTORY → (x ≡ 0 → ⊥) → m .file x FILE-LINKS ≡ 1) → (m .file x FILE-KIND ≡ PLAIN → 0 < m .file x FILE-LINKS + openCount (col (m .openFiles) OPEN-SLOT) (col (m .openFiles) OPEN-REFERENCES) x) → Sound m
 tighten x m h a b = record {
   slots = h .slots;
   tree = h .tree;
@@ -47,17 +47,17 @@ ind-some n e = rw (ne-eqb n 0 e)
 -- ---- link: an empty entry of d names y
 
 unfoldable pub linked : (d p : ℕ) → (ℕ → ℕ) → (t y : ℕ) → Tables → Tables
-linked d p r t y m = placed d p r (m .file d LENGTH + 1) t y (m .file y LINKS + 1) m
+linked d p r t y m = placed d p r (m .file d FILE-LENGTH + 1) t y (m .file y FILE-LINKS + 1) m
 
 -- what a new directory owes: it is empty, has no name yet, and stands at most NAMES deep
 pub record Leaf (m : Tables) (deep : ℕ) (y : ℕ) : Type 0 where
-  pub no-links : m .file y LINKS ≡ 0
+  pub no-links : m .file y FILE-LINKS ≡ 0
   pub no-dirents : All DIRENTS (λ q. direntRow (m .byte) y q NAME ≡ 0)
   pub not-deep : deep < NAMES
 
 module _ (m : Tables) (d p : ℕ) (r : ℕ → ℕ) (t y : ℕ) (h : SoundBut y m) (f : Fits m d p r t y) (e : r NAME ≡ y) (empty : direntRow (m .byte) d p NAME ≡ 0) (ne : d ≡ y → ⊥)
-    (c : Depths (col (m .file) KIND) (direntRow (m .byte))) (leaf : m .file y KIND ≡ DIRECTORY → Leaf m (c .depth d) y) where
-  linked-depths : Depths (col (m .file) KIND) (direntRow (upd (m .byte) d (fill (m .byte d) p r)))
+    (c : Depths (col (m .file) FILE-KIND) (direntRow (m .byte))) (leaf : m .file y FILE-KIND ≡ DIRECTORY → Leaf m (c .depth d) y) where
+  linked-depths : Depths (col (m .file) FILE-KIND) (direntRow (upd (m .byte) d (fill (m .byte d) p r)))
   linked-depths = record {
     depth = upd D y (suc (D d));
     depth-root = upd-other D y (suc (D d)) 0 (λ q. f .file-root (sym q)) ∙ c .depth-root;
@@ -71,13 +71,13 @@ module _ (m : Tables) (d p : ℕ) (r : ℕ → ℕ) (t y : ℕ) (h : SoundBut y 
       b : ℕ → ℕ → ℕ
       b = upd (m .byte) d (fill (m .byte d) p r)
 
-      old : (u : ℕ) → u < SLOTS → m .file u KIND ≡ DIRECTORY → (q : ℕ) → q < DIRENTS → (direntRow (m .byte) u q NAME ≡ 0 → ⊥) → m .file (direntRow (m .byte) u q NAME) KIND ≡ DIRECTORY → upd D y (suc (D d)) (direntRow (m .byte) u q NAME) ≡ suc (upd D y (suc (D d)) u)
+      old : (u : ℕ) → u < SLOTS → m .file u FILE-KIND ≡ DIRECTORY → (q : ℕ) → q < DIRENTS → (direntRow (m .byte) u q NAME ≡ 0 → ⊥) → m .file (direntRow (m .byte) u q NAME) FILE-KIND ≡ DIRECTORY → upd D y (suc (D d)) (direntRow (m .byte) u q NAME) ≡ suc (upd D y (suc (D d)) u)
       old u hu ku q hq n k =
-          let a : direntRow (m .byte) u q NAME ≡ y → ⊥ = λ z. omega (arith, leaf (rw z at k) .no-links, h .tree .links y (rw z at (h .tree .dirs u hu ku .dirents q hq .slot-small)) (f .file-root), naming-at (col (m .file) KIND) (direntRow (m .byte)) u q y hu hq ku z) in
+          let a : direntRow (m .byte) u q NAME ≡ y → ⊥ = λ z. omega (arith, leaf (rw z at k) .no-links, h .tree .links y (rw z at (h .tree .dirs u hu ku .dirents q hq .slot-small)) (f .file-root), naming-at (col (m .file) FILE-KIND) (direntRow (m .byte)) u q y hu hq ku z) in
           let g : u ≡ y → ⊥ = λ z. n (rw (← z) at (leaf (rw z at ku) .no-dirents q hq)) in
           upd-other D y (suc (D d)) (direntRow (m .byte) u q NAME) a ∙ c .depth-step u hu ku q hq n k ∙ ap suc (sym (upd-other D y (suc (D d)) u g))
 
-      step : (u : ℕ) → u < SLOTS → m .file u KIND ≡ DIRECTORY → (q : ℕ) → q < DIRENTS → (direntRow b u q NAME ≡ 0 → ⊥) → m .file (direntRow b u q NAME) KIND ≡ DIRECTORY → upd D y (suc (D d)) (direntRow b u q NAME) ≡ suc (upd D y (suc (D d)) u)
+      step : (u : ℕ) → u < SLOTS → m .file u FILE-KIND ≡ DIRECTORY → (q : ℕ) → q < DIRENTS → (direntRow b u q NAME ≡ 0 → ⊥) → m .file (direntRow b u q NAME) FILE-KIND ≡ DIRECTORY → upd D y (suc (D d)) (direntRow b u q NAME) ≡ suc (upd D y (suc (D d)) u)
       step u hu ku q hq = split u d
           (λ a _. split q p
           (λ g _ n k. rw (a, g, placed-here-slot y m h d p r 0 t y 0 f, e) (upd-same D y (suc (D d)) ∙ ap suc (sym (upd-other D y (suc (D d)) d ne))))
@@ -87,8 +87,8 @@ module _ (m : Tables) (d p : ℕ) (r : ℕ → ℕ) (t y : ℕ) (h : SoundBut y 
   pub linked-sound : Sound (linked d p r t y m)
   unfolding linked placed
   linked-sound = record {
-    slots = placed-slots y m h d p r (m .file d LENGTH + 1) t y (m .file y LINKS + 1) f;
-    tree = placed-tree y m h d p r (m .file d LENGTH + 1) t y (m .file y LINKS + 1) f
+    slots = placed-slots y m h d p r (m .file d FILE-LENGTH + 1) t y (m .file y FILE-LINKS + 1) f;
+    tree = placed-tree y m h d p r (m .file d FILE-LENGTH + 1) t y (m .file y FILE-LINKS + 1) f
         (omega (arith, ind-zero (direntRow (m .byte) d p NAME) empty, ind-some (r NAME) (rw e (f .file-root))))
         (λ s hs n. split s y
         (λ q w. rw (w, q) (omega (arith, ind-ne (direntRow (m .byte) d p NAME) y (λ z. f .file-root (sym z ∙ empty)), ind-eq (r NAME) y e)))

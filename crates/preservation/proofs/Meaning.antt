@@ -6,8 +6,8 @@ use Prim.Native.Nat.{ℕ, _-_, _*_, _≤_, _<_}
 use native.Mathlib.Omega.{arith}
 use native.Mathlib.Decide.{decLt, ℕ-discrete}
 use lib.ListN.{length, getD}
-use Rattle.rules.specs.Layout.{SLOTS, BLOCK, DIRENT, DIRENTS, NAME, OPEN-FILES, PROCESSES, DESCRIPTORS, FILE, OPEN, PROCESS}
-use Rattle.rules.specs.Layout.{KIND, OWNER, BITS, LABEL, LENGTH, LINKS, VERSION, SLOT, MODE, OFFSET, REFERENCES, USED, USER, PROCESS-LABEL, FREE, PLAIN}
+use Rattle.rules.specs.Layout.{SLOTS, BLOCK, DIRENT-WIDTH, DIRENTS, NAME, OPEN-FILES, PROCESSES, DESCRIPTORS, FILE-WIDTH, OPEN-FILE-WIDTH, PROCESS-WIDTH}
+use Rattle.rules.specs.Layout.{FILE-KIND, FILE-OWNER, FILE-BITS, FILE-LABEL, FILE-LENGTH, FILE-LINKS, FILE-VERSION, OPEN-SLOT, OPEN-MODE, OPEN-OFFSET, OPEN-REFERENCES, PROCESS-USED, PROCESS-USER, PROCESS-LABEL, FREE, PLAIN}
 use Rattle.rules.specs.Layout.{KIND-MAX, USER-MAX, BITS-MAX, LABEL-MAX, MODE-MAX, WORD-MAX}
 use Rattle.rules.specs.Store.{Store, Table}
 use Rattle.rules.specs.Rights.{bitsKnown, modeOf, modeKept}
@@ -28,8 +28,8 @@ use Rattle.preservation.proofs.Counted.{names-counted, holders-counted}
 pub means-sized : (s : Store) → Means (sizesSound s) (Sized s)
 unfolding sizesSound
 means-sized s = means-same
-    (means-every (means-and (means-eq (length (s .files)) (SLOTS * FILE)) (means-and (means-eq (length (s .contents)) (SLOTS * BLOCK))
-    (means-and (means-eq (length (s .openFiles)) (OPEN-FILES * OPEN)) (means-last (means-eq (length (s .processes)) (PROCESSES * PROCESS)))))))
+    (means-every (means-and (means-eq (length (s .files)) (SLOTS * FILE-WIDTH)) (means-and (means-eq (length (s .contents)) (SLOTS * BLOCK))
+    (means-and (means-eq (length (s .openFiles)) (OPEN-FILES * OPEN-FILE-WIDTH)) (means-last (means-eq (length (s .processes)) (PROCESSES * PROCESS-WIDTH)))))))
     (λ w. record { files-size = w .0; contents-size = w .1 .0; open-files-size = w .1 .1 .0; processes-size = w .1 .1 .1 })
     (λ w. (w .files-size, (w .contents-size, (w .open-files-size, w .processes-size))))
 
@@ -46,9 +46,9 @@ means-mode n = rw mode-kept (means-every (means-and (means-le 1 n) (means-last (
 pub means-record : (file : Table) (s : ℕ) → Means (recordSound file s) (File (file s))
 unfolding recordSound recordFree
 means-record file s = means-same
-    (means-every (means-and (means-le (file s KIND) KIND-MAX) (means-and (means-le (file s OWNER) USER-MAX) (means-and (means-bits (file s BITS)) (means-and (means-le (file s LABEL) LABEL-MAX)
-    (means-and (means-le (file s VERSION) WORD-MAX) (means-last (means-imp (means-eq (file s KIND) FREE)
-    (means-every (means-and (means-eq (file s OWNER) 0) (means-and (means-eq (file s BITS) 0) (means-and (means-eq (file s LABEL) 0) (means-and (means-eq (file s LENGTH) 0) (means-last (means-eq (file s LINKS) 0)))))))))))))))
+    (means-every (means-and (means-le (file s FILE-KIND) KIND-MAX) (means-and (means-le (file s FILE-OWNER) USER-MAX) (means-and (means-bits (file s FILE-BITS)) (means-and (means-le (file s FILE-LABEL) LABEL-MAX)
+    (means-and (means-le (file s FILE-VERSION) WORD-MAX) (means-last (means-imp (means-eq (file s FILE-KIND) FREE)
+    (means-every (means-and (means-eq (file s FILE-OWNER) 0) (means-and (means-eq (file s FILE-BITS) 0) (means-and (means-eq (file s FILE-LABEL) 0) (means-and (means-eq (file s FILE-LENGTH) 0) (means-last (means-eq (file s FILE-LINKS) 0)))))))))))))))
     (λ w. record {
       kind-most = w .0;
       owner-most = w .1 .0;
@@ -65,7 +65,7 @@ means-record file s = means-same
 
 -- ---- a directory's entries: D its bytes, rows its entries
 
-module _ (file : Table) (D : List ℕ) (rows : ℕ → ℕ → ℕ) (agree : (i k : ℕ) → k < DIRENT → getD (direntAt D i) k 0 ≡ rows i k) where
+module _ (file : Table) (D : List ℕ) (rows : ℕ → ℕ → ℕ) (agree : (i k : ℕ) → k < DIRENT-WIDTH → getD (direntAt D i) k 0 ≡ rows i k) where
   means-differs : (i j : ℕ) → Means (differs D i j) ((rows i NAME ≡ 0 → ⊥) → (rows j NAME ≡ 0 → ⊥) → sameRow (rows i) (rows j) ≡ true → ⊥)
   unfolding differs
   means-differs i j = means-or3 (means-empty D rows agree i) (means-empty D rows agree j) (rw (same-row D rows agree i j) (means-not (means-test (sameRow (rows i) (rows j)))))
@@ -74,17 +74,17 @@ module _ (file : Table) (D : List ℕ) (rows : ℕ → ℕ → ℕ) (agree : (i 
   unfolding isNew
   means-new i = means-all i (differs D i) (λ j. (rows i NAME ≡ 0 → ⊥) → (rows j NAME ≡ 0 → ⊥) → sameRow (rows i) (rows j) ≡ true → ⊥) (means-differs i)
 
-  pub means-dirents : (n : ℕ) → Means (direntsSound file D n) (Directory (col file KIND) rows × ((n ≡ nameCount rows) × ((b : ℕ) → b < length D → DIRENTS * DIRENT ≤ b → getD D b 0 ≡ 0)))
+  pub means-dirents : (n : ℕ) → Means (direntsSound file D n) (Directory (col file FILE-KIND) rows × ((n ≡ nameCount rows) × ((b : ℕ) → b < length D → DIRENTS * DIRENT-WIDTH ≤ b → getD D b 0 ≡ 0)))
   unfolding direntsSound
   means-dirents n = means-same w
       (λ u. (record { dirents = u .0; different = λ p hp q hq ne. apart (u .1 .0) p hp q hq ne (decLt p q) }, u .1 .1))
       (λ u. (u .0 .dirents, ((λ i hi j hj. u .0 .different i hi j (omega arith) (λ e. omega arith)), u .1)))
     where
-      w : Means (direntsSound file D n) (All DIRENTS (λ i. Dirent (col file KIND) (rows i))
+      w : Means (direntsSound file D n) (All DIRENTS (λ i. Dirent (col file FILE-KIND) (rows i))
           × (All DIRENTS (λ i. All i (λ j. (rows i NAME ≡ 0 → ⊥) → (rows j NAME ≡ 0 → ⊥) → sameRow (rows i) (rows j) ≡ true → ⊥))
-          × ((n ≡ nameCount rows) × ((b : ℕ) → b < length D → DIRENTS * DIRENT ≤ b → getD D b 0 ≡ 0))))
+          × ((n ≡ nameCount rows) × ((b : ℕ) → b < length D → DIRENTS * DIRENT-WIDTH ≤ b → getD D b 0 ≡ 0))))
       w = rw (names-counted D rows agree) (means-every (means-and (means-all DIRENTS (direntSound file D) _ (means-dirent D rows agree file)) (means-and (means-all DIRENTS (isNew D) _ means-new)
-          (means-and (means-eq n (nameCount rows)) (means-last (means-zeros D (DIRENTS * DIRENT)))))))
+          (means-and (means-eq n (nameCount rows)) (means-last (means-zeros D (DIRENTS * DIRENT-WIDTH)))))))
 
       apart : All DIRENTS (λ i. All i (λ j. (rows i NAME ≡ 0 → ⊥) → (rows j NAME ≡ 0 → ⊥) → sameRow (rows i) (rows j) ≡ true → ⊥)) →
           (p : ℕ) → p < DIRENTS → (q : ℕ) → q < DIRENTS → (p ≡ q → ⊥) → Dec (p < q) → (rows p NAME ≡ 0 → ⊥) → (rows q NAME ≡ 0 → ⊥) → sameRow (rows p) (rows q) ≡ true → ⊥
@@ -94,7 +94,7 @@ module _ (file : Table) (D : List ℕ) (rows : ℕ → ℕ → ℕ) (agree : (i 
 -- ---- open files and processes
 
 pub means-open-file : (file openFiles desc : Table) (e : ℕ) → Means (openSound file openFiles desc e)
-    ((openFiles e REFERENCES ≡ holderCount desc e) × OpenFile (col file KIND) (openFiles e))
+    ((openFiles e OPEN-REFERENCES ≡ holderCount desc e) × OpenFile (col file FILE-KIND) (openFiles e))
 unfolding openSound openFree openUsed
 means-open-file file openFiles desc e = means-same w
     (λ u. (
@@ -112,29 +112,29 @@ means-open-file file openFiles desc e = means-same w
     ))
     (λ u. let o = u .1 in (u .0, ((λ z. (o .slot-zero z, (o .mode-zero z, o .offset-zero z))), λ n. (o .slot-small n, (o .plain n, ((o .mode-least n, o .mode-most n), o .offset-most n))))))
   where
-    w : Means (openSound file openFiles desc e) ((openFiles e REFERENCES ≡ holderCount desc e)
-        × ((openFiles e REFERENCES ≡ 0 → (openFiles e SLOT ≡ 0) × ((openFiles e MODE ≡ 0) × (openFiles e OFFSET ≡ 0)))
-        × ((openFiles e REFERENCES ≡ 0 → ⊥) → (openFiles e SLOT < SLOTS) × ((file (openFiles e SLOT) KIND ≡ PLAIN) × (((1 ≤ openFiles e MODE) × (openFiles e MODE ≤ MODE-MAX)) × (openFiles e OFFSET ≤ BLOCK))))))
-    w = rw (holders-counted desc e) (means-every (means-and (means-eq (openFiles e REFERENCES) (holderCount desc e)) (means-last (means-cond (means-eq (openFiles e REFERENCES) 0)
-        (means-every (means-and (means-eq (openFiles e SLOT) 0) (means-and (means-eq (openFiles e MODE) 0) (means-last (means-eq (openFiles e OFFSET) 0)))))
-        (means-every (means-and (means-lt (openFiles e SLOT) SLOTS) (means-and (means-eq (file (openFiles e SLOT) KIND) PLAIN) (means-and (means-mode (openFiles e MODE)) (means-last (means-le (openFiles e OFFSET) BLOCK))))))))))
+    w : Means (openSound file openFiles desc e) ((openFiles e OPEN-REFERENCES ≡ holderCount desc e)
+        × ((openFiles e OPEN-REFERENCES ≡ 0 → (openFiles e OPEN-SLOT ≡ 0) × ((openFiles e OPEN-MODE ≡ 0) × (openFiles e OPEN-OFFSET ≡ 0)))
+        × ((openFiles e OPEN-REFERENCES ≡ 0 → ⊥) → (openFiles e OPEN-SLOT < SLOTS) × ((file (openFiles e OPEN-SLOT) FILE-KIND ≡ PLAIN) × (((1 ≤ openFiles e OPEN-MODE) × (openFiles e OPEN-MODE ≤ MODE-MAX)) × (openFiles e OPEN-OFFSET ≤ BLOCK))))))
+    w = rw (holders-counted desc e) (means-every (means-and (means-eq (openFiles e OPEN-REFERENCES) (holderCount desc e)) (means-last (means-cond (means-eq (openFiles e OPEN-REFERENCES) 0)
+        (means-every (means-and (means-eq (openFiles e OPEN-SLOT) 0) (means-and (means-eq (openFiles e OPEN-MODE) 0) (means-last (means-eq (openFiles e OPEN-OFFSET) 0)))))
+        (means-every (means-and (means-lt (openFiles e OPEN-SLOT) SLOTS) (means-and (means-eq (file (openFiles e OPEN-SLOT) FILE-KIND) PLAIN) (means-and (means-mode (openFiles e OPEN-MODE)) (means-last (means-le (openFiles e OPEN-OFFSET) BLOCK))))))))))
 
 -- The test goes by whether the process is in use: of a free one the limits are left out, since its words are 0, and of a used one the zeros.
 pub means-process : (proc desc : Table) (p : ℕ) → Means (procSound proc desc p) (Process (proc p) (desc p))
 unfolding procSound procFree procUsed descFree descSound
-means-process proc desc p = means-same w (λ u. from u (ℕ-discrete (proc p USED) 0))
+means-process proc desc p = means-same w (λ u. from u (ℕ-discrete (proc p PROCESS-USED) 0))
     (λ u. ((λ z. (u .user-zero z, (u .label-zero z, u .desc-zero z))), λ n. ((omega (arith, u .active-most, n)), (u .user-most, (u .label-most, u .desc-most)))))
   where
     Parts : Type 0
-    Parts = (proc p USED ≡ 0 → (proc p USER ≡ 0) × ((proc p PROCESS-LABEL ≡ 0) × All DESCRIPTORS (λ k. desc p k ≡ 0)))
-        × ((proc p USED ≡ 0 → ⊥) → (proc p USED ≡ 1) × ((proc p USER ≤ USER-MAX) × ((proc p PROCESS-LABEL ≤ LABEL-MAX) × All DESCRIPTORS (λ k. desc p k ≤ OPEN-FILES))))
+    Parts = (proc p PROCESS-USED ≡ 0 → (proc p PROCESS-USER ≡ 0) × ((proc p PROCESS-LABEL ≡ 0) × All DESCRIPTORS (λ k. desc p k ≡ 0)))
+        × ((proc p PROCESS-USED ≡ 0 → ⊥) → (proc p PROCESS-USED ≡ 1) × ((proc p PROCESS-USER ≤ USER-MAX) × ((proc p PROCESS-LABEL ≤ LABEL-MAX) × All DESCRIPTORS (λ k. desc p k ≤ OPEN-FILES))))
 
     w : Means (procSound proc desc p) Parts
-    w = means-cond (means-eq (proc p USED) 0)
-        (means-every (means-and (means-eq (proc p USER) 0) (means-and (means-eq (proc p PROCESS-LABEL) 0) (means-last (means-all DESCRIPTORS (descFree desc p) (λ k. desc p k ≡ 0) (λ k. means-eq (desc p k) 0))))))
-        (means-every (means-and (means-eq (proc p USED) 1) (means-and (means-le (proc p USER) USER-MAX) (means-and (means-le (proc p PROCESS-LABEL) LABEL-MAX) (means-last (means-all DESCRIPTORS (descSound desc p) (λ k. desc p k ≤ OPEN-FILES) (λ k. means-le (desc p k) OPEN-FILES)))))))
+    w = means-cond (means-eq (proc p PROCESS-USED) 0)
+        (means-every (means-and (means-eq (proc p PROCESS-USER) 0) (means-and (means-eq (proc p PROCESS-LABEL) 0) (means-last (means-all DESCRIPTORS (descFree desc p) (λ k. desc p k ≡ 0) (λ k. means-eq (desc p k) 0))))))
+        (means-every (means-and (means-eq (proc p PROCESS-USED) 1) (means-and (means-le (proc p PROCESS-USER) USER-MAX) (means-and (means-le (proc p PROCESS-LABEL) LABEL-MAX) (means-last (means-all DESCRIPTORS (descSound desc p) (λ k. desc p k ≤ OPEN-FILES) (λ k. means-le (desc p k) OPEN-FILES)))))))
 
-    from : Parts → Dec (proc p USED ≡ 0) → Process (proc p) (desc p)
+    from : Parts → Dec (proc p PROCESS-USED ≡ 0) → Process (proc p) (desc p)
     from u (yes z) = let a = u .0 z in record {
       active-most = omega arith;
       user-most = omega (arith, a .0);

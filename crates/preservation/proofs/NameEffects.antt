@@ -8,8 +8,8 @@ use native.Mathlib.Decide.{decLt, ℕ-discrete}
 use lib.Dec.{eqb}
 use lib.ListN.{length, getD}
 use borrow.Author.Tests.{eq-eqb, ne-eqb}
-use Rattle.rules.specs.Layout.{SLOTS, DIRENTS, DIRENT, OPEN-FILES, NAME, NAMES}
-use Rattle.rules.specs.Layout.{KIND, LENGTH, LINKS, VERSION, SLOT, REFERENCES, FREE, PLAIN, DIRECTORY}
+use Rattle.rules.specs.Layout.{SLOTS, DIRENTS, DIRENT-WIDTH, OPEN-FILES, NAME, NAMES}
+use Rattle.rules.specs.Layout.{FILE-KIND, FILE-LENGTH, FILE-LINKS, FILE-VERSION, OPEN-SLOT, OPEN-REFERENCES, FREE, PLAIN, DIRECTORY}
 use Rattle.rules.specs.Choice.{every}
 use Rattle.rules.specs.Store.{Store, view, entry, bitsAt, up, zeros, applyAll}
 use Rattle.rules.specs.Paths as paths
@@ -42,7 +42,7 @@ use Rattle.preservation.proofs.OpenEffects.{Leaves, its-tables}
 
 -- entry i of directory d becomes r; the directory's length z and version t
 abbrev pub direntTo : (d i : ℕ) → (ℕ → ℕ) → (z t : ℕ) → Tables → Tables
-direntTo d i r z t m = fileTo d VERSION t (fileTo d LENGTH z (bytesTo d (fill (m .byte d) i r) m))
+direntTo d i r z t m = fileTo d FILE-VERSION t (fileTo d FILE-LENGTH z (bytesTo d (fill (m .byte d) i r) m))
 
 -- the bytes of a written entry
 abbrev pub rowOf : paths.Name → Slot → ℕ → ℕ
@@ -50,27 +50,27 @@ rowOf name s k = getD (dirent name s) k 0
 
 -- a name that may be added: entry i of directory d is empty, and will name slot y
 pub record Naming (m : Tables) (name : paths.Name) (d : Slot) (i : ℕ) (y : Slot) : Type 0 where
-  pub bytes : length (dirent name y) ≡ DIRENT
+  pub bytes : length (dirent name y) ≡ DIRENT-WIDTH
   pub fits : Name m (d .0) i (rowOf name y) (y .0)
 
 module _ (s : Store) (h : SoundStore s) where
-  longer : (d : ℕ) → d < SLOTS → up (tablesOf s .file d LENGTH) ≡ tablesOf s .file d LENGTH + 1
-  longer d hd = up-is (tablesOf s .file d LENGTH) (omega (arith, length-most SLOTS (tablesOf s) (h .tables) d hd))
+  longer : (d : ℕ) → d < SLOTS → up (tablesOf s .file d FILE-LENGTH) ≡ tablesOf s .file d FILE-LENGTH + 1
+  longer d hd = up-is (tablesOf s .file d FILE-LENGTH) (omega (arith, length-most SLOTS (tablesOf s) (h .tables) d hd))
 
   -- ---- link
 
-  pub link-leaves : (name : paths.Name) (d : Slot) (i : ℕ) (y : Slot) → Naming (tablesOf s) name d i y → y .0 < SLOTS → tablesOf s .file (y .0) KIND ≡ PLAIN →
-      Leaves (applyAll (linkChanges name (gains (view s .tree .file) d (entry i)) y (up (view s .tree .file (y .0) LINKS))) s)
-      (direntTo (d .0) i (rowOf name y) (tablesOf s .file (d .0) LENGTH + 1) (up (tablesOf s .file (d .0) VERSION)) (fileTo (y .0) LINKS (tablesOf s .file (y .0) LINKS + 1) (tablesOf s)))
+  pub link-leaves : (name : paths.Name) (d : Slot) (i : ℕ) (y : Slot) → Naming (tablesOf s) name d i y → y .0 < SLOTS → tablesOf s .file (y .0) FILE-KIND ≡ PLAIN →
+      Leaves (applyAll (linkChanges name (gains (view s .tree .file) d (entry i)) y (up (view s .tree .file (y .0) FILE-LINKS))) s)
+      (direntTo (d .0) i (rowOf name y) (tablesOf s .file (d .0) FILE-LENGTH + 1) (up (tablesOf s .file (d .0) FILE-VERSION)) (fileTo (y .0) FILE-LINKS (tablesOf s .file (y .0) FILE-LINKS + 1) (tablesOf s)))
   unfolding linkChanges nameChanges applyAll tablesOf linked placed
   link-leaves name d i y n hy k = record {
-    has = rw (longer (d .0) hd, up-is (tablesOf s .file (y .0) LINKS) (omega (arith, link-most SLOTS (tablesOf s) (h .tables) (y .0) hy)))
-        (has-fileWord (has-fileWord (has-dirent (has-fileWord (its-tables s h) (y .0) LINKS (tablesOf s .file (y .0) LINKS + 1) hy (omega arith)) (d .0) i (dirent name y) (rowOf name y) hd (n .fits .dirent-small) (n .bytes) (λ k. refl))
-        (d .0) LENGTH (tablesOf s .file (d .0) LENGTH + 1) hd (omega arith)) (d .0) VERSION (up (tablesOf s .file (d .0) VERSION)) hd (omega arith));
-    sound = same-columns SLOTS (linked (d .0) i (rowOf name y) (up (tablesOf s .file (d .0) VERSION)) (y .0) (tablesOf s))
-        (direntTo (d .0) i (rowOf name y) (tablesOf s .file (d .0) LENGTH + 1) (up (tablesOf s .file (d .0) VERSION)) (fileTo (y .0) LINKS (tablesOf s .file (y .0) LINKS + 1) (tablesOf s)) .file)
+    has = rw (longer (d .0) hd, up-is (tablesOf s .file (y .0) FILE-LINKS) (omega (arith, link-most SLOTS (tablesOf s) (h .tables) (y .0) hy)))
+        (has-fileWord (has-fileWord (has-dirent (has-fileWord (its-tables s h) (y .0) FILE-LINKS (tablesOf s .file (y .0) FILE-LINKS + 1) hy (omega arith)) (d .0) i (dirent name y) (rowOf name y) hd (n .fits .dirent-small) (n .bytes) (λ k. refl))
+        (d .0) FILE-LENGTH (tablesOf s .file (d .0) FILE-LENGTH + 1) hd (omega arith)) (d .0) FILE-VERSION (up (tablesOf s .file (d .0) FILE-VERSION)) hd (omega arith));
+    sound = same-columns SLOTS (linked (d .0) i (rowOf name y) (up (tablesOf s .file (d .0) FILE-VERSION)) (y .0) (tablesOf s))
+        (direntTo (d .0) i (rowOf name y) (tablesOf s .file (d .0) FILE-LENGTH + 1) (up (tablesOf s .file (d .0) FILE-VERSION)) (fileTo (y .0) FILE-LINKS (tablesOf s .file (y .0) FILE-LINKS + 1) (tablesOf s)) .file)
         (λ i. refl)
-        (link-sound (tablesOf s) (h .tables) (d .0) i (rowOf name y) (up (tablesOf s .file (d .0) VERSION)) (y .0) (n .fits) (up-most (tablesOf s .file (d .0) VERSION)) hy k);
+        (link-sound (tablesOf s) (h .tables) (d .0) i (rowOf name y) (up (tablesOf s .file (d .0) FILE-VERSION)) (y .0) (n .fits) (up-most (tablesOf s .file (d .0) FILE-VERSION)) hy k);
   }
     where
       hd : d .0 < SLOTS
@@ -85,12 +85,12 @@ module _ (s : Store) (h : SoundStore s) where
   pub record Creates (name : paths.Name) (who : Subject) (d : Slot) (i : ℕ) (y : Slot) (kind bits : ℕ) : Type 0 where
     pub naming : Naming (tablesOf s) name d i y
     pub small : y .0 < SLOTS
-    pub free : tablesOf s .file (y .0) KIND ≡ FREE
-    pub new : NewFile (upd (newRow who kind bits d y) LINKS 0)
+    pub free : tablesOf s .file (y .0) FILE-KIND ≡ FREE
+    pub new : NewFile (upd (newRow who kind bits d y) FILE-LINKS 0)
     pub not-deep : kind ≡ DIRECTORY → h .tables .tree .depths .depth (d .0) < NAMES
 
   abbrev pub withFile : (name : paths.Name) (who : Subject) (d : Slot) (i : ℕ) (y : Slot) (kind bits : ℕ) → Tables
-  withFile name who d i y kind bits = direntTo (d .0) i (rowOf name y) (tablesOf s .file (d .0) LENGTH + 1) (up (tablesOf s .file (d .0) VERSION)) (fileRowTo (y .0) (newRow who kind bits d y) (tablesOf s))
+  withFile name who d i y kind bits = direntTo (d .0) i (rowOf name y) (tablesOf s .file (d .0) FILE-LENGTH + 1) (up (tablesOf s .file (d .0) FILE-VERSION)) (fileRowTo (y .0) (newRow who kind bits d y) (tablesOf s))
 
   -- The store writes the record with its link, `created` adds the link after: the columns agree. The slot's bytes, 0 already, are not written.
   pub create-leaves : (name : paths.Name) (who : Subject) (d : Slot) (i : ℕ) (y : Slot) (kind bits : ℕ) → Creates name who d i y kind bits →
@@ -99,11 +99,11 @@ module _ (s : Store) (h : SoundStore s) where
   create-leaves name who d i y kind bits c = record {
     has = rw (longer (d .0) hd)
         (has-fileWord (has-fileWord (has-dirent (has-fileTo (its-tables s h) (y .0) (words (newRecord (view s .tree .file) who kind (bitsAt bits) d y)) (c .small) refl) (d .0) i (dirent name y) (rowOf name y) hd (n .dirent-small) (c .naming .bytes) (λ k. refl))
-        (d .0) LENGTH (tablesOf s .file (d .0) LENGTH + 1) hd (omega arith)) (d .0) VERSION (up (tablesOf s .file (d .0) VERSION)) hd (omega arith));
+        (d .0) FILE-LENGTH (tablesOf s .file (d .0) FILE-LENGTH + 1) hd (omega arith)) (d .0) FILE-VERSION (up (tablesOf s .file (d .0) FILE-VERSION)) hd (omega arith));
     sound = subst (λ (b : ℕ → ℕ → ℕ). Sound (record { file = withFile name who d i y kind bits .file; byte = upd b (d .0) (fill (b (d .0)) i (rowOf name y)); openFiles = tablesOf s .openFiles; proc = tablesOf s .proc; desc = tablesOf s .desc }))
         (upd-same-value (tablesOf s .byte) (y .0))
-        (same-columns SLOTS (created (d .0) i (rowOf name y) t (y .0) (upd (newRow who kind bits d y) LINKS 0) (tablesOf s)) (withFile name who d i y kind bits .file) columns
-        (create-sound (tablesOf s) (h .tables) (d .0) i (rowOf name y) t (y .0) (upd (newRow who kind bits d y) LINKS 0) n (up-most (tablesOf s .file (d .0) VERSION)) (c .small) (c .free)
+        (same-columns SLOTS (created (d .0) i (rowOf name y) t (y .0) (upd (newRow who kind bits d y) FILE-LINKS 0) (tablesOf s)) (withFile name who d i y kind bits .file) columns
+        (create-sound (tablesOf s) (h .tables) (d .0) i (rowOf name y) t (y .0) (upd (newRow who kind bits d y) FILE-LINKS 0) n (up-most (tablesOf s .file (d .0) FILE-VERSION)) (c .small) (c .free)
         (c .new) (c .not-deep)));
   }
     where
@@ -114,12 +114,12 @@ module _ (s : Store) (h : SoundStore s) where
       hd = n .dir-small
 
       t : ℕ
-      t = up (tablesOf s .file (d .0) VERSION)
+      t = up (tablesOf s .file (d .0) FILE-VERSION)
 
       other : eqb (d .0) (y .0) ≡ false
       other = ne-eqb (d .0) (y .0) (λ z. omega (arith, n .dir-kind, rw (← z) at (c .free)))
 
-      columns : Columns (created (d .0) i (rowOf name y) (up (tablesOf s .file (d .0) VERSION)) (y .0) (upd (newRow who kind bits d y) LINKS 0) (tablesOf s) .file)
+      columns : Columns (created (d .0) i (rowOf name y) (up (tablesOf s .file (d .0) FILE-VERSION)) (y .0) (upd (newRow who kind bits d y) FILE-LINKS 0) (tablesOf s) .file)
           (withFile name who d i y kind bits .file)
       columns j = rw (other, eq-eqb (y .0) (y .0) refl) (split j (y .0) (λ q e. rw e) (λ q e. rw e))
 
@@ -127,7 +127,7 @@ module _ (s : Store) (h : SoundStore s) where
 
   pub record Names (d : Slot) (i : ℕ) (y : Slot) : Type 0 where
     pub dir-small : d .0 < SLOTS
-    pub dir-kind : tablesOf s .file (d .0) KIND ≡ DIRECTORY
+    pub dir-kind : tablesOf s .file (d .0) FILE-KIND ≡ DIRECTORY
     pub dirent-small : i < DIRENTS
     pub there : direntRow (tablesOf s .byte) (d .0) i NAME ≡ y .0
     pub not-root : y .0 ≡ 0 → ⊥
@@ -137,71 +137,71 @@ module _ (s : Store) (h : SoundStore s) where
 
   -- the directory without the name
   abbrev pub withoutName : Slot → ℕ → Tables
-  withoutName d i = direntTo (d .0) i noRow (tablesOf s .file (d .0) LENGTH - 1) (up (tablesOf s .file (d .0) VERSION)) (tablesOf s)
+  withoutName d i = direntTo (d .0) i noRow (tablesOf s .file (d .0) FILE-LENGTH - 1) (up (tablesOf s .file (d .0) FILE-VERSION)) (tablesOf s)
 
   has-unnamed : (d : Slot) (i : ℕ) (y : Slot) → Names d i y → Has (applyAll (unnameChanges (loses (view s .tree .file) d (entry i))) s) (withoutName d i)
   unfolding unnameChanges applyAll tablesOf
   has-unnamed d i y n =
-      has-fileWord (has-fileWord (has-dirent (its-tables s h) (d .0) i (zeros DIRENT) noRow (n .dir-small) (n .dirent-small) (length-zeros DIRENT) (λ k. getD-zeros DIRENT k))
-      (d .0) LENGTH (tablesOf s .file (d .0) LENGTH - 1) (n .dir-small) (omega arith)) (d .0) VERSION (up (tablesOf s .file (d .0) VERSION)) (n .dir-small) (omega arith)
+      has-fileWord (has-fileWord (has-dirent (its-tables s h) (d .0) i (zeros DIRENT-WIDTH) noRow (n .dir-small) (n .dirent-small) (length-zeros DIRENT-WIDTH) (λ k. getD-zeros DIRENT-WIDTH k))
+      (d .0) FILE-LENGTH (tablesOf s .file (d .0) FILE-LENGTH - 1) (n .dir-small) (omega arith)) (d .0) FILE-VERSION (up (tablesOf s .file (d .0) FILE-VERSION)) (n .dir-small) (omega arith)
 
   -- what becomes of a plain file that loses a name
   pub data Unnaming (y : Slot) : Unnamed → Type 0 where
-    keeps : 0 < tablesOf s .file (y .0) LINKS - 1 + openCount (col (tablesOf s .openFiles) SLOT) (col (tablesOf s .openFiles) REFERENCES) (y .0) → Unnaming y (unnamed.Kept y (view s .tree .file (y .0) LINKS - 1))
-    frees : tablesOf s .file (y .0) LINKS - 1 ≡ 0 → ((e : ℕ) → e < OPEN-FILES → (tablesOf s .openFiles e REFERENCES ≡ 0 → ⊥) → tablesOf s .openFiles e SLOT ≡ y .0 → ⊥) →
+    keeps : 0 < tablesOf s .file (y .0) FILE-LINKS - 1 + openCount (col (tablesOf s .openFiles) OPEN-SLOT) (col (tablesOf s .openFiles) OPEN-REFERENCES) (y .0) → Unnaming y (unnamed.Kept y (view s .tree .file (y .0) FILE-LINKS - 1))
+    frees : tablesOf s .file (y .0) FILE-LINKS - 1 ≡ 0 → ((e : ℕ) → e < OPEN-FILES → (tablesOf s .openFiles e OPEN-REFERENCES ≡ 0 → ⊥) → tablesOf s .openFiles e OPEN-SLOT ≡ y .0 → ⊥) →
         Unnaming y (unnamed.Freed y (checks.freed (view s .tree .file) y))
 
   pub unnaming-is : (y : Slot) → Unnaming y (unnaming (view s .tree .file) (view s .openFiles) y)
   unfolding unnaming tablesOf
-  unnaming-is y = by (every (eqb (view s .tree .file (y .0) LINKS - 1) 0 ∷ not (isOpen (view s .openFiles) y) ∷ [])) refl
+  unnaming-is y = by (every (eqb (view s .tree .file (y .0) FILE-LINKS - 1) 0 ∷ not (isOpen (view s .openFiles) y) ∷ [])) refl
     where
-      test : Means (every (eqb (view s .tree .file (y .0) LINKS - 1) 0 ∷ not (isOpen (view s .openFiles) y) ∷ []))
-          ((view s .tree .file (y .0) LINKS - 1 ≡ 0) × (0 < openCount (col (view s .openFiles) SLOT) (col (view s .openFiles) REFERENCES) (y .0) → ⊥))
-      test = means-every (means-and (means-eq (view s .tree .file (y .0) LINKS - 1) 0) (means-last (means-not (means-open (view s .openFiles) (y .0)))))
+      test : Means (every (eqb (view s .tree .file (y .0) FILE-LINKS - 1) 0 ∷ not (isOpen (view s .openFiles) y) ∷ []))
+          ((view s .tree .file (y .0) FILE-LINKS - 1 ≡ 0) × (0 < openCount (col (view s .openFiles) OPEN-SLOT) (col (view s .openFiles) OPEN-REFERENCES) (y .0) → ⊥))
+      test = means-every (means-and (means-eq (view s .tree .file (y .0) FILE-LINKS - 1) 0) (means-last (means-not (means-open (view s .openFiles) (y .0)))))
 
-      alive : (every (eqb (view s .tree .file (y .0) LINKS - 1) 0 ∷ not (isOpen (view s .openFiles) y) ∷ []) ≡ false) → Dec (view s .tree .file (y .0) LINKS - 1 ≡ 0) →
-          Dec (0 < openCount (col (view s .openFiles) SLOT) (col (view s .openFiles) REFERENCES) (y .0)) → 0 < view s .tree .file (y .0) LINKS - 1 + openCount (col (view s .openFiles) SLOT) (col (view s .openFiles) REFERENCES) (y .0)
+      alive : (every (eqb (view s .tree .file (y .0) FILE-LINKS - 1) 0 ∷ not (isOpen (view s .openFiles) y) ∷ []) ≡ false) → Dec (view s .tree .file (y .0) FILE-LINKS - 1 ≡ 0) →
+          Dec (0 < openCount (col (view s .openFiles) OPEN-SLOT) (col (view s .openFiles) OPEN-REFERENCES) (y .0)) → 0 < view s .tree .file (y .0) FILE-LINKS - 1 + openCount (col (view s .openFiles) OPEN-SLOT) (col (view s .openFiles) OPEN-REFERENCES) (y .0)
       alive e (yes a) (yes b) = omega arith
       alive e (yes a) (no b) = absurd (false≢true (sym e ∙ test .tests (a, b)))
       alive e (no a) b = omega arith
 
-      by : (b : Bool) → every (eqb (view s .tree .file (y .0) LINKS - 1) 0 ∷ not (isOpen (view s .openFiles) y) ∷ []) ≡ b →
-          Unnaming y (cond b (unnamed.Freed y (checks.freed (view s .tree .file) y)) (unnamed.Kept y (view s .tree .file (y .0) LINKS - 1)))
-      by true e = let w = test .holds e in frees (w .0) (λ i hi r q. w .1 (openCount-at (col (view s .openFiles) SLOT) (col (view s .openFiles) REFERENCES) i (y .0) hi q r))
-      by false e = keeps (alive e (ℕ-discrete (view s .tree .file (y .0) LINKS - 1) 0) (decLt 0 (openCount (col (view s .openFiles) SLOT) (col (view s .openFiles) REFERENCES) (y .0))))
+      by : (b : Bool) → every (eqb (view s .tree .file (y .0) FILE-LINKS - 1) 0 ∷ not (isOpen (view s .openFiles) y) ∷ []) ≡ b →
+          Unnaming y (cond b (unnamed.Freed y (checks.freed (view s .tree .file) y)) (unnamed.Kept y (view s .tree .file (y .0) FILE-LINKS - 1)))
+      by true e = let w = test .holds e in frees (w .0) (λ i hi r q. w .1 (openCount-at (col (view s .openFiles) OPEN-SLOT) (col (view s .openFiles) OPEN-REFERENCES) i (y .0) hi q r))
+      by false e = keeps (alive e (ℕ-discrete (view s .tree .file (y .0) FILE-LINKS - 1) 0) (decLt 0 (openCount (col (view s .openFiles) OPEN-SLOT) (col (view s .openFiles) OPEN-REFERENCES) (y .0))))
 
   -- the tables after an unlink
   unfoldable pub unlinkedTables : Slot → ℕ → Unnamed → Tables
-  unlinkedTables d i (unnamed.Kept y links) = fileTo (y .0) LINKS links (withoutName d i)
+  unlinkedTables d i (unnamed.Kept y links) = fileTo (y .0) FILE-LINKS links (withoutName d i)
   unlinkedTables d i (unnamed.Freed y r) = remade (y .0) (λ c. getD (words r) c 0) (λ _. 0) (withoutName d i)
 
-  freeColumns : (d : Slot) (i : ℕ) (y : Slot) (c : ℕ) (row : ℕ → ℕ) → Columns (upd (upd2 (withoutName d i .file) (y .0) LINKS c) (y .0) row) (upd (withoutName d i .file) (y .0) row)
+  freeColumns : (d : Slot) (i : ℕ) (y : Slot) (c : ℕ) (row : ℕ → ℕ) → Columns (upd (upd2 (withoutName d i .file) (y .0) FILE-LINKS c) (y .0) row) (upd (withoutName d i .file) (y .0) row)
   freeColumns d i y c row j = split j (y .0) (λ q e. rw e) (λ q e. rw (e, e))
 
-  pub unlink-leaves : (d : Slot) (i : ℕ) (y : Slot) → Names d i y → tablesOf s .file (y .0) KIND ≡ PLAIN → {u : Unnamed} → Unnaming y u →
+  pub unlink-leaves : (d : Slot) (i : ℕ) (y : Slot) → Names d i y → tablesOf s .file (y .0) FILE-KIND ≡ PLAIN → {u : Unnamed} → Unnaming y u →
       Leaves (applyAll (unlinkChanges (loses (view s .tree .file) d (entry i)) u) s) (unlinkedTables d i u)
   unfolding unlinkChanges unnamedChanges unnameChanges applyAll tablesOf unlinkedTables unlinked placed
   unlink-leaves d i y n k (keeps a) = record {
-    has = has-fileWord (has-unnamed d i y n) (y .0) LINKS (tablesOf s .file (y .0) LINKS - 1) (named-small d i y n) (omega arith);
-    sound = unlink-sound (tablesOf s) (h .tables) (d .0) i (up (tablesOf s .file (d .0) VERSION)) (y .0) (n .dir-small) (n .dir-kind) (n .dirent-small) (n .there) (n .not-root) (up-most (tablesOf s .file (d .0) VERSION)) k a;
+    has = has-fileWord (has-unnamed d i y n) (y .0) FILE-LINKS (tablesOf s .file (y .0) FILE-LINKS - 1) (named-small d i y n) (omega arith);
+    sound = unlink-sound (tablesOf s) (h .tables) (d .0) i (up (tablesOf s .file (d .0) FILE-VERSION)) (y .0) (n .dir-small) (n .dir-kind) (n .dirent-small) (n .there) (n .not-root) (up-most (tablesOf s .file (d .0) FILE-VERSION)) k a;
   }
   unlink-leaves d i y n k (frees l o) = record {
     has = has-clearTo (has-unnamed d i y n) (y .0) (words (checks.freed (view s .tree .file) y)) (named-small d i y n) refl;
-    sound = unfold freed remade in same-columns SLOTS (freed (y .0) (up (tablesOf s .file (y .0) VERSION)) (unlinked (d .0) i (up (tablesOf s .file (d .0) VERSION)) (y .0) (tablesOf s)))
-        (upd (withoutName d i .file) (y .0) (freeRow (up (tablesOf s .file (y .0) VERSION))))
-        (freeColumns d i y (tablesOf s .file (y .0) LINKS - 1) (freeRow (up (tablesOf s .file (y .0) VERSION))))
-        (unlink-frees (tablesOf s) (h .tables) (d .0) i (up (tablesOf s .file (d .0) VERSION)) (y .0) (n .dir-small) (n .dir-kind) (n .dirent-small) (n .there) (n .not-root) (up-most (tablesOf s .file (d .0) VERSION)) k l o
-        (up (tablesOf s .file (y .0) VERSION)) (up-most (tablesOf s .file (y .0) VERSION)));
+    sound = unfold freed remade in same-columns SLOTS (freed (y .0) (up (tablesOf s .file (y .0) FILE-VERSION)) (unlinked (d .0) i (up (tablesOf s .file (d .0) FILE-VERSION)) (y .0) (tablesOf s)))
+        (upd (withoutName d i .file) (y .0) (freeRow (up (tablesOf s .file (y .0) FILE-VERSION))))
+        (freeColumns d i y (tablesOf s .file (y .0) FILE-LINKS - 1) (freeRow (up (tablesOf s .file (y .0) FILE-VERSION))))
+        (unlink-frees (tablesOf s) (h .tables) (d .0) i (up (tablesOf s .file (d .0) FILE-VERSION)) (y .0) (n .dir-small) (n .dir-kind) (n .dirent-small) (n .there) (n .not-root) (up-most (tablesOf s .file (d .0) FILE-VERSION)) k l o
+        (up (tablesOf s .file (y .0) FILE-VERSION)) (up-most (tablesOf s .file (y .0) FILE-VERSION)));
   }
 
-  pub remove-leaves : (d : Slot) (i : ℕ) (y : Slot) → Names d i y → tablesOf s .file (y .0) KIND ≡ DIRECTORY → tablesOf s .file (y .0) LENGTH ≡ 0 →
+  pub remove-leaves : (d : Slot) (i : ℕ) (y : Slot) → Names d i y → tablesOf s .file (y .0) FILE-KIND ≡ DIRECTORY → tablesOf s .file (y .0) FILE-LENGTH ≡ 0 →
       Leaves (applyAll (removeChanges (loses (view s .tree .file) d (entry i)) y (checks.freed (view s .tree .file) y)) s) (unlinkedTables d i (unnamed.Freed y (checks.freed (view s .tree .file) y)))
   unfolding removeChanges unnameChanges applyAll tablesOf unlinkedTables unlinked placed
   remove-leaves d i y n k l = record {
     has = has-clearTo (has-unnamed d i y n) (y .0) (words (checks.freed (view s .tree .file) y)) (named-small d i y n) refl;
-    sound = unfold freed remade in same-columns SLOTS (freed (y .0) (up (tablesOf s .file (y .0) VERSION)) (unlinked (d .0) i (up (tablesOf s .file (d .0) VERSION)) (y .0) (tablesOf s)))
-        (upd (withoutName d i .file) (y .0) (freeRow (up (tablesOf s .file (y .0) VERSION))))
-        (freeColumns d i y (tablesOf s .file (y .0) LINKS - 1) (freeRow (up (tablesOf s .file (y .0) VERSION))))
-        (remove-sound (tablesOf s) (h .tables) (d .0) i (up (tablesOf s .file (d .0) VERSION)) (y .0) (up (tablesOf s .file (y .0) VERSION)) (n .dir-small) (n .dir-kind) (n .dirent-small) (n .there) (n .not-root)
-        (up-most (tablesOf s .file (d .0) VERSION)) k l (up-most (tablesOf s .file (y .0) VERSION)));
+    sound = unfold freed remade in same-columns SLOTS (freed (y .0) (up (tablesOf s .file (y .0) FILE-VERSION)) (unlinked (d .0) i (up (tablesOf s .file (d .0) FILE-VERSION)) (y .0) (tablesOf s)))
+        (upd (withoutName d i .file) (y .0) (freeRow (up (tablesOf s .file (y .0) FILE-VERSION))))
+        (freeColumns d i y (tablesOf s .file (y .0) FILE-LINKS - 1) (freeRow (up (tablesOf s .file (y .0) FILE-VERSION))))
+        (remove-sound (tablesOf s) (h .tables) (d .0) i (up (tablesOf s .file (d .0) FILE-VERSION)) (y .0) (up (tablesOf s .file (y .0) FILE-VERSION)) (n .dir-small) (n .dir-kind) (n .dirent-small) (n .there) (n .not-root)
+        (up-most (tablesOf s .file (d .0) FILE-VERSION)) k l (up-most (tablesOf s .file (y .0) FILE-VERSION)));
   }

@@ -9,7 +9,7 @@ use native.Mathlib.Decide.{decLt}
 use lib.ListN.{length, getD, drop, length-append, List·getD-append, List·getD-eq-default}
 use lib.Seq.{getD-append-add, getD-drop}
 use borrow.Author.Tests.{eqb-true, ltb-false}
-use Rattle.rules.specs.Layout.{SLOTS, DIRENT, DIRENTS, NAME, SLASH, KIND, DIRECTORY}
+use Rattle.rules.specs.Layout.{SLOTS, DIRENT-WIDTH, DIRENTS, NAME, SLASH, FILE-KIND, DIRECTORY}
 use Rattle.rules.specs.Store.{Store, view, isDirent}
 use Rattle.rules.specs.Paths as paths
 use Rattle.rules.specs.Paths.{sameName, sameAt, isDots}
@@ -39,7 +39,7 @@ padded-at (suc n) l (suc k) h =
     padded-at n (drop 1 l) k (omega arith) ∙ getD-drop 1 l k 0 ∙ ap (λ (j : ℕ). getD l j 0) e
 
 module _ (name : paths.Name) (s : Slot) where
-  pub dirent-length : length (dirent name s) ≡ DIRENT
+  pub dirent-length : length (dirent name s) ≡ DIRENT-WIDTH
   unfolding dirent
   dirent-length = length-append (padded NAME name) (s .0 % 256 ∷ 0 ∷ []) ∙ ap (λ (n : ℕ). n + 2) (length-padded NAME name)
 
@@ -60,7 +60,7 @@ module _ (name : paths.Name) (s : Slot) where
   pub row-last : rowOf name s (NAME + 1) ≡ 0
   row-last = row-after 1
 
-  pub row-end : (k : ℕ) → DIRENT ≤ k → rowOf name s k ≡ 0
+  pub row-end : (k : ℕ) → DIRENT-WIDTH ≤ k → rowOf name s k ≡ 0
   row-end k h = List·getD-eq-default (dirent name s) 0 (rw dirent-length h)
 
   -- ---- a good name makes a valid row
@@ -91,8 +91,8 @@ module _ (name : paths.Name) (s : Slot) where
 
 -- ---- the name in a directory
 
-module _ (s : Store) (h : SoundStore s) (d : Slot) (hd : d .0 < SLOTS) (kd : tablesOf s .file (d .0) KIND ≡ DIRECTORY) where
-  pub rows-agree : (i k : ℕ) → k < DIRENT → getD (direntAt (view s .tree .shown (d .0)) i) k 0 ≡ direntRow (tablesOf s .byte) (d .0) i k
+module _ (s : Store) (h : SoundStore s) (d : Slot) (hd : d .0 < SLOTS) (kd : tablesOf s .file (d .0) FILE-KIND ≡ DIRECTORY) where
+  pub rows-agree : (i k : ℕ) → k < DIRENT-WIDTH → getD (direntAt (view s .tree .shown (d .0)) i) k 0 ≡ direntRow (tablesOf s .byte) (d .0) i k
   unfolding tablesOf
   rows-agree = agree s (h .sized) (d .0) hd kd
 

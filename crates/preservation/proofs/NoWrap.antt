@@ -7,7 +7,7 @@ use native.Mathlib.Omega.{arith}
 use native.Mathlib.Decide.{ℕ-discrete}
 use lib.Dec.{eqb}
 use borrow.Author.Tests.{eq-eqb, ne-eqb}
-use Rattle.rules.specs.Layout.{SLOTS, BLOCK, DIRENTS, OPEN-FILES, PROCESSES, DESCRIPTORS, LENGTH, LINKS, OFFSET, REFERENCES}
+use Rattle.rules.specs.Layout.{SLOTS, BLOCK, DIRENTS, OPEN-FILES, PROCESSES, DESCRIPTORS, FILE-LENGTH, FILE-LINKS, OPEN-OFFSET, OPEN-REFERENCES}
 use Rattle.rules.specs.Scan.{repeat}
 use Rattle.rules.specs.Store.{Store, view, subjectOf, up, plus, fdOf}
 use Rattle.rules.specs.Sound.{sound}
@@ -31,17 +31,17 @@ use Rattle.preservation.proofs.Decided.{decide-fit}
 use Rattle.preservation.proofs.Preserved.{placed-well, caller-user, caller-label}
 
 module _ (s : Store) (h : SoundStore s) where
-  pub length-goes-up : (f : ℕ) → f < SLOTS → up (word s f LENGTH) ≡ word s f LENGTH + 1
-  length-goes-up f l = let a : tablesOf s .file f LENGTH ≤ BLOCK = length-most SLOTS (tablesOf s) (h .tables) f l in up-is (word s f LENGTH) (unfold tablesOf in (omega (arith, a)))
+  pub length-goes-up : (f : ℕ) → f < SLOTS → up (word s f FILE-LENGTH) ≡ word s f FILE-LENGTH + 1
+  length-goes-up f l = let a : tablesOf s .file f FILE-LENGTH ≤ BLOCK = length-most SLOTS (tablesOf s) (h .tables) f l in up-is (word s f FILE-LENGTH) (unfold tablesOf in (omega (arith, a)))
 
-  pub links-go-up : (f : ℕ) → f < SLOTS → up (word s f LINKS) ≡ word s f LINKS + 1
-  links-go-up f l = let a : tablesOf s .file f LINKS ≤ DIRENTS * SLOTS = link-most SLOTS (tablesOf s) (h .tables) f l in up-is (word s f LINKS) (unfold tablesOf in (omega (arith, a)))
+  pub links-go-up : (f : ℕ) → f < SLOTS → up (word s f FILE-LINKS) ≡ word s f FILE-LINKS + 1
+  links-go-up f l = let a : tablesOf s .file f FILE-LINKS ≤ DIRENTS * SLOTS = link-most SLOTS (tablesOf s) (h .tables) f l in up-is (word s f FILE-LINKS) (unfold tablesOf in (omega (arith, a)))
 
-  pub references-go-up : (e : ℕ) → e < OPEN-FILES → up (view s .openFiles e REFERENCES) ≡ view s .openFiles e REFERENCES + 1
-  references-go-up e l = let a : tablesOf s .openFiles e REFERENCES ≤ DESCRIPTORS * PROCESSES = references-most SLOTS (tablesOf s) (h .tables) e l in up-is (view s .openFiles e REFERENCES) (unfold tablesOf in (omega (arith, a)))
+  pub references-go-up : (e : ℕ) → e < OPEN-FILES → up (view s .openFiles e OPEN-REFERENCES) ≡ view s .openFiles e OPEN-REFERENCES + 1
+  references-go-up e l = let a : tablesOf s .openFiles e OPEN-REFERENCES ≤ DESCRIPTORS * PROCESSES = references-most SLOTS (tablesOf s) (h .tables) e l in up-is (view s .openFiles e OPEN-REFERENCES) (unfold tablesOf in (omega (arith, a)))
 
-  pub offset-goes-on : (e n : ℕ) → e < OPEN-FILES → n ≤ BLOCK → plus (view s .openFiles e OFFSET) n ≡ view s .openFiles e OFFSET + n
-  offset-goes-on e n l b = let a : tablesOf s .openFiles e OFFSET ≤ BLOCK = offsets-most SLOTS (tablesOf s) (h .tables) e l in plus-is (view s .openFiles e OFFSET) n (unfold tablesOf in (omega (arith, a)))
+  pub offset-goes-on : (e n : ℕ) → e < OPEN-FILES → n ≤ BLOCK → plus (view s .openFiles e OPEN-OFFSET) n ≡ view s .openFiles e OPEN-OFFSET + n
+  offset-goes-on e n l b = let a : tablesOf s .openFiles e OPEN-OFFSET ≤ BLOCK = offsets-most SLOTS (tablesOf s) (h .tables) e l in plus-is (view s .openFiles e OPEN-OFFSET) n (unfold tablesOf in (omega (arith, a)))
 
   -- each turn of a fork
   share-sums : (p q : Pid) (u l : ℕ) (hp : p .0 < PROCESSES) (hq : q .0 < PROCESSES) (i : ℕ) → i < DESCRIPTORS → (t : Store) → Sharing p q u l hp hq s i t → PlainShare (view t) (shareOf (view t .openFiles) (view t .desc) p (fdOf i))
@@ -65,7 +65,7 @@ module _ (s : Store) (h : SoundStore s) where
   sums c (changesBits y b hy k l o) = tt
   sums c (closes i u hi) = tt
   sums c (stores e at o l) = let w = placed-well s h c e at o l in (w .offset-is, w .length-is)
-  sums c (reads e n o l) = plus-is (view s .openFiles e OFFSET) n (unfold tablesOf in (omega (arith, l)))
+  sums c (reads e n o l) = plus-is (view s .openFiles e OPEN-OFFSET) n (unfold tablesOf in (omega (arith, l)))
   sums c (seeks e n o l) = tt
   sums c (duplicates i j e o hj g) = let w = held-open s h (c .process) i e o in (up-is e (omega (arith, w .small)), references-go-up e (w .small))
   sums c (forks q u hq g) = λ i hi. share-sums (c .process) q (subjectOf (view s .proc) (c .process) .user) (subjectOf (view s .proc) (c .process) .label) (u .small) hq i hi (repeat (effects.shared (c .process) q) 0 i s)

@@ -9,7 +9,7 @@ use lib.Dec.{ltb}
 use lib.ListN.{length, getD}
 use borrow.Author.Tests.{eq-eqb, lt-ltb, le-ltb}
 use Rattle.rules.specs.Layout.{SLOTS, BLOCK, OPEN-FILES, PROCESSES, DESCRIPTORS, BITS-MAX, LABEL-MAX, MODE-MAX}
-use Rattle.rules.specs.Layout.{KIND, BITS, LENGTH, VERSION, SLOT, OFFSET, REFERENCES, USED, PROCESS-LABEL, FREE, PLAIN}
+use Rattle.rules.specs.Layout.{FILE-KIND, FILE-BITS, FILE-LENGTH, FILE-VERSION, OPEN-SLOT, OPEN-OFFSET, OPEN-REFERENCES, PROCESS-USED, PROCESS-LABEL, FREE, PLAIN}
 use Rattle.rules.specs.Store as rules
 use Rattle.rules.specs.Store.{Store, change, view, ofdOf, up, zeros, applyAll, fileWord, openWord, procWord}
 use Rattle.rules.specs.DecidePaths.{truncated}
@@ -46,7 +46,7 @@ its-tables s h = record { sized = h .sized; is = refl }
 -- the caller is a process in use
 pub record Caller (m : Tables) (p : Pid) : Type 0 where
   pub small : p .0 < PROCESSES
-  pub used : m .proc (p .0) USED ≡ 1
+  pub used : m .proc (p .0) PROCESS-USED ≡ 1
 
 -- ---- open
 
@@ -55,9 +55,9 @@ pub record Opens (m : Tables) (p : Pid) (n : NewOpen) : Type 0 where
   pub fd-small : n .fd .0 < DESCRIPTORS
   pub fd-free : m .desc (p .0) (n .fd .0) ≡ 0
   pub ofd-small : n .ofd .0 < OPEN-FILES
-  pub ofd-free : m .openFiles (n .ofd .0) REFERENCES ≡ 0
+  pub ofd-free : m .openFiles (n .ofd .0) OPEN-REFERENCES ≡ 0
   pub slot-small : n .slot .0 < SLOTS
-  pub plain : m .file (n .slot .0) KIND ≡ PLAIN
+  pub plain : m .file (n .slot .0) FILE-KIND ≡ PLAIN
   pub mode-least : 0 < n .mode .0
   pub mode-most : n .mode .0 ≤ MODE-MAX
 
@@ -76,14 +76,14 @@ open-leaves s h p n o = record {
 -- ---- an open that truncates
 
 abbrev pub cutTo : Slot → Tables → Tables → Tables
-cutTo s m n = remade (s .0) (cutRow (m .file (s .0)) (up (m .file (s .0) VERSION))) (λ _. 0) n
+cutTo s m n = remade (s .0) (cutRow (m .file (s .0)) (up (m .file (s .0) FILE-VERSION))) (λ _. 0) n
 
 pub truncate-leaves : (s : Store) → SoundStore s → (p : Pid) (n : NewOpen) → Opens (tablesOf s) p n →
     Leaves (applyAll (truncateChanges p n (truncated (view s .tree .file) (n .slot))) s) (cutTo (n .slot) (tablesOf s) (withOpen p n (tablesOf s)))
 unfolding truncateChanges openChanges applyAll handed tablesOf
 truncate-leaves s h p n o = record {
   has = has-clearTo (w .has) (n .slot .0) (words (truncated (view s .tree .file) (n .slot))) (o .slot-small) refl;
-  sound = truncated-sound SLOTS (withOpen p n (tablesOf s)) (w .sound) (n .slot .0) (up (tablesOf s .file (n .slot .0) VERSION)) (o .plain) (up-most (tablesOf s .file (n .slot .0) VERSION));
+  sound = truncated-sound SLOTS (withOpen p n (tablesOf s)) (w .sound) (n .slot .0) (up (tablesOf s .file (n .slot .0) FILE-VERSION)) (o .plain) (up-most (tablesOf s .file (n .slot .0) FILE-VERSION));
 }
   where
     w : Leaves (applyAll (openChanges p n) s) (withOpen p n (tablesOf s))
@@ -101,21 +101,21 @@ held-open s h p i e o = held SLOTS (tablesOf s) (h .tables) (p .0) (i .0) e (o .
 
 -- ---- seek; read moves the offset too
 
-pub move-leaves : (s : Store) → SoundStore s → (e v : ℕ) → Held (tablesOf s) e → v ≤ BLOCK → Leaves (applyAll (openWord e OFFSET v ∷ []) s) (openTo e OFFSET v (tablesOf s))
+pub move-leaves : (s : Store) → SoundStore s → (e v : ℕ) → Held (tablesOf s) e → v ≤ BLOCK → Leaves (applyAll (openWord e OPEN-OFFSET v ∷ []) s) (openTo e OPEN-OFFSET v (tablesOf s))
 unfolding applyAll
 move-leaves s h e v o l = record {
-  has = has-openWord (its-tables s h) e OFFSET v (o .small) (omega arith);
+  has = has-openWord (its-tables s h) e OPEN-OFFSET v (o .small) (omega arith);
   sound = seek-sound SLOTS (tablesOf s) (h .tables) e v (o .open-refs) l;
 }
 
 -- ---- duplicate
 
 pub duplicate-leaves : (s : Store) → SoundStore s → (p : Pid) (i j : Fd) (e : ℕ) → Holds (tablesOf s) p i e → j .0 < DESCRIPTORS → tablesOf s .desc (p .0) (j .0) ≡ 0 →
-    Leaves (applyAll (duplicateChanges p j (ofdOf e) (up (tablesOf s .openFiles e REFERENCES))) s) (shared (p .0) (j .0) e (tablesOf s))
+    Leaves (applyAll (duplicateChanges p j (ofdOf e) (up (tablesOf s .openFiles e OPEN-REFERENCES))) s) (shared (p .0) (j .0) e (tablesOf s))
 unfolding duplicateChanges applyAll shared handed
 duplicate-leaves s h p i j e o hj f = record {
-  has = rw (up-is e (omega (arith, u .small)), up-is (tablesOf s .openFiles e REFERENCES) (omega (arith, references-most SLOTS (tablesOf s) (h .tables) e (u .small))))
-      (has-openRow (has-descTo (its-tables s h) (p .0) (j .0) (e + 1) (o .caller .small) hj) e REFERENCES (tablesOf s .openFiles e REFERENCES + 1) (u .small) (omega arith));
+  has = rw (up-is e (omega (arith, u .small)), up-is (tablesOf s .openFiles e OPEN-REFERENCES) (omega (arith, references-most SLOTS (tablesOf s) (h .tables) e (u .small))))
+      (has-openRow (has-descTo (its-tables s h) (p .0) (j .0) (e + 1) (o .caller .small) hj) e OPEN-REFERENCES (tablesOf s .openFiles e OPEN-REFERENCES + 1) (u .small) (omega arith));
   sound = shared-sound SLOTS (tablesOf s) (h .tables) (p .0) (i .0) (p .0) (j .0) e (o .caller .small) (o .fd-small) (o .caller .small) hj (λ z. omega (arith, o .caller .used, z)) (o .there) f;
 }
   where
@@ -124,10 +124,10 @@ duplicate-leaves s h p i j e o hj f = record {
 
 -- ---- change bits
 
-pub bits-leaves : (s : Store) → SoundStore s → (i v : ℕ) → i < SLOTS → (tablesOf s .file i KIND ≡ FREE → ⊥) → v ≤ BITS-MAX → Leaves (applyAll (fileWord i BITS v ∷ []) s) (fileTo i BITS v (tablesOf s))
+pub bits-leaves : (s : Store) → SoundStore s → (i v : ℕ) → i < SLOTS → (tablesOf s .file i FILE-KIND ≡ FREE → ⊥) → v ≤ BITS-MAX → Leaves (applyAll (fileWord i FILE-BITS v ∷ []) s) (fileTo i FILE-BITS v (tablesOf s))
 unfolding applyAll
 bits-leaves s h i v hi u l = record {
-  has = has-fileWord (its-tables s h) i BITS v hi (omega arith);
+  has = has-fileWord (its-tables s h) i FILE-BITS v hi (omega arith);
   sound = bits-sound SLOTS (tablesOf s) (h .tables) i v u l;
 }
 
@@ -144,12 +144,12 @@ execute-leaves s h p l o hl = record {
 
 pub record Writes (m : Tables) (bytes : List ℕ) (w : Placement) : Type 0 where
   pub ofd : Held m (w .ofd .0)
-  pub on : m .openFiles (w .ofd .0) SLOT ≡ w .slot .0
-  pub end-is : w .end ≡ m .file (w .slot .0) LENGTH
+  pub on : m .openFiles (w .ofd .0) OPEN-SLOT ≡ w .slot .0
+  pub end-is : w .end ≡ m .file (w .slot .0) FILE-LENGTH
   pub gap-is : w .gap ≡ w .at - w .end
   pub fits : w .at + length bytes ≤ BLOCK
   pub length-is : w .length ≡ max (w .end) (w .at + length bytes)
-  pub version-is : w .version ≡ up (m .file (w .slot .0) VERSION)
+  pub version-is : w .version ≡ up (m .file (w .slot .0) FILE-VERSION)
   pub offset-is : w .offset ≡ w .at + length bytes
 
 abbrev pub written : Tables → List ℕ → Placement → ℕ → ℕ
@@ -157,12 +157,12 @@ written m bytes w = overRow (overRow (m .byte (w .slot .0)) (w .end) (zeros (w .
 
 -- Two stores into one block are one, whose row is `written`: past the new length neither has put a byte, and the old block was 0 there.
 pub write-leaves : (s : Store) → SoundStore s → (bytes : List ℕ) (w : Placement) → Writes (tablesOf s) bytes w →
-    Leaves (applyAll (storeChanges bytes w) s) (openTo (w .ofd .0) OFFSET (w .offset) (wrote (w .slot .0) (written (tablesOf s) bytes w) (w .length) (w .version) (tablesOf s)))
+    Leaves (applyAll (storeChanges bytes w) s) (openTo (w .ofd .0) OPEN-OFFSET (w .offset) (wrote (w .slot .0) (written (tablesOf s) bytes w) (w .length) (w .version) (tablesOf s)))
 unfolding storeChanges applyAll wrote
 write-leaves s h bytes w o = record {
-  has = has-openWord (has-fileWord (has-fileWord (record { sized = b .sized; is = b .is ∙ once }) (w .slot .0) LENGTH (w .length) small (omega arith)) (w .slot .0) VERSION (w .version) small (omega arith)) (w .ofd .0) OFFSET (w .offset) (o .ofd .small) (omega arith);
+  has = has-openWord (has-fileWord (has-fileWord (record { sized = b .sized; is = b .is ∙ once }) (w .slot .0) FILE-LENGTH (w .length) small (omega arith)) (w .slot .0) FILE-VERSION (w .version) small (omega arith)) (w .ofd .0) OPEN-OFFSET (w .offset) (o .ofd .small) (omega arith);
   sound = seek-sound SLOTS (wrote (w .slot .0) g (w .length) (w .version) m)
-      (wrote-sound SLOTS m (h .tables) (w .slot .0) g (w .length) (w .version) plain (omega (arith, o .length-is, o .fits, end-most)) past (rw (o .version-is) (up-most (m .file (w .slot .0) VERSION))))
+      (wrote-sound SLOTS m (h .tables) (w .slot .0) g (w .length) (w .version) plain (omega (arith, o .length-is, o .fits, end-most)) past (rw (o .version-is) (up-most (m .file (w .slot .0) FILE-VERSION))))
       (w .ofd .0) (w .offset) (o .ofd .open-refs) (omega (arith, o .offset-is, o .fits));
 }
   where
@@ -175,7 +175,7 @@ write-leaves s h bytes w o = record {
     small : w .slot .0 < SLOTS
     small = rw (o .on) at (h .tables .opens .open-files (w .ofd .0) (o .ofd .small) .slot-small (o .ofd .open-refs))
 
-    plain : tablesOf s .file (w .slot .0) KIND ≡ PLAIN
+    plain : tablesOf s .file (w .slot .0) FILE-KIND ≡ PLAIN
     plain = rw (o .on) at (h .tables .opens .open-files (w .ofd .0) (o .ofd .small) .plain (o .ofd .open-refs))
 
     end-most : w .end ≤ BLOCK

@@ -5,7 +5,7 @@ use mathlib.Core.Logic.{_⊎_, inl, inr}
 use mathlib.Core.List.{List, [], _∷_}
 use Prim.Native.Nat.{ℕ, _-_, _<_}
 use native.Mathlib.Omega.{arith}
-use Rattle.rules.specs.Layout.{OPEN-FILES, KIND, LINKS, SLOT, REFERENCES, FREE, PLAIN, DIRECTORY}
+use Rattle.rules.specs.Layout.{OPEN-FILES, FILE-KIND, FILE-LINKS, OPEN-SLOT, OPEN-REFERENCES, FREE, PLAIN, DIRECTORY}
 use Rattle.rules.specs.Store.{Store, view, slot, isSlot, ofdOf, subjectOf, applyAll, block}
 use Rattle.rules.specs.Refusals.{GRANTED, refusalNumber}
 use Rattle.rules.specs.Sound.{policySound, sound, openBut, isOn}
@@ -51,8 +51,8 @@ use Rattle.preservation.proofs.Kept.{Kept, unlinked-open-files, kept-un
 pub record OnFile (openFiles : ℕ → ℕ → ℕ) (f : ℕ) : Type 0 where
   pub ofd : ℕ
   pub small : ofd < OPEN-FILES
-  pub used : openFiles ofd REFERENCES ≡ 0 → ⊥
-  pub on : openFiles ofd SLOT ≡ f
+  pub used : openFiles ofd OPEN-REFERENCES ≡ 0 → ⊥
+  pub on : openFiles ofd OPEN-SLOT ≡ f
 
 on-file : (s : Store) (f : ℕ) → IsOpen s f → OnFile (tablesOf s .openFiles) f
 unfolding openBut tablesOf
@@ -61,16 +61,16 @@ on-file s f t =
     let w = means-on (view s .openFiles) OPEN-FILES f (a .at) .holds (a .passes) in
     record { ofd = a .at; small = a .small; used = w .1 .0; on = w .1 .1 }
 
-on-plain : (m : Tables) → Sound m → (f : ℕ) → OnFile (m .openFiles) f → m .file f KIND ≡ PLAIN
+on-plain : (m : Tables) → Sound m → (f : ℕ) → OnFile (m .openFiles) f → m .file f FILE-KIND ≡ PLAIN
 on-plain m h f o = rw (o .on) at (h .opens .open-files (o .ofd) (o .small) .plain (o .used))
 
-pub open-plain : (s : Store) → SoundStore s → (f : ℕ) → IsOpen s f → tablesOf s .file f KIND ≡ PLAIN
+pub open-plain : (s : Store) → SoundStore s → (f : ℕ) → IsOpen s f → tablesOf s .file f FILE-KIND ≡ PLAIN
 open-plain s h f t = on-plain (tablesOf s) (h .tables) f (on-file s f t)
 
 -- ---- what a create gives out was free
 
 data Fresh (s : Store) : ℕ → Output → Effect → Type 0 where
-  fresh : (d : DirChange) (y : ℕ) (r : Record) → tablesOf s .file y KIND ≡ FREE → Fresh s y output.Nothing (effect.Created d (slot y) r)
+  fresh : (d : DirChange) (y : ℕ) (r : Record) → tablesOf s .file y FILE-KIND ≡ FREE → Fresh s y output.Nothing (effect.Created d (slot y) r)
 
 fresh-fit : (Q : List ℕ) (s : Store) → SoundStore s → (p : Pid) (kind : ℕ) (n : BitsNumber) (path : List ℕ) → Fit (Fresh s) (decideCreate Q (view s .tree) (subjectOf (view s .proc) p) kind n path)
 unfolding decideCreate createIn createRoom
@@ -125,7 +125,7 @@ unfolding OpenAfterEach PlainAfterEach act
 open-stays Q s f [] e t = tt
 open-stays Q s f (c ∷ cs) e t = (plain, (given, open-stays Q (step Q s c .store) f cs (step-sound Q s c e) (t .1)))
   where
-    plain : word (step Q s c .store) f KIND ≡ PLAIN
+    plain : word (step Q s c .store) f FILE-KIND ≡ PLAIN
     plain = unfold tablesOf in open-plain (step Q s c .store) (means-sound Q (step Q s c .store) .holds (step-sound Q s c e) .1) f (t .0)
 
     given : GivesOut Q s c f → ⊥
@@ -147,11 +147,11 @@ decide-unlink Q s h c safe e = need-fit (inUse (view s .proc) (c .process)) _ _ 
 
 -- the slot of an open file is left as it was, but for its link count
 pub record Unlinked (s t : Store) (f : ℕ) : Type 0 where
-  pub words : (k : ℕ) → (k ≡ LINKS → ⊥) → word t f k ≡ word s f k
+  pub words : (k : ℕ) → (k ≡ FILE-LINKS → ⊥) → word t f k ≡ word s f k
   pub bytes : block (t .contents) f ≡ block (s .contents) f
 
 module _ (s : Store) (h : SoundStore s) (c : Call) (f : ℕ) (o : IsOpen s f) where
-  unlinked-leaves : (t : Store) (m : Tables) → Leaves t m → Kept (λ k. k ≡ LINKS → ⊥) f (tablesOf s) m → Unlinked s t f
+  unlinked-leaves : (t : Store) (m : Tables) → Leaves t m → Kept (λ k. k ≡ FILE-LINKS → ⊥) f (tablesOf s) m → Unlinked s t f
   unfolding tablesOf
   unlinked-leaves t m l e = record {
     words = λ k n. ap (λ (x : Tables). x .file f k) (l .has .is) ∙ e .words k n;

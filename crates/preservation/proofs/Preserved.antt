@@ -5,7 +5,7 @@ use mathlib.Core.List.{List, [], _∷_}
 use Prim.Native.Nat.{ℕ, _+_, _-_, _≤_, _<_, max}
 use native.Mathlib.Omega.{arith}
 use lib.ListN.{length}
-use Rattle.rules.specs.Layout.{BLOCK, PROCESSES, LENGTH, SLOT, OFFSET, USED, USER, PROCESS-LABEL, USER-MAX, LABEL-MAX}
+use Rattle.rules.specs.Layout.{BLOCK, PROCESSES, FILE-LENGTH, OPEN-SLOT, OPEN-OFFSET, PROCESS-USED, PROCESS-USER, PROCESS-LABEL, USER-MAX, LABEL-MAX}
 use Rattle.rules.specs.Store.{Store, view, slot, ofdOf, subjectOf, applyAll, plus}
 use Rattle.rules.specs.Sound.{sound}
 use Rattle.rules.specs.Calls.{Call}
@@ -28,7 +28,7 @@ use Rattle.preservation.proofs.Granted.{Fit, granting, refusing, unlink
 use Rattle.preservation.proofs.Decided.{decide-fit}
 
 module _ (s : Store) (h : SoundStore s) (c : Call) where
-  pub placed-well : (e at : ℕ) → Held (tablesOf s) e → at + length (c .«data») ≤ BLOCK → Writes (tablesOf s) (c .«data») (placement (view s .tree .file) (ofdOf e) (slot (view s .openFiles e SLOT)) at (length (c .«data»)))
+  pub placed-well : (e at : ℕ) → Held (tablesOf s) e → at + length (c .«data») ≤ BLOCK → Writes (tablesOf s) (c .«data») (placement (view s .tree .file) (ofdOf e) (slot (view s .openFiles e OPEN-SLOT)) at (length (c .«data»)))
   unfolding tablesOf
   placed-well e at o l = record {
     ofd = o;
@@ -36,12 +36,12 @@ module _ (s : Store) (h : SoundStore s) (c : Call) where
     end-is = refl;
     gap-is = refl;
     fits = l;
-    length-is = ap (max (view s .tree .file (view s .openFiles e SLOT) LENGTH)) (plus-is at (length (c .«data»)) (omega arith));
+    length-is = ap (max (view s .tree .file (view s .openFiles e OPEN-SLOT) FILE-LENGTH)) (plus-is at (length (c .«data»)) (omega arith));
     version-is = refl;
     offset-is = plus-is at (length (c .«data»)) (omega arith);
   }
 
-  pub caller-user : Caller (tablesOf s) (c .process) → view s .proc (c .process .0) USER ≤ USER-MAX
+  pub caller-user : Caller (tablesOf s) (c .process) → view s .proc (c .process .0) PROCESS-USER ≤ USER-MAX
   unfolding tablesOf
   caller-user u = h .tables .procs (c .process .0) (u .small) .user-most
 
@@ -49,11 +49,11 @@ module _ (s : Store) (h : SoundStore s) (c : Call) where
   unfolding tablesOf
   caller-label u = h .tables .procs (c .process .0) (u .small) .label-most
 
-  pub read-fits : (e n : ℕ) → tablesOf s .openFiles e OFFSET + n ≤ BLOCK → plus (view s .openFiles e OFFSET) n ≤ BLOCK
+  pub read-fits : (e n : ℕ) → tablesOf s .openFiles e OPEN-OFFSET + n ≤ BLOCK → plus (view s .openFiles e OPEN-OFFSET) n ≤ BLOCK
   unfolding tablesOf
-  read-fits e n l = rw (plus-is (view s .openFiles e OFFSET) n (omega (arith, l))) l
+  read-fits e n l = rw (plus-is (view s .openFiles e OPEN-OFFSET) n (omega (arith, l))) l
 
-  pub forking : (q : Pid) (u : Caller (tablesOf s) (c .process)) (hq : q .0 < PROCESSES) → tablesOf s .proc (q .0) USED ≡ 0 → let who = subjectOf (view s .proc) (c .process) in
+  pub forking : (q : Pid) (u : Caller (tablesOf s) (c .process)) (hq : q .0 < PROCESSES) → tablesOf s .proc (q .0) PROCESS-USED ≡ 0 → let who = subjectOf (view s .proc) (c .process) in
       Forks (c .process) q (who .user) (who .label) (u .small) hq s (applyAll (forkChanges q who) (sharedAll (c .process) q s))
   forking q u hq f = fork-leaves (c .process) q (subjectOf (view s .proc) (c .process) .user) (subjectOf (view s .proc) (c .process) .label) (u .small) hq s h f (caller-user u) (caller-label u)
 

@@ -14,7 +14,7 @@ use Rattle.preservation.proofs.Rows.{references-to, process-used, proce
 use Rattle.preservation.proofs.Counts.{ind-eq, ind-ne}
 use Rattle.preservation.proofs.OneWord.{Held, held}
 use Rattle.preservation.proofs.Open.{handed, handed-sound, openCount-row}
-use Rattle.rules.specs.Layout.{PROCESSES, DESCRIPTORS, KIND, REFERENCES, USED, PROCESS-LABEL, USER-MAX, LABEL-MAX}
+use Rattle.rules.specs.Layout.{PROCESSES, DESCRIPTORS, FILE-KIND, OPEN-REFERENCES, PROCESS-USED, PROCESS-LABEL, USER-MAX, LABEL-MAX}
 
 -- ---- the words of process p
 
@@ -32,7 +32,7 @@ process-sound x m h p row w = record {
 }
 
 -- execute: the label moves to l
-pub execute-sound : (x : ℕ) (m : Tables) → SoundBut x m → (p l : ℕ) → p < PROCESSES → m .proc p USED ≡ 1 → l ≤ LABEL-MAX → SoundBut x (procTo p PROCESS-LABEL l m)
+pub execute-sound : (x : ℕ) (m : Tables) → SoundBut x m → (p l : ℕ) → p < PROCESSES → m .proc p PROCESS-USED ≡ 1 → l ≤ LABEL-MAX → SoundBut x (procTo p PROCESS-LABEL l m)
 execute-sound x m h p l hp a hl = let w = h .procs p hp in process-sound x m h p (upd (m .proc p) PROCESS-LABEL l) (process-used a (w .user-most) hl (w .desc-most))
 
 -- fork: process q, which is free, is in use
@@ -46,19 +46,19 @@ retire-sound x m h q z = process-sound x m h q (λ _. 0) (process-free z)
 -- ---- descriptor k of q holds the open file e that descriptor j of p holds: duplicate, with q = p, and each step of fork
 
 unfoldable pub shared : (q k e : ℕ) → Tables → Tables
-shared q k e m = handed q k (e + 1) e (upd (m .openFiles e) REFERENCES (m .openFiles e REFERENCES + 1)) m
+shared q k e m = handed q k (e + 1) e (upd (m .openFiles e) OPEN-REFERENCES (m .openFiles e OPEN-REFERENCES + 1)) m
 
-pub shared-sound : (x : ℕ) (m : Tables) → SoundBut x m → (p j q k e : ℕ) → p < PROCESSES → j < DESCRIPTORS → q < PROCESSES → k < DESCRIPTORS → (m .proc q USED ≡ 0 → ⊥) → m .desc p j ≡ e + 1 → m .desc q k ≡ 0 → SoundBut x (shared q k e m)
+pub shared-sound : (x : ℕ) (m : Tables) → SoundBut x m → (p j q k e : ℕ) → p < PROCESSES → j < DESCRIPTORS → q < PROCESSES → k < DESCRIPTORS → (m .proc q PROCESS-USED ≡ 0 → ⊥) → m .desc p j ≡ e + 1 → m .desc q k ≡ 0 → SoundBut x (shared q k e m)
 unfolding shared
 shared-sound x m h p j q k e hp hj hq hk u d f =
-    let a : ltb 0 (m .openFiles e REFERENCES) ≡ true = lt-ltb 0 (m .openFiles e REFERENCES) (omega (arith, o .open-refs)) in
-    let b : ltb 0 (m .openFiles e REFERENCES + 1) ≡ true = lt-ltb 0 (m .openFiles e REFERENCES + 1) (omega arith) in
-    handed-sound x m h q k (e + 1) e (upd (m .openFiles e) REFERENCES (m .openFiles e REFERENCES + 1)) hq hk u (omega (arith, o .small))
-    (references-to (col (m .file) KIND) (m .openFiles e) (h .opens .open-files e (o .small)) (m .openFiles e REFERENCES + 1) (o .open-refs) (λ z. omega arith))
+    let a : ltb 0 (m .openFiles e OPEN-REFERENCES) ≡ true = lt-ltb 0 (m .openFiles e OPEN-REFERENCES) (omega (arith, o .open-refs)) in
+    let b : ltb 0 (m .openFiles e OPEN-REFERENCES + 1) ≡ true = lt-ltb 0 (m .openFiles e OPEN-REFERENCES + 1) (omega arith) in
+    handed-sound x m h q k (e + 1) e (upd (m .openFiles e) OPEN-REFERENCES (m .openFiles e OPEN-REFERENCES + 1)) hq hk u (omega (arith, o .small))
+    (references-to (col (m .file) FILE-KIND) (m .openFiles e) (h .opens .open-files e (o .small)) (m .openFiles e OPEN-REFERENCES + 1) (o .open-refs) (λ z. omega arith))
     (λ i hi. split i e
     (λ g t. rw (t, g) (omega (arith, ind-eq (e + 1) (e + 1) refl, ind-ne (m .desc q k) (e + 1) (λ z. omega arith))))
     (λ g t. rw t (omega (arith, ind-ne (e + 1) (i + 1) (λ z. g (omega arith)), ind-ne (m .desc q k) (i + 1) (λ z. omega arith)))))
-    (λ s hs n. omega (arith, rw (a, b) at (openCount-row m e (upd (m .openFiles e) REFERENCES (m .openFiles e REFERENCES + 1)) s (o .small))))
+    (λ s hs n. omega (arith, rw (a, b) at (openCount-row m e (upd (m .openFiles e) OPEN-REFERENCES (m .openFiles e OPEN-REFERENCES + 1)) s (o .small))))
   where
     o : Held m e
     o = held x m h p j e hp hj d

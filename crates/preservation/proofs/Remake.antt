@@ -10,7 +10,7 @@ use Rattle.preservation.proofs.Sums.{ind, sum2-same, sum-at}
 use Rattle.preservation.proofs.Tables.{Tables, col, direntRow, rowsOf}
 use Rattle.preservation.proofs.Sound.{All, SoundBut, File, Block, Directory, Depths, OpenFile, naming, linkCount, openCount}
 use Rattle.preservation.proofs.Dirents.{naming-at, used-none}
-use Rattle.rules.specs.Layout.{SLOTS, DIRENTS, DIRENT, OPEN-FILES, NAME, KIND, LENGTH, LINKS, DIRECTORY, SLOT, REFERENCES}
+use Rattle.rules.specs.Layout.{SLOTS, DIRENTS, DIRENT-WIDTH, OPEN-FILES, NAME, FILE-KIND, FILE-LENGTH, FILE-LINKS, DIRECTORY, OPEN-SLOT, OPEN-REFERENCES}
 
 -- ---- a group over other columns
 
@@ -34,7 +34,7 @@ dir-kinds kind kind′ rows d e = record {
   };
 }
 
-pub dir-empty : (kind : ℕ → ℕ) (rows : ℕ → ℕ → ℕ) → ((q k : ℕ) → q < DIRENTS → k < DIRENT → rows q k ≡ 0) → Directory kind rows
+pub dir-empty : (kind : ℕ → ℕ) (rows : ℕ → ℕ → ℕ) → ((q k : ℕ) → q < DIRENTS → k < DIRENT-WIDTH → rows q k ≡ 0) → Directory kind rows
 dir-empty kind rows z = record {
   different = λ q hq _ _ _ n. absurd (n (z q NAME hq (omega arith)));
   dirents = λ q hq. record {
@@ -46,7 +46,7 @@ dir-empty kind rows z = record {
   };
 }
 
-pub open-kinds : {kind kind′ row : ℕ → ℕ} → OpenFile kind row → ((row REFERENCES ≡ 0 → ⊥) → kind′ (row SLOT) ≡ kind (row SLOT)) → OpenFile kind′ row
+pub open-kinds : {kind kind′ row : ℕ → ℕ} → OpenFile kind row → ((row OPEN-REFERENCES ≡ 0 → ⊥) → kind′ (row OPEN-SLOT) ≡ kind (row OPEN-SLOT)) → OpenFile kind′ row
 open-kinds w e = record {
   slot-zero = w .slot-zero;
   mode-zero = w .mode-zero;
@@ -74,17 +74,17 @@ remade y row g m = record { file = upd (m .file) y row; byte = upd (m .byte) y g
 pub record Bare (m : Tables) (y : ℕ) : Type 0 where
   pub small : y < SLOTS
   pub not-root : y ≡ 0 → ⊥
-  pub no-links : m .file y LINKS ≡ 0
-  pub not-open : (e : ℕ) → e < OPEN-FILES → (m .openFiles e REFERENCES ≡ 0 → ⊥) → m .openFiles e SLOT ≡ y → ⊥
-  pub no-dirents : m .file y KIND ≡ DIRECTORY → All DIRENTS (λ q. direntRow (m .byte) y q NAME ≡ 0)
+  pub no-links : m .file y FILE-LINKS ≡ 0
+  pub not-open : (e : ℕ) → e < OPEN-FILES → (m .openFiles e OPEN-REFERENCES ≡ 0 → ⊥) → m .openFiles e OPEN-SLOT ≡ y → ⊥
+  pub no-dirents : m .file y FILE-KIND ≡ DIRECTORY → All DIRENTS (λ q. direntRow (m .byte) y q NAME ≡ 0)
 
 -- the record and the bytes that it gets
 pub record Fresh (row g : ℕ → ℕ) : Type 0 where
   pub file-row : File row
-  pub block-row : Block (row KIND) (row LENGTH) g
-  pub links-row : row LINKS ≡ 0
-  pub empty-length : row KIND ≡ DIRECTORY → row LENGTH ≡ 0
-  pub empty-bytes : row KIND ≡ DIRECTORY → (b : ℕ) → b < DIRENTS * DIRENT → g b ≡ 0
+  pub block-row : Block (row FILE-KIND) (row FILE-LENGTH) g
+  pub links-row : row FILE-LINKS ≡ 0
+  pub empty-length : row FILE-KIND ≡ DIRECTORY → row FILE-LENGTH ≡ 0
+  pub empty-bytes : row FILE-KIND ≡ DIRECTORY → (b : ℕ) → b < DIRENTS * DIRENT-WIDTH → g b ≡ 0
 
 module _ (m : Tables) (y : ℕ) (row g : ℕ → ℕ) (h : SoundBut y m) (a : Bare m y) (n : Fresh row g) where
   abbrev pub file′ : ℕ → ℕ → ℕ
@@ -93,22 +93,22 @@ module _ (m : Tables) (y : ℕ) (row g : ℕ → ℕ) (h : SoundBut y m) (a : Ba
   abbrev pub byte′ : ℕ → ℕ → ℕ
   byte′ = upd (m .byte) y g
 
-  kind-other : (i : ℕ) → (i ≡ y → ⊥) → col file′ KIND i ≡ m .file i KIND
+  kind-other : (i : ℕ) → (i ≡ y → ⊥) → col file′ FILE-KIND i ≡ m .file i FILE-KIND
   kind-other i q = rw (ne-eqb i y q)
 
-  pub unnamed : (u : ℕ) → u < SLOTS → m .file u KIND ≡ DIRECTORY → (q : ℕ) → q < DIRENTS → direntRow (m .byte) u q NAME ≡ y → ⊥
-  unnamed u hu ku q hq e = omega (arith, naming-at (col (m .file) KIND) (direntRow (m .byte)) u q y hu hq ku e, h .tree .links y (a .small) (a .not-root), a .no-links)
+  pub unnamed : (u : ℕ) → u < SLOTS → m .file u FILE-KIND ≡ DIRECTORY → (q : ℕ) → q < DIRENTS → direntRow (m .byte) u q NAME ≡ y → ⊥
+  unnamed u hu ku q hq e = omega (arith, naming-at (col (m .file) FILE-KIND) (direntRow (m .byte)) u q y hu hq ku e, h .tree .links y (a .small) (a .not-root), a .no-links)
 
-  pub new-rows : row KIND ≡ DIRECTORY → (q k : ℕ) → q < DIRENTS → k < DIRENT → rowsOf g q k ≡ 0
-  new-rows r q k hq hk = rw (lt-ltb k DIRENT hk) (n .empty-bytes r (DIRENT * q + k) (omega arith))
+  pub new-rows : row FILE-KIND ≡ DIRECTORY → (q k : ℕ) → q < DIRENTS → k < DIRENT-WIDTH → rowsOf g q k ≡ 0
+  new-rows r q k hq hk = rw (lt-ltb k DIRENT-WIDTH hk) (n .empty-bytes r (DIRENT-WIDTH * q + k) (omega arith))
 
-  naming-eq : (s : ℕ) → (s ≡ 0 → ⊥) → (i j : ℕ) → i < SLOTS → j < DIRENTS → naming (col file′ KIND) (direntRow byte′) s i j ≡ naming (col (m .file) KIND) (direntRow (m .byte)) s i j
+  naming-eq : (s : ℕ) → (s ≡ 0 → ⊥) → (i j : ℕ) → i < SLOTS → j < DIRENTS → naming (col file′ FILE-KIND) (direntRow byte′) s i j ≡ naming (col (m .file) FILE-KIND) (direntRow (m .byte)) s i j
   naming-eq s n0 i j hi hj = split i y
-      (λ q t. rw (t, and-false (eqb (row KIND) DIRECTORY) (eqb (rowsOf g j NAME) s) (λ r. ne-eqb (rowsOf g j NAME) s (λ z. n0 (sym z ∙ new-rows (eqb-true (row KIND) DIRECTORY r) j NAME hj (omega arith)))))
-      (sym (and-false (eqb (m .file i KIND) DIRECTORY) (eqb (direntRow (m .byte) i j NAME) s) (λ r. ne-eqb (direntRow (m .byte) i j NAME) s (λ z. n0 (sym z ∙ rw q (a .no-dirents (rw q at (eqb-true (m .file i KIND) DIRECTORY r)) j hj)))))))
+      (λ q t. rw (t, and-false (eqb (row FILE-KIND) DIRECTORY) (eqb (rowsOf g j NAME) s) (λ r. ne-eqb (rowsOf g j NAME) s (λ z. n0 (sym z ∙ new-rows (eqb-true (row FILE-KIND) DIRECTORY r) j NAME hj (omega arith)))))
+      (sym (and-false (eqb (m .file i FILE-KIND) DIRECTORY) (eqb (direntRow (m .byte) i j NAME) s) (λ r. ne-eqb (direntRow (m .byte) i j NAME) s (λ z. n0 (sym z ∙ rw q (a .no-dirents (rw q at (eqb-true (m .file i FILE-KIND) DIRECTORY r)) j hj)))))))
       (λ q t. rw t)
 
-  unfoldable pub remade-depths : Depths (col (m .file) KIND) (direntRow (m .byte)) → Depths (col file′ KIND) (direntRow byte′)
+  unfoldable pub remade-depths : Depths (col (m .file) FILE-KIND) (direntRow (m .byte)) → Depths (col file′ FILE-KIND) (direntRow byte′)
   remade-depths c = record {
     depth = upd (c .depth) y 0;
     depth-root = upd-other (c .depth) y 0 0 (λ q. a .not-root (sym q)) ∙ c .depth-root;
@@ -130,12 +130,12 @@ module _ (m : Tables) (y : ℕ) (row g : ℕ → ℕ) (h : SoundBut y m) (a : Ba
     };
     tree = record {
       dirs = λ i hi. split i y
-          (λ q t. rw t (λ k. dir-empty (col file′ KIND) (rowsOf g) (new-rows k)))
-          (λ q t. rw t (λ k. dir-kinds (col (m .file) KIND) (col file′ KIND) (direntRow (m .byte) i) (h .tree .dirs i hi k) (λ p hp _. kind-other (direntRow (m .byte) i p NAME) (unnamed i hi k p hp))));
+          (λ q t. rw t (λ k. dir-empty (col file′ FILE-KIND) (rowsOf g) (new-rows k)))
+          (λ q t. rw t (λ k. dir-kinds (col (m .file) FILE-KIND) (col file′ FILE-KIND) (direntRow (m .byte) i) (h .tree .dirs i hi k) (λ p hp _. kind-other (direntRow (m .byte) i p NAME) (unnamed i hi k p hp))));
       lengths = λ i hi. split i y
           (λ q t. rw t (λ k. n .empty-length k ∙ sym (used-none (rowsOf g) (λ p hp. new-rows k p NAME hp (omega arith)))))
           (λ q t. rw t (h .tree .lengths i hi));
-      links = λ s hs n0. rw (naming-same (col (m .file) KIND) (col file′ KIND) (direntRow (m .byte)) (direntRow byte′) s (naming-eq s n0)) (split s y
+      links = λ s hs n0. rw (naming-same (col (m .file) FILE-KIND) (col file′ FILE-KIND) (direntRow (m .byte)) (direntRow byte′) s (naming-eq s n0)) (split s y
           (λ q t. rw t (n .links-row ∙ sym (a .no-links) ∙ rw (← q) (h .tree .links s hs n0)))
           (λ q t. rw t (h .tree .links s hs n0)));
       depths = remade-depths (h .tree .depths);
@@ -145,7 +145,7 @@ module _ (m : Tables) (y : ℕ) (row g : ℕ → ℕ) (h : SoundBut y m) (a : Ba
       alive = λ i hi q. rw (ne-eqb i y q) (h .live .alive i hi q);
     };
     opens = record {
-      open-files = λ i hi. open-kinds (h .opens .open-files i hi) (λ r. kind-other (m .openFiles i SLOT) (a .not-open i hi r));
+      open-files = λ i hi. open-kinds (h .opens .open-files i hi) (λ r. kind-other (m .openFiles i OPEN-SLOT) (a .not-open i hi r));
       refs = h .opens .refs;
     };
     procs = h .procs;

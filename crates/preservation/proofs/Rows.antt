@@ -7,12 +7,12 @@ use lib.ListN.{getD}
 use Rattle.preservation.proofs.Tests.{upd, upd2, upd2-elim}
 use Rattle.preservation.proofs.Tables.{fileWords, fileRow}
 use Rattle.preservation.proofs.Sound.{All, File, OpenFile, Process}
-use Rattle.rules.specs.Layout.{SLOTS, BLOCK, OPEN-FILES, DESCRIPTORS, KIND, OWNER, BITS, LABEL, LENGTH, LINKS, VERSION, SLOT, MODE, OFFSET, REFERENCES, USED, USER, PROCESS-LABEL, FREE, PLAIN}
+use Rattle.rules.specs.Layout.{SLOTS, BLOCK, OPEN-FILES, DESCRIPTORS, FILE-KIND, FILE-OWNER, FILE-BITS, FILE-LABEL, FILE-LENGTH, FILE-LINKS, FILE-VERSION, OPEN-SLOT, OPEN-MODE, OPEN-OFFSET, OPEN-REFERENCES, PROCESS-USED, PROCESS-USER, PROCESS-LABEL, FREE, PLAIN}
 use Rattle.rules.specs.Layout.{KIND-MAX, USER-MAX, BITS-MAX, LABEL-MAX, MODE-MAX, WORD-MAX}
 
 -- ---- files
 
-pub file-used : {row : ℕ → ℕ} → (row KIND ≡ FREE → ⊥) → row KIND ≤ KIND-MAX → row OWNER ≤ USER-MAX → row BITS ≤ BITS-MAX → row LABEL ≤ LABEL-MAX → row VERSION ≤ WORD-MAX → File row
+pub file-used : {row : ℕ → ℕ} → (row FILE-KIND ≡ FREE → ⊥) → row FILE-KIND ≤ KIND-MAX → row FILE-OWNER ≤ USER-MAX → row FILE-BITS ≤ BITS-MAX → row FILE-LABEL ≤ LABEL-MAX → row FILE-VERSION ≤ WORD-MAX → File row
 file-used u k o b l t = record {
   kind-most = k;
   owner-most = o;
@@ -28,7 +28,7 @@ file-used u k o b l t = record {
 
 -- a free slot's record
 abbrev pub freeRow : (version : ℕ) → ℕ → ℕ
-freeRow version = fileRow (upd (λ _. 0) VERSION version)
+freeRow version = fileRow (upd (λ _. 0) FILE-VERSION version)
 
 pub file-free : (v : ℕ) → v ≤ WORD-MAX → File (freeRow v)
 file-free v l = record {
@@ -47,41 +47,41 @@ file-free v l = record {
 -- nothing is said of a row beyond its columns
 pub file-same : (r t : ℕ → ℕ) → fileWords r ≡ fileWords t → File r → File t
 file-same r t e w = record {
-  kind-most = rw (at KIND) at (w .kind-most);
-  owner-most = rw (at OWNER) at (w .owner-most);
-  bits-most = rw (at BITS) at (w .bits-most);
-  label-most = rw (at LABEL) at (w .label-most);
-  version-most = rw (at VERSION) at (w .version-most);
-  owner-zero = rw (at KIND, at OWNER) at (w .owner-zero);
-  bits-zero = rw (at KIND, at BITS) at (w .bits-zero);
-  label-zero = rw (at KIND, at LABEL) at (w .label-zero);
-  length-zero = rw (at KIND, at LENGTH) at (w .length-zero);
-  links-zero = rw (at KIND, at LINKS) at (w .links-zero);
+  kind-most = rw (at FILE-KIND) at (w .kind-most);
+  owner-most = rw (at FILE-OWNER) at (w .owner-most);
+  bits-most = rw (at FILE-BITS) at (w .bits-most);
+  label-most = rw (at FILE-LABEL) at (w .label-most);
+  version-most = rw (at FILE-VERSION) at (w .version-most);
+  owner-zero = rw (at FILE-KIND, at FILE-OWNER) at (w .owner-zero);
+  bits-zero = rw (at FILE-KIND, at FILE-BITS) at (w .bits-zero);
+  label-zero = rw (at FILE-KIND, at FILE-LABEL) at (w .label-zero);
+  length-zero = rw (at FILE-KIND, at FILE-LENGTH) at (w .length-zero);
+  links-zero = rw (at FILE-KIND, at FILE-LINKS) at (w .links-zero);
 }
   where
     at : (c : ℕ) → fileRow r c ≡ fileRow t c
     at c = ap (λ (ws : List ℕ). getD ws c 0) e
 
 -- a word of the record of slot s, which is in use, becomes v
-module _ (f : ℕ → ℕ → ℕ) (h : All SLOTS (λ i. File (f i))) (s v : ℕ) (u : f s KIND ≡ FREE → ⊥) where
-  word-to : (c : ℕ) → ((i : ℕ) → (f i KIND ≡ FREE → ⊥) → File (f i) → File (upd (f i) c v)) → All SLOTS (λ i. File (upd2 f s c v i))
+module _ (f : ℕ → ℕ → ℕ) (h : All SLOTS (λ i. File (f i))) (s v : ℕ) (u : f s FILE-KIND ≡ FREE → ⊥) where
+  word-to : (c : ℕ) → ((i : ℕ) → (f i FILE-KIND ≡ FREE → ⊥) → File (f i) → File (upd (f i) c v)) → All SLOTS (λ i. File (upd2 f s c v i))
   word-to c to i hi = upd2-elim (λ row. File row) f s c v i (λ q. to i (rw q u) (h i hi)) (λ _. h i hi)
 
-  pub bits-to : v ≤ BITS-MAX → All SLOTS (λ i. File (upd2 f s BITS v i))
-  bits-to l = word-to BITS (λ i n w. file-used n (w .kind-most) (w .owner-most) l (w .label-most) (w .version-most))
+  pub bits-to : v ≤ BITS-MAX → All SLOTS (λ i. File (upd2 f s FILE-BITS v i))
+  bits-to l = word-to FILE-BITS (λ i n w. file-used n (w .kind-most) (w .owner-most) l (w .label-most) (w .version-most))
 
-  pub length-to : All SLOTS (λ i. File (upd2 f s LENGTH v i))
-  length-to = word-to LENGTH (λ i n w. file-used n (w .kind-most) (w .owner-most) (w .bits-most) (w .label-most) (w .version-most))
+  pub length-to : All SLOTS (λ i. File (upd2 f s FILE-LENGTH v i))
+  length-to = word-to FILE-LENGTH (λ i n w. file-used n (w .kind-most) (w .owner-most) (w .bits-most) (w .label-most) (w .version-most))
 
-  pub links-to : All SLOTS (λ i. File (upd2 f s LINKS v i))
-  links-to = word-to LINKS (λ i n w. file-used n (w .kind-most) (w .owner-most) (w .bits-most) (w .label-most) (w .version-most))
+  pub links-to : All SLOTS (λ i. File (upd2 f s FILE-LINKS v i))
+  links-to = word-to FILE-LINKS (λ i n w. file-used n (w .kind-most) (w .owner-most) (w .bits-most) (w .label-most) (w .version-most))
 
-  pub version-to : v ≤ WORD-MAX → All SLOTS (λ i. File (upd2 f s VERSION v i))
-  version-to l = word-to VERSION (λ i n w. file-used n (w .kind-most) (w .owner-most) (w .bits-most) (w .label-most) l)
+  pub version-to : v ≤ WORD-MAX → All SLOTS (λ i. File (upd2 f s FILE-VERSION v i))
+  version-to l = word-to FILE-VERSION (λ i n w. file-used n (w .kind-most) (w .owner-most) (w .bits-most) (w .label-most) l)
 
 -- ---- open files
 
-pub open-used : {kind row : ℕ → ℕ} → (row REFERENCES ≡ 0 → ⊥) → row SLOT < SLOTS → kind (row SLOT) ≡ PLAIN → 0 < row MODE → row MODE ≤ MODE-MAX → row OFFSET ≤ BLOCK → OpenFile kind row
+pub open-used : {kind row : ℕ → ℕ} → (row OPEN-REFERENCES ≡ 0 → ⊥) → row OPEN-SLOT < SLOTS → kind (row OPEN-SLOT) ≡ PLAIN → 0 < row OPEN-MODE → row OPEN-MODE ≤ MODE-MAX → row OPEN-OFFSET ≤ BLOCK → OpenFile kind row
 open-used u s k ml mm p = record {
   slot-zero = λ z. absurd (u z);
   mode-zero = λ z. absurd (u z);
@@ -106,16 +106,16 @@ open-free = record {
 }
 
 -- a word of an open file that is in use becomes v
-module _ (kind row : ℕ → ℕ) (w : OpenFile kind row) (v : ℕ) (u : row REFERENCES ≡ 0 → ⊥) where
-  pub offset-to : v ≤ BLOCK → OpenFile kind (upd row OFFSET v)
+module _ (kind row : ℕ → ℕ) (w : OpenFile kind row) (v : ℕ) (u : row OPEN-REFERENCES ≡ 0 → ⊥) where
+  pub offset-to : v ≤ BLOCK → OpenFile kind (upd row OPEN-OFFSET v)
   offset-to l = open-used u (w .slot-small u) (w .plain u) (w .mode-least u) (w .mode-most u) l
 
-  pub references-to : (v ≡ 0 → ⊥) → OpenFile kind (upd row REFERENCES v)
+  pub references-to : (v ≡ 0 → ⊥) → OpenFile kind (upd row OPEN-REFERENCES v)
   references-to n = open-used n (w .slot-small u) (w .plain u) (w .mode-least u) (w .mode-most u) (w .offset-most u)
 
 -- ---- processes
 
-pub process-used : {row desc : ℕ → ℕ} → row USED ≡ 1 → row USER ≤ USER-MAX → row PROCESS-LABEL ≤ LABEL-MAX → All DESCRIPTORS (λ k. desc k ≤ OPEN-FILES) → Process row desc
+pub process-used : {row desc : ℕ → ℕ} → row PROCESS-USED ≡ 1 → row PROCESS-USER ≤ USER-MAX → row PROCESS-LABEL ≤ LABEL-MAX → All DESCRIPTORS (λ k. desc k ≤ OPEN-FILES) → Process row desc
 process-used a u l d = record {
   active-most = omega arith;
   user-most = u;
@@ -138,7 +138,7 @@ process-free z = record {
 }
 
 -- other descriptors of a process in use
-pub process-desc : {row desc desc′ : ℕ → ℕ} → Process row desc → (row USED ≡ 0 → ⊥) → All DESCRIPTORS (λ k. desc′ k ≤ OPEN-FILES) → Process row desc′
+pub process-desc : {row desc desc′ : ℕ → ℕ} → Process row desc → (row PROCESS-USED ≡ 0 → ⊥) → All DESCRIPTORS (λ k. desc′ k ≤ OPEN-FILES) → Process row desc′
 process-desc w u d = record {
   active-most = w .active-most;
   user-most = w .user-most;

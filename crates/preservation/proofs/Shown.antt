@@ -9,7 +9,7 @@ use lib.Dec.{eqb, ltb}
 use lib.ListN.{length, getD, drop, length-drop, List·getD-eq-default}
 use lib.Seq.{length-take-le, getD-take, getD-drop}
 use borrow.Author.Tests.{eqb-true, eq-eqb, ne-eqb}
-use Rattle.rules.specs.Layout.{SLOTS, BLOCK, DIRENT, NAME, POINT, FILE, KIND, LENGTH, FREE, PLAIN}
+use Rattle.rules.specs.Layout.{SLOTS, BLOCK, DIRENT-WIDTH, NAME, POINT, FILE-WIDTH, FILE-KIND, FILE-LENGTH, FREE, PLAIN}
 use Rattle.rules.specs.Choice.{every, some}
 use Rattle.rules.specs.Scan.{all}
 use Rattle.rules.specs.Store.{Tree, tab, block, hidden, shownOf, Table}
@@ -35,13 +35,13 @@ module _ (C : List ℕ) (z : length C ≡ SLOTS * BLOCK) (d : ℕ) (h : d < SLOT
       at (yes l) = getD-take BLOCK (drop (BLOCK * d) C) k 0 l ∙ getD-drop (BLOCK * d) C k 0 ∙ sym (tab-in BLOCK C d k l)
       at (no l) = List·getD-eq-default (block C d) 0 (omega (arith, block-length)) ∙ sym (tab-out BLOCK C d k (omega arith))
 
-pub shown-whole : (F C : List ℕ) (d : ℕ) → (tab FILE F d KIND ≡ PLAIN → ⊥) → shownOf F C d ≡ block C d
+pub shown-whole : (F C : List ℕ) (d : ℕ) → (tab FILE-WIDTH F d FILE-KIND ≡ PLAIN → ⊥) → shownOf F C d ≡ block C d
 unfolding shownOf hidden
-shown-whole F C d n = rw (ne-eqb (tab FILE F d KIND) PLAIN n)
+shown-whole F C d n = rw (ne-eqb (tab FILE-WIDTH F d FILE-KIND) PLAIN n)
 
-pub shown-plain : (F C : List ℕ) (d : ℕ) → tab FILE F d KIND ≡ PLAIN → shownOf F C d ≡ drop (tab FILE F d LENGTH) (block C d)
+pub shown-plain : (F C : List ℕ) (d : ℕ) → tab FILE-WIDTH F d FILE-KIND ≡ PLAIN → shownOf F C d ≡ drop (tab FILE-WIDTH F d FILE-LENGTH) (block C d)
 unfolding shownOf hidden
-shown-plain F C d e = rw (eq-eqb (tab FILE F d KIND) PLAIN e)
+shown-plain F C d e = rw (eq-eqb (tab FILE-WIDTH F d FILE-KIND) PLAIN e)
 
 -- ---- zero bytes
 
@@ -103,7 +103,7 @@ name-row n = refl
 
 -- ---- the entries of D are rows
 
-module _ (D : List ℕ) (rows : ℕ → ℕ → ℕ) (agree : (i k : ℕ) → k < DIRENT → getD (direntAt D i) k 0 ≡ rows i k) where
+module _ (D : List ℕ) (rows : ℕ → ℕ → ℕ) (agree : (i k : ℕ) → k < DIRENT-WIDTH → getD (direntAt D i) k 0 ≡ rows i k) where
   pub slot-row : (i : ℕ) → direntSlot D i ≡ rows i NAME
   unfolding direntSlot
   slot-row i = agree i NAME (omega arith)
@@ -120,7 +120,7 @@ module _ (D : List ℕ) (rows : ℕ → ℕ → ℕ) (agree : (i k : ℕ) → k 
   means-empty i = rw (slot-row i) (means-eq (rows i NAME) 0)
 
   -- Test by test over the row's bytes. Only a used entry's slot is tested to be small: an empty one's is 0.
-  pub means-dirent : (file : Table) (i : ℕ) → Means (direntSound file D i) (Dirent (col file KIND) (rows i))
+  pub means-dirent : (file : Table) (i : ℕ) → Means (direntSound file D i) (Dirent (col file FILE-KIND) (rows i))
   unfolding direntSound usedSound
   means-dirent file i = means-same w
       (λ u. record {
@@ -138,16 +138,16 @@ module _ (D : List ℕ) (rows : ℕ → ℕ → ℕ) (agree : (i k : ℕ) → k 
       padding : (k : ℕ) → k < NAME → Means (isPadding (direntAt D i) k) (rows i k ≡ 0)
       padding k h = unfold isPadding in rw (agree i k (omega arith)) (means-eq (rows i k) 0)
 
-      used : Means (every (nameSound (direntAt D i) ∷ ltb (direntSlot D i) SLOTS ∷ not (eqb (file (direntSlot D i) KIND) FREE) ∷ []))
-          ((validRow (rows i) ≡ true) × ((rows i NAME < SLOTS) × (file (rows i NAME) KIND ≡ FREE → ⊥)))
-      used = rw (slot-row i, valid-row) (means-every (means-and (means-test (validRow (rows i))) (means-and (means-lt (rows i NAME) SLOTS) (means-last (means-not (means-eq (file (rows i NAME) KIND) FREE))))))
+      used : Means (every (nameSound (direntAt D i) ∷ ltb (direntSlot D i) SLOTS ∷ not (eqb (file (direntSlot D i) FILE-KIND) FREE) ∷ []))
+          ((validRow (rows i) ≡ true) × ((rows i NAME < SLOTS) × (file (rows i NAME) FILE-KIND ≡ FREE → ⊥)))
+      used = rw (slot-row i, valid-row) (means-every (means-and (means-test (validRow (rows i))) (means-and (means-lt (rows i NAME) SLOTS) (means-last (means-not (means-eq (file (rows i NAME) FILE-KIND) FREE))))))
 
       w : Means (direntSound file D i) ((rows i (NAME + 1) ≡ 0) × ((rows i NAME ≡ 0 → All NAME (λ k. rows i k ≡ 0))
-          × ((rows i NAME ≡ 0 → ⊥) → (validRow (rows i) ≡ true) × ((rows i NAME < SLOTS) × (file (rows i NAME) KIND ≡ FREE → ⊥)))))
+          × ((rows i NAME ≡ 0 → ⊥) → (validRow (rows i) ≡ true) × ((rows i NAME < SLOTS) × (file (rows i NAME) FILE-KIND ≡ FREE → ⊥)))))
       w = rw (agree i (NAME + 1) (omega arith)) (means-every (means-and (means-eq (rows i (NAME + 1)) 0)
           (means-last (means-cond (means-empty i) (means-within NAME (isPadding (direntAt D i)) (λ k. rows i k ≡ 0) padding) used))))
 
       small : ((rows i (NAME + 1) ≡ 0) × ((rows i NAME ≡ 0 → All NAME (λ k. rows i k ≡ 0))
-          × ((rows i NAME ≡ 0 → ⊥) → (validRow (rows i) ≡ true) × ((rows i NAME < SLOTS) × (file (rows i NAME) KIND ≡ FREE → ⊥))))) → Dec (rows i NAME < SLOTS) → rows i NAME < SLOTS
+          × ((rows i NAME ≡ 0 → ⊥) → (validRow (rows i) ≡ true) × ((rows i NAME < SLOTS) × (file (rows i NAME) FILE-KIND ≡ FREE → ⊥))))) → Dec (rows i NAME < SLOTS) → rows i NAME < SLOTS
       small u (yes l) = l
       small u (no l) = absurd (l (u .1 .1 (λ q. l (omega arith)) .1 .0))

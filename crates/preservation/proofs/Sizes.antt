@@ -4,7 +4,7 @@ use mathlib.Core.Bool.{true}
 use mathlib.Core.List.{List}
 use Prim.Native.Nat.{ℕ, _+_}
 use lib.ListN.{length}
-use Rattle.rules.specs.Layout.{RIGHTS}
+use Rattle.rules.specs.Layout.{RIGHTS-SIZE}
 use Rattle.rules.specs.Store.{Store}
 use Rattle.rules.specs.Refusals.{refusalNumber}
 use Rattle.rules.specs.Sound.{policySound, sound}
@@ -16,9 +16,9 @@ use Rattle.preservation.proofs.StoreChanges.{Sized}
 use Rattle.preservation.proofs.SoundStore.{means-sound}
 use Rattle.preservation.proofs.TestedOnce.{step-by}
 
-policy-size : (Q : List ℕ) → policySound Q ≡ true → length Q ≡ RIGHTS + RIGHTS
+policy-size : (Q : List ℕ) → policySound Q ≡ true → length Q ≡ RIGHTS-SIZE + RIGHTS-SIZE
 unfolding policySound
-policy-size Q e = means-every (means-and (means-eq (length Q) (RIGHTS + RIGHTS)) (means-and (means-test _) (means-last (means-test _)))) .holds e .0
+policy-size Q e = means-every (means-and (means-eq (length Q) (RIGHTS-SIZE + RIGHTS-SIZE)) (means-and (means-test _) (means-last (means-test _)))) .holds e .0
 
 sound-sizes : (Q : List ℕ) (s : Store) → sound Q s ≡ true → sizes Q s ≡ SIZES
 sound-sizes Q s e =

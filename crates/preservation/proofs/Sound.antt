@@ -8,8 +8,8 @@ use lib.ListN.{getD}
 use lib.Dec.{eqb, ltb}
 use Rattle.rules.specs.Choice.{every, some, implies}
 use Rattle.rules.specs.Scan.{all, first}
-use Rattle.rules.specs.Layout.{SLOTS, BLOCK, DIRENT, DIRENTS, OPEN-FILES, PROCESSES, DESCRIPTORS, NAME, NAMES, SLASH, POINT}
-use Rattle.rules.specs.Layout.{KIND, OWNER, BITS, LABEL, LENGTH, LINKS, VERSION, SLOT, MODE, OFFSET, REFERENCES, USED, USER, PROCESS-LABEL, FREE, PLAIN, DIRECTORY}
+use Rattle.rules.specs.Layout.{SLOTS, BLOCK, DIRENT-WIDTH, DIRENTS, OPEN-FILES, PROCESSES, DESCRIPTORS, NAME, NAMES, SLASH, POINT}
+use Rattle.rules.specs.Layout.{FILE-KIND, FILE-OWNER, FILE-BITS, FILE-LABEL, FILE-LENGTH, FILE-LINKS, FILE-VERSION, OPEN-SLOT, OPEN-MODE, OPEN-OFFSET, OPEN-REFERENCES, PROCESS-USED, PROCESS-USER, PROCESS-LABEL, FREE, PLAIN, DIRECTORY}
 use Rattle.rules.specs.Layout.{KIND-MAX, USER-MAX, BITS-MAX, LABEL-MAX, MODE-MAX, WORD-MAX}
 use Rattle.preservation.proofs.Sums.{count, count2}
 use Rattle.preservation.proofs.Tables.{Tables, col, direntRow}
@@ -20,25 +20,25 @@ All n P = (i : ℕ) → i < n → P i
 -- ---- a file's record: fields in range; a free record is zero but for its version
 
 pub record File (row : ℕ → ℕ) : Type 0 where
-  pub kind-most : row KIND ≤ KIND-MAX
-  pub owner-most : row OWNER ≤ USER-MAX
-  pub bits-most : row BITS ≤ BITS-MAX
-  pub label-most : row LABEL ≤ LABEL-MAX
-  pub version-most : row VERSION ≤ WORD-MAX
-  pub owner-zero : row KIND ≡ FREE → row OWNER ≡ 0
-  pub bits-zero : row KIND ≡ FREE → row BITS ≡ 0
-  pub label-zero : row KIND ≡ FREE → row LABEL ≡ 0
-  pub length-zero : row KIND ≡ FREE → row LENGTH ≡ 0
-  pub links-zero : row KIND ≡ FREE → row LINKS ≡ 0
+  pub kind-most : row FILE-KIND ≤ KIND-MAX
+  pub owner-most : row FILE-OWNER ≤ USER-MAX
+  pub bits-most : row FILE-BITS ≤ BITS-MAX
+  pub label-most : row FILE-LABEL ≤ LABEL-MAX
+  pub version-most : row FILE-VERSION ≤ WORD-MAX
+  pub owner-zero : row FILE-KIND ≡ FREE → row FILE-OWNER ≡ 0
+  pub bits-zero : row FILE-KIND ≡ FREE → row FILE-BITS ≡ 0
+  pub label-zero : row FILE-KIND ≡ FREE → row FILE-LABEL ≡ 0
+  pub length-zero : row FILE-KIND ≡ FREE → row FILE-LENGTH ≡ 0
+  pub links-zero : row FILE-KIND ≡ FREE → row FILE-LINKS ≡ 0
 
 -- ---- lengths of plain files, and the zero bytes: past a plain file's length, of a free slot, and past a directory's entries
 
 pub record Block (kind length : ℕ) (bytes : ℕ → ℕ) : Type 0 where
   pub length-most : (kind ≡ DIRECTORY → ⊥) → length ≤ BLOCK
   pub past-zero : (kind ≡ DIRECTORY → ⊥) → All BLOCK (λ b. length ≤ b → bytes b ≡ 0)
-  pub tail-zero : kind ≡ DIRECTORY → All BLOCK (λ b. DIRENTS * DIRENT ≤ b → bytes b ≡ 0)
+  pub tail-zero : kind ≡ DIRECTORY → All BLOCK (λ b. DIRENTS * DIRENT-WIDTH ≤ b → bytes b ≡ 0)
 
--- ---- a directory's entries, as rows of DIRENT bytes
+-- ---- a directory's entries, as rows of DIRENT-WIDTH bytes
 
 -- byte k of a name is no slash, and after a 0 comes 0
 unfoldable pub validByte : (ℕ → ℕ) → ℕ → Bool
@@ -98,14 +98,14 @@ pub record Depths (kind : ℕ → ℕ) (direntRow : ℕ → ℕ → ℕ → ℕ)
 -- ---- open files: a free one is all zero; any other is on a plain file
 
 pub record OpenFile (kind row : ℕ → ℕ) : Type 0 where
-  pub slot-zero : row REFERENCES ≡ 0 → row SLOT ≡ 0
-  pub mode-zero : row REFERENCES ≡ 0 → row MODE ≡ 0
-  pub offset-zero : row REFERENCES ≡ 0 → row OFFSET ≡ 0
-  pub slot-small : (row REFERENCES ≡ 0 → ⊥) → row SLOT < SLOTS
-  pub plain : (row REFERENCES ≡ 0 → ⊥) → kind (row SLOT) ≡ PLAIN
-  pub mode-least : (row REFERENCES ≡ 0 → ⊥) → 0 < row MODE
-  pub mode-most : (row REFERENCES ≡ 0 → ⊥) → row MODE ≤ MODE-MAX
-  pub offset-most : (row REFERENCES ≡ 0 → ⊥) → row OFFSET ≤ BLOCK
+  pub slot-zero : row OPEN-REFERENCES ≡ 0 → row OPEN-SLOT ≡ 0
+  pub mode-zero : row OPEN-REFERENCES ≡ 0 → row OPEN-MODE ≡ 0
+  pub offset-zero : row OPEN-REFERENCES ≡ 0 → row OPEN-OFFSET ≡ 0
+  pub slot-small : (row OPEN-REFERENCES ≡ 0 → ⊥) → row OPEN-SLOT < SLOTS
+  pub plain : (row OPEN-REFERENCES ≡ 0 → ⊥) → kind (row OPEN-SLOT) ≡ PLAIN
+  pub mode-least : (row OPEN-REFERENCES ≡ 0 → ⊥) → 0 < row OPEN-MODE
+  pub mode-most : (row OPEN-REFERENCES ≡ 0 → ⊥) → row OPEN-MODE ≤ MODE-MAX
+  pub offset-most : (row OPEN-REFERENCES ≡ 0 → ⊥) → row OPEN-OFFSET ≤ BLOCK
 
 -- how many open files are on slot s
 unfoldable pub openCount : (slot refs : ℕ → ℕ) → ℕ → ℕ
@@ -118,22 +118,22 @@ holderCount desc e = count2 PROCESSES DESCRIPTORS (λ p k. eqb (desc p k) (e + 1
 -- ---- processes: a free one is all zero
 
 pub record Process (row desc : ℕ → ℕ) : Type 0 where
-  pub active-most : row USED ≤ 1
-  pub user-most : row USER ≤ USER-MAX
+  pub active-most : row PROCESS-USED ≤ 1
+  pub user-most : row PROCESS-USER ≤ USER-MAX
   pub label-most : row PROCESS-LABEL ≤ LABEL-MAX
   pub desc-most : All DESCRIPTORS (λ k. desc k ≤ OPEN-FILES)
-  pub user-zero : row USED ≡ 0 → row USER ≡ 0
-  pub label-zero : row USED ≡ 0 → row PROCESS-LABEL ≡ 0
-  pub desc-zero : row USED ≡ 0 → All DESCRIPTORS (λ k. desc k ≡ 0)
+  pub user-zero : row PROCESS-USED ≡ 0 → row PROCESS-USER ≡ 0
+  pub label-zero : row PROCESS-USED ≡ 0 → row PROCESS-LABEL ≡ 0
+  pub desc-zero : row PROCESS-USED ≡ 0 → All DESCRIPTORS (λ k. desc k ≡ 0)
 
 -- ---- all of it: groups of sentences, each over the columns that it reads, so that a change of other columns hands it on as it is
 
 -- each slot's record and bytes, and the root's
 pub record Slots (file byte : ℕ → ℕ → ℕ) : Type 0 where
   pub files : All SLOTS (λ s. File (file s))
-  pub root-kind : file 0 KIND ≡ DIRECTORY
-  pub root-links : file 0 LINKS ≡ 0
-  pub blocks : All SLOTS (λ s. Block (file s KIND) (file s LENGTH) (byte s))
+  pub root-kind : file 0 FILE-KIND ≡ DIRECTORY
+  pub root-links : file 0 FILE-LINKS ≡ 0
+  pub blocks : All SLOTS (λ s. Block (file s FILE-KIND) (file s FILE-LENGTH) (byte s))
 
 -- the directories, and the names in them
 pub record Directories (kind length named : ℕ → ℕ) (direntRow : ℕ → ℕ → ℕ → ℕ) : Type 0 where
@@ -149,14 +149,14 @@ pub record Live (x : ℕ) (kind named opened : ℕ → ℕ) : Type 0 where
 
 pub record OpenFiles (kind : ℕ → ℕ) (openFiles desc : ℕ → ℕ → ℕ) : Type 0 where
   pub open-files : All OPEN-FILES (λ e. OpenFile kind (openFiles e))
-  pub refs : All OPEN-FILES (λ e. openFiles e REFERENCES ≡ holderCount desc e)
+  pub refs : All OPEN-FILES (λ e. openFiles e OPEN-REFERENCES ≡ holderCount desc e)
 
 -- sound but for slot x: so a store stands between the parts of one call
 pub record SoundBut (x : ℕ) (m : Tables) : Type 0 where
   pub slots : Slots (m .file) (m .byte)
-  pub tree : Directories (col (m .file) KIND) (col (m .file) LENGTH) (col (m .file) LINKS) (direntRow (m .byte))
-  pub live : Live x (col (m .file) KIND) (col (m .file) LINKS) (openCount (col (m .openFiles) SLOT) (col (m .openFiles) REFERENCES))
-  pub opens : OpenFiles (col (m .file) KIND) (m .openFiles) (m .desc)
+  pub tree : Directories (col (m .file) FILE-KIND) (col (m .file) FILE-LENGTH) (col (m .file) FILE-LINKS) (direntRow (m .byte))
+  pub live : Live x (col (m .file) FILE-KIND) (col (m .file) FILE-LINKS) (openCount (col (m .openFiles) OPEN-SLOT) (col (m .openFiles) OPEN-REFERENCES))
+  pub opens : OpenFiles (col (m .file) FILE-KIND) (m .openFiles) (m .desc)
   pub procs : All PROCESSES (λ p. Process (m .proc p) (m .desc p))
 
 -- sound: there is no slot SLOTS

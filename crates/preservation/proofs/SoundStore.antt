@@ -9,8 +9,8 @@ use lib.Dec.{ltb}
 use lib.ListN.{length, getD, drop}
 use lib.Seq.{getD-drop}
 use borrow.Author.Tests.{lt-ltb}
-use Rattle.rules.specs.Layout.{SLOTS, BLOCK, DIRENT, DIRENTS, NAMES, OPEN-FILES, PROCESSES, FILE, OPEN}
-use Rattle.rules.specs.Layout.{KIND, LENGTH, LINKS, SLOT, REFERENCES, FREE, PLAIN, DIRECTORY}
+use Rattle.rules.specs.Layout.{SLOTS, BLOCK, DIRENT-WIDTH, DIRENTS, NAMES, OPEN-FILES, PROCESSES, FILE-WIDTH, OPEN-FILE-WIDTH}
+use Rattle.rules.specs.Layout.{FILE-KIND, FILE-LENGTH, FILE-LINKS, OPEN-SLOT, OPEN-REFERENCES, FREE, PLAIN, DIRECTORY}
 use Rattle.rules.specs.Choice.{some}
 use Rattle.rules.specs.Store.{Store, view, slot, tab, block, shownOf}
 use Rattle.rules.specs.Directories.{direntAt}
@@ -26,21 +26,21 @@ use Rattle.preservation.proofs.Meaning.{means-sized, means-record, mean
 
 module _ (s : Store) (z : Sized s) where
   abbrev file : ℕ → ℕ → ℕ
-  file = tab FILE (s .files)
+  file = tab FILE-WIDTH (s .files)
 
   abbrev kind : ℕ → ℕ
-  kind = col (tab FILE (s .files)) KIND
+  kind = col (tab FILE-WIDTH (s .files)) FILE-KIND
 
   abbrev rows : ℕ → ℕ → ℕ → ℕ
   rows = direntRow (tab BLOCK (s .contents))
 
   abbrev onSlot : ℕ → ℕ
-  onSlot = openCount (col (tab OPEN (s .openFiles)) SLOT) (col (tab OPEN (s .openFiles)) REFERENCES)
+  onSlot = openCount (col (tab OPEN-FILE-WIDTH (s .openFiles)) OPEN-SLOT) (col (tab OPEN-FILE-WIDTH (s .openFiles)) OPEN-REFERENCES)
 
-  pub agree : (d : ℕ) → d < SLOTS → file d KIND ≡ DIRECTORY → (i k : ℕ) → k < DIRENT → getD (direntAt (shownOf (s .files) (s .contents) d) i) k 0 ≡ rows d i k
+  pub agree : (d : ℕ) → d < SLOTS → file d FILE-KIND ≡ DIRECTORY → (i k : ℕ) → k < DIRENT-WIDTH → getD (direntAt (shownOf (s .files) (s .contents) d) i) k 0 ≡ rows d i k
   agree d h e i k l =
-      rw (shown-whole (s .files) (s .contents) d (λ q. omega (arith, e)), lt-ltb k DIRENT l)
-      (getD-drop (DIRENT * i) (block (s .contents) d) k 0 ∙ block-byte (s .contents) (z .contents-size) d h (DIRENT * i + k))
+      rw (shown-whole (s .files) (s .contents) d (λ q. omega (arith, e)), lt-ltb k DIRENT-WIDTH l)
+      (getD-drop (DIRENT-WIDTH * i) (block (s .contents) d) k 0 ∙ block-byte (s .contents) (z .contents-size) d h (DIRENT-WIDTH * i + k))
 
   -- bytes of slot d from a on are 0
   abbrev Zeros : ℕ → ℕ → Type 0
@@ -54,14 +54,14 @@ module _ (s : Store) (z : Sized s) where
   -- ---- what is owed by kind
 
   abbrev OfDirectory : ℕ → Type 0
-  OfDirectory d = (Directory kind (rows d) × ((file d LENGTH ≡ nameCount (rows d)) × Zeros (DIRENTS * DIRENT) d)) × (((d ≡ 0 → ⊥) → file d LINKS ≡ 1) × (depthWithin kind rows NAMES d ≤ NAMES))
+  OfDirectory d = (Directory kind (rows d) × ((file d FILE-LENGTH ≡ nameCount (rows d)) × Zeros (DIRENTS * DIRENT-WIDTH) d)) × (((d ≡ 0 → ⊥) → file d FILE-LINKS ≡ 1) × (depthWithin kind rows NAMES d ≤ NAMES))
 
   abbrev OfPlain : ℕ → Type 0
-  OfPlain d = (file d LENGTH ≤ BLOCK) × ((0 < file d LINKS + onSlot d) × Zeros (file d LENGTH) d)
+  OfPlain d = (file d FILE-LENGTH ≤ BLOCK) × ((0 < file d FILE-LINKS + onSlot d) × Zeros (file d FILE-LENGTH) d)
 
-  means-directory : (d : ℕ) → d < SLOTS → file d KIND ≡ DIRECTORY → Means (directorySound (view s .tree) d) (OfDirectory d)
+  means-directory : (d : ℕ) → d < SLOTS → file d FILE-KIND ≡ DIRECTORY → Means (directorySound (view s .tree) d) (OfDirectory d)
   unfolding directorySound
-  means-directory d h e = means-every (means-and dirents (means-and (means-or (means-eq d 0) (means-eq (file d LINKS) 1)) (means-last (means-climbs (view s .tree) rows agree NAMES d))))
+  means-directory d h e = means-every (means-and dirents (means-and (means-or (means-eq d 0) (means-eq (file d FILE-LINKS) 1)) (means-last (means-climbs (view s .tree) rows agree NAMES d))))
     where
       whole : shownOf (s .files) (s .contents) d ≡ block (s .contents) d
       whole = shown-whole (s .files) (s .contents) d (λ q. omega (arith, e))
@@ -72,54 +72,54 @@ module _ (s : Store) (z : Sized s) where
       byte : (b : ℕ) → getD (shownOf (s .files) (s .contents) d) b 0 ≡ tab BLOCK (s .contents) d b
       byte b = ap (λ (l : List ℕ). getD l b 0) whole ∙ block-byte (s .contents) (z .contents-size) d h b
 
-      dirents : Means (direntsSound (view s .tree .file) (shownOf (s .files) (s .contents) d) (file d LENGTH)) (Directory kind (rows d) × ((file d LENGTH ≡ nameCount (rows d)) × Zeros (DIRENTS * DIRENT) d))
-      dirents = means-same (means-dirents (view s .tree .file) (shownOf (s .files) (s .contents) d) (rows d) (agree d h e) (file d LENGTH))
+      dirents : Means (direntsSound (view s .tree .file) (shownOf (s .files) (s .contents) d) (file d FILE-LENGTH)) (Directory kind (rows d) × ((file d FILE-LENGTH ≡ nameCount (rows d)) × Zeros (DIRENTS * DIRENT-WIDTH) d))
+      dirents = means-same (means-dirents (view s .tree .file) (shownOf (s .files) (s .contents) d) (rows d) (agree d h e) (file d FILE-LENGTH))
           (λ w. (w .0, (w .1 .0, λ b hb l. sym (byte b) ∙ w .1 .1 b (rw size hb) l)))
           (λ w. (w .0, (w .1 .0, λ b hb l. byte b ∙ w .1 .1 b (rw size at hb) l)))
 
-  means-plain : (d : ℕ) → d < SLOTS → file d KIND ≡ PLAIN → Means (plainSound (view s .tree) (view s .openFiles) d) (OfPlain d)
+  means-plain : (d : ℕ) → d < SLOTS → file d FILE-KIND ≡ PLAIN → Means (plainSound (view s .tree) (view s .openFiles) d) (OfPlain d)
   unfolding plainSound
-  means-plain d h e = means-every (means-and (means-le (file d LENGTH) BLOCK) (means-and alive (means-last zeros)))
+  means-plain d h e = means-every (means-and (means-le (file d FILE-LENGTH) BLOCK) (means-and alive (means-last zeros)))
     where
-      alive : Means (some (ltb 0 (file d LINKS) ∷ isOpen (tab OPEN (s .openFiles)) (slot d) ∷ [])) (0 < file d LINKS + onSlot d)
-      alive = means-same (means-or (means-lt 0 (file d LINKS)) (means-open (tab OPEN (s .openFiles)) d)) (λ f. go f (decLt 0 (file d LINKS))) (λ l n. omega arith)
+      alive : Means (some (ltb 0 (file d FILE-LINKS) ∷ isOpen (tab OPEN-FILE-WIDTH (s .openFiles)) (slot d) ∷ [])) (0 < file d FILE-LINKS + onSlot d)
+      alive = means-same (means-or (means-lt 0 (file d FILE-LINKS)) (means-open (tab OPEN-FILE-WIDTH (s .openFiles)) d)) (λ f. go f (decLt 0 (file d FILE-LINKS))) (λ l n. omega arith)
         where
-          go : ((0 < file d LINKS → ⊥) → 0 < onSlot d) → Dec (0 < file d LINKS) → 0 < file d LINKS + onSlot d
+          go : ((0 < file d FILE-LINKS → ⊥) → 0 < onSlot d) → Dec (0 < file d FILE-LINKS) → 0 < file d FILE-LINKS + onSlot d
           go f (yes l) = omega arith
           go f (no l) = omega (arith, f l)
 
-      zeros : Means (allZero (shownOf (s .files) (s .contents) d)) (Zeros (file d LENGTH) d)
-      zeros = rw (shown-plain (s .files) (s .contents) d e) (zeros-block d h (file d LENGTH))
+      zeros : Means (allZero (shownOf (s .files) (s .contents) d)) (Zeros (file d FILE-LENGTH) d)
+      zeros = rw (shown-plain (s .files) (s .contents) d e) (zeros-block d h (file d FILE-LENGTH))
 
   abbrev OfKind : ℕ → Type 0
-  OfKind d = (file d KIND ≡ DIRECTORY → OfDirectory d) × ((file d KIND ≡ DIRECTORY → ⊥) → (file d KIND ≡ PLAIN → OfPlain d) × ((file d KIND ≡ PLAIN → ⊥) → Zeros 0 d))
+  OfKind d = (file d FILE-KIND ≡ DIRECTORY → OfDirectory d) × ((file d FILE-KIND ≡ DIRECTORY → ⊥) → (file d FILE-KIND ≡ PLAIN → OfPlain d) × ((file d FILE-KIND ≡ PLAIN → ⊥) → Zeros 0 d))
 
   means-kind : (d : ℕ) → d < SLOTS → Means (kindSound (view s .tree) (view s .openFiles) d) (OfKind d)
   unfolding kindSound
-  means-kind d h = means-choice (means-eq (file d KIND) DIRECTORY) (means-directory d h)
-      (λ _. means-choice (means-eq (file d KIND) PLAIN) (means-plain d h) (λ n. rw (shown-whole (s .files) (s .contents) d n) (zeros-block d h 0)))
+  means-kind d h = means-choice (means-eq (file d FILE-KIND) DIRECTORY) (means-directory d h)
+      (λ _. means-choice (means-eq (file d FILE-KIND) PLAIN) (means-plain d h) (λ n. rw (shown-whole (s .files) (s .contents) d n) (zeros-block d h 0)))
 
   -- ---- a slot
 
   abbrev OfSlot : ℕ → Type 0
-  OfSlot d = File (file d) × (((d ≡ 0 → file d LINKS ≡ 0) × ((d ≡ 0 → ⊥) → file d LINKS ≡ linkCount kind rows d)) × OfKind d)
+  OfSlot d = File (file d) × (((d ≡ 0 → file d FILE-LINKS ≡ 0) × ((d ≡ 0 → ⊥) → file d FILE-LINKS ≡ linkCount kind rows d)) × OfKind d)
 
   means-slot : (d : ℕ) → d < SLOTS → Means (slotSound (view s .tree) (view s .openFiles) d) (OfSlot d)
   unfolding slotSound
   means-slot d h = means-every (means-and (means-record (view s .tree .file) d) (means-and links (means-last (means-kind d h))))
     where
-      links : Means (linksSound (view s .tree) d) ((d ≡ 0 → file d LINKS ≡ 0) × ((d ≡ 0 → ⊥) → file d LINKS ≡ linkCount kind rows d))
-      links = unfold linksSound in rw (links-total (view s .tree) rows agree d) (means-cond (means-eq d 0) (means-eq (file d LINKS) 0) (means-eq (file d LINKS) (linkCount kind rows d)))
+      links : Means (linksSound (view s .tree) d) ((d ≡ 0 → file d FILE-LINKS ≡ 0) × ((d ≡ 0 → ⊥) → file d FILE-LINKS ≡ linkCount kind rows d))
+      links = unfold linksSound in rw (links-total (view s .tree) rows agree d) (means-cond (means-eq d 0) (means-eq (file d FILE-LINKS) 0) (means-eq (file d FILE-LINKS) (linkCount kind rows d)))
 
   -- ---- all tables
 
   abbrev OfTables : Type 0
-  OfTables = (file 0 KIND ≡ DIRECTORY) × (All SLOTS OfSlot × (All OPEN-FILES (λ e. (tab OPEN (s .openFiles) e REFERENCES ≡ holderCount (view s .desc) e)
-      × OpenFile kind (tab OPEN (s .openFiles) e)) × All PROCESSES (λ p. Process (view s .proc p) (view s .desc p))))
+  OfTables = (file 0 FILE-KIND ≡ DIRECTORY) × (All SLOTS OfSlot × (All OPEN-FILES (λ e. (tab OPEN-FILE-WIDTH (s .openFiles) e OPEN-REFERENCES ≡ holderCount (view s .desc) e)
+      × OpenFile kind (tab OPEN-FILE-WIDTH (s .openFiles) e)) × All PROCESSES (λ p. Process (view s .proc p) (view s .desc p))))
 
   means-parts : Means (tablesSound (view s)) OfTables
   unfolding tablesSound
-  means-parts = means-every (means-and (means-eq (file 0 KIND) DIRECTORY) (means-and (means-within SLOTS (slotSound (view s .tree) (view s .openFiles)) OfSlot means-slot)
+  means-parts = means-every (means-and (means-eq (file 0 FILE-KIND) DIRECTORY) (means-and (means-within SLOTS (slotSound (view s .tree) (view s .openFiles)) OfSlot means-slot)
       (means-and (means-all OPEN-FILES (openSound (view s .tree .file) (view s .openFiles) (view s .desc)) _ (means-open-file (view s .tree .file) (view s .openFiles) (view s .desc))) (means-last (means-all PROCESSES (procSound (view s .proc) (view s .desc)) _ (means-process (view s .proc) (view s .desc)))))))
 
   -- What the test says slot by slot, group by group. The test finds a block's zeros by kind: a slot neither directory nor plain is free, of length 0.
@@ -149,21 +149,21 @@ module _ (s : Store) (z : Sized s) where
     procs = w .1 .1 .1;
   }
     where
-      once : (d : ℕ) → d < SLOTS → file d KIND ≡ DIRECTORY → (d ≡ 0 → ⊥) → file d LINKS ≡ 1
+      once : (d : ℕ) → d < SLOTS → file d FILE-KIND ≡ DIRECTORY → (d ≡ 0 → ⊥) → file d FILE-LINKS ≡ 1
       once d h e n = w .1 .0 d h .1 .1 .0 e .1 .0 n
 
-      plain : (d : ℕ) → d < SLOTS → file d KIND ≡ PLAIN → OfPlain d
+      plain : (d : ℕ) → d < SLOTS → file d FILE-KIND ≡ PLAIN → OfPlain d
       plain d h e = w .1 .0 d h .1 .1 .1 (λ q. omega (arith, e)) .0 e
 
-      blocks : (d : ℕ) → d < SLOTS → Block (file d KIND) (file d LENGTH) (tab BLOCK (s .contents) d)
-      blocks d h = by (ℕ-discrete (file d KIND) DIRECTORY) (ℕ-discrete (file d KIND) PLAIN)
+      blocks : (d : ℕ) → d < SLOTS → Block (file d FILE-KIND) (file d FILE-LENGTH) (tab BLOCK (s .contents) d)
+      blocks d h = by (ℕ-discrete (file d FILE-KIND) DIRECTORY) (ℕ-discrete (file d FILE-KIND) PLAIN)
         where
-          by : Dec (file d KIND ≡ DIRECTORY) → Dec (file d KIND ≡ PLAIN) → Block (file d KIND) (file d LENGTH) (tab BLOCK (s .contents) d)
+          by : Dec (file d FILE-KIND ≡ DIRECTORY) → Dec (file d FILE-KIND ≡ PLAIN) → Block (file d FILE-KIND) (file d FILE-LENGTH) (tab BLOCK (s .contents) d)
           by (yes e) p = record { length-most = λ n. absurd (n e); past-zero = λ n. absurd (n e); tail-zero = λ _. w .1 .0 d h .1 .1 .0 e .0 .1 .1 }
           by (no n) (yes e) = record { length-most = λ _. plain d h e .0; past-zero = λ _. plain d h e .1 .1; tail-zero = λ q. absurd (n q) }
           by (no n) (no o) =
-              let f : file d KIND ≡ FREE = omega (arith, w .1 .0 d h .0 .kind-most, n, o) in
-              let l : file d LENGTH ≡ 0 = w .1 .0 d h .0 .length-zero f in
+              let f : file d FILE-KIND ≡ FREE = omega (arith, w .1 .0 d h .0 .kind-most, n, o) in
+              let l : file d FILE-LENGTH ≡ 0 = w .1 .0 d h .0 .length-zero f in
               record { length-most = λ _. omega arith; past-zero = λ _ b hb _. w .1 .0 d h .1 .1 .1 n .1 o b hb (omega arith); tail-zero = λ q. absurd (n q) }
 
   -- Back again: the depth that the test computes is the one that the tree has.
@@ -171,10 +171,10 @@ module _ (s : Store) (z : Sized s) where
   unfolding tablesOf
   to-parts h = (h .slots .root-kind, (slots, ((λ e he. (h .opens .refs e he, h .opens .open-files e he)), h .procs)))
     where
-      once : (d : ℕ) → d < SLOTS → file d KIND ≡ DIRECTORY → (d ≡ 0 → ⊥) → file d LINKS ≡ 1
+      once : (d : ℕ) → d < SLOTS → file d FILE-KIND ≡ DIRECTORY → (d ≡ 0 → ⊥) → file d FILE-LINKS ≡ 1
       once d hd = h .live .once d hd (λ q. omega (arith, hd))
 
-      deep : (d : ℕ) → d < SLOTS → file d KIND ≡ DIRECTORY → depthWithin kind rows NAMES d ≤ NAMES
+      deep : (d : ℕ) → d < SLOTS → file d FILE-KIND ≡ DIRECTORY → depthWithin kind rows NAMES d ≤ NAMES
       deep d hd e =
           let l : h .tree .depths .depth d ≤ NAMES = h .tree .depths .depth-most d hd e in
           let q : depthWithin kind rows NAMES d ≡ h .tree .depths .depth d = depth-is kind rows (λ c hc k n. sym (h .tree .links c hc n) ∙ once c hc k n) (h .tree .depths) NAMES d hd e l in
@@ -192,11 +192,11 @@ module _ (s : Store) (z : Sized s) where
         ),
       )
         where
-          b : Block (file d KIND) (file d LENGTH) (tab BLOCK (s .contents) d)
+          b : Block (file d FILE-KIND) (file d FILE-LENGTH) (tab BLOCK (s .contents) d)
           b = h .slots .blocks d hd
 
-          free : (file d KIND ≡ DIRECTORY → ⊥) → (file d KIND ≡ PLAIN → ⊥) → {c : ℕ} → file d LENGTH ≤ c
-          free n o {c} = let f : file d KIND ≡ FREE = omega (arith, h .slots .files d hd .kind-most, n, o) in omega (arith, h .slots .files d hd .length-zero f)
+          free : (file d FILE-KIND ≡ DIRECTORY → ⊥) → (file d FILE-KIND ≡ PLAIN → ⊥) → {c : ℕ} → file d FILE-LENGTH ≤ c
+          free n o {c} = let f : file d FILE-KIND ≡ FREE = omega (arith, h .slots .files d hd .kind-most, n, o) in omega (arith, h .slots .files d hd .length-zero f)
 
   pub means-tables : Means (tablesSound (view s)) (Sound (tablesOf s))
   means-tables = means-same means-parts from-parts to-parts

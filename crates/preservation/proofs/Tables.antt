@@ -4,7 +4,7 @@ use mathlib.Core.List.{List, [], _∷_}
 use Prim.Native.Nat.{ℕ, _+_, _*_, _/_, _%_}
 use lib.Dec.{eqb, ltb}
 use lib.ListN.{getD}
-use Rattle.rules.specs.Layout.{DIRENT, KIND, OWNER, BITS, LABEL, LENGTH, LINKS, VERSION}
+use Rattle.rules.specs.Layout.{DIRENT-WIDTH, FILE-KIND, FILE-OWNER, FILE-BITS, FILE-LABEL, FILE-LENGTH, FILE-LINKS, FILE-VERSION}
 use Rattle.preservation.proofs.Tests.{upd, upd2, updRow}
 
 -- As in the view: the files' records, the open files, the processes' own words and their descriptors, each by row and named column. `byte` is
@@ -22,14 +22,14 @@ col f c i = f i c
 
 -- the columns of a file's record, and the row that has these and no other
 abbrev pub fileWords : (ℕ → ℕ) → List ℕ
-fileWords row = row KIND ∷ row OWNER ∷ row BITS ∷ row LABEL ∷ row LENGTH ∷ row LINKS ∷ row VERSION ∷ []
+fileWords row = row FILE-KIND ∷ row FILE-OWNER ∷ row FILE-BITS ∷ row FILE-LABEL ∷ row FILE-LENGTH ∷ row FILE-LINKS ∷ row FILE-VERSION ∷ []
 
 abbrev pub fileRow : (ℕ → ℕ) → ℕ → ℕ
 fileRow row c = getD (fileWords row) c 0
 
--- the directory entries of a block of bytes: entry p, byte k; 0 for k from DIRENT on, so that two entries never share a byte
+-- the directory entries of a block of bytes: entry p, byte k; 0 for k from DIRENT-WIDTH on, so that two entries never share a byte
 abbrev pub rowsOf : (ℕ → ℕ) → ℕ → ℕ → ℕ
-rowsOf bytes p k = cond (ltb k DIRENT) (bytes (DIRENT * p + k)) 0
+rowsOf bytes p k = cond (ltb k DIRENT-WIDTH) (bytes (DIRENT-WIDTH * p + k)) 0
 
 -- byte k of entry p of directory d
 abbrev pub direntRow : (ℕ → ℕ → ℕ) → ℕ → ℕ → ℕ → ℕ
@@ -37,7 +37,7 @@ direntRow byte d = rowsOf (byte d)
 
 -- the block with entry p holding the bytes of r
 abbrev pub fill : (ℕ → ℕ) → ℕ → (ℕ → ℕ) → ℕ → ℕ
-fill bytes p r b = cond (eqb (b / DIRENT) p) (r (b % DIRENT)) (bytes b)
+fill bytes p r b = cond (eqb (b / DIRENT-WIDTH) p) (r (b % DIRENT-WIDTH)) (bytes b)
 
 -- ---- primitive changes
 

@@ -8,7 +8,7 @@ use Rattle.preservation.proofs.Sound.{SoundBut, Dirent, Depths}
 use Rattle.preservation.proofs.Counts.{ind-eq, ind-ne}
 use Rattle.preservation.proofs.Dirents.{placed, Fits, placed-slots, placed-tree, placed-other-slot, placed-here-slot, naming-at, used-at}
 use Rattle.preservation.proofs.Link.{ind-some}
-use Rattle.rules.specs.Layout.{SLOTS, DIRENTS, NAME, KIND, LENGTH, LINKS, DIRECTORY, WORD-MAX}
+use Rattle.rules.specs.Layout.{SLOTS, DIRENTS, NAME, FILE-KIND, FILE-LENGTH, FILE-LINKS, DIRECTORY, WORD-MAX}
 
 abbrev pub noRow : ℕ → ℕ
 noRow k = 0
@@ -17,23 +17,23 @@ pub no-dirent : (kind : ℕ → ℕ) → Dirent kind noRow
 no-dirent kind = record { last-zero = refl; slot-small = omega arith; empty-zero = λ _ k _. refl; slot-used = λ n. absurd (n refl); valid = λ n. absurd (n refl) }
 
 unfoldable pub unlinked : (d p t y : ℕ) → Tables → Tables
-unlinked d p t y m = placed d p noRow (m .file d LENGTH - 1) t y (m .file y LINKS - 1) m
+unlinked d p t y m = placed d p noRow (m .file d FILE-LENGTH - 1) t y (m .file y FILE-LINKS - 1) m
 
-module _ (m : Tables) (d p t y : ℕ) (h : SoundBut y m) (hd : d < SLOTS) (kd : m .file d KIND ≡ DIRECTORY) (hp : p < DIRENTS) (e : direntRow (m .byte) d p NAME ≡ y) (n0 : y ≡ 0 → ⊥) (ht : t ≤ WORD-MAX) where
+module _ (m : Tables) (d p t y : ℕ) (h : SoundBut y m) (hd : d < SLOTS) (kd : m .file d FILE-KIND ≡ DIRECTORY) (hp : p < DIRENTS) (e : direntRow (m .byte) d p NAME ≡ y) (n0 : y ≡ 0 → ⊥) (ht : t ≤ WORD-MAX) where
   unlinked-fits : Fits m d p noRow t y
   unlinked-fits = record {
     dir-small = hd;
     dir-kind = kd;
     dirent-small = hp;
     row-end = λ k _. refl;
-    row-dirent = no-dirent (col (m .file) KIND);
+    row-dirent = no-dirent (col (m .file) FILE-KIND);
     row-new = λ n. absurd (n refl);
     version-small = ht;
     file-used = λ z. h .tree .dirs d hd kd .dirents p hp .slot-used (rw e n0) (rw e z);
     file-root = n0;
   }
 
-  unlinked-depths : Depths (col (m .file) KIND) (direntRow (upd (m .byte) d (fill (m .byte d) p noRow)))
+  unlinked-depths : Depths (col (m .file) FILE-KIND) (direntRow (upd (m .byte) d (fill (m .byte d) p noRow)))
   unlinked-depths = record {
     depth = h .tree .depths .depth;
     depth-root = h .tree .depths .depth-root;
@@ -46,7 +46,7 @@ module _ (m : Tables) (d p t y : ℕ) (h : SoundBut y m) (hd : d < SLOTS) (kd : 
       b : ℕ → ℕ → ℕ
       b = upd (m .byte) d (fill (m .byte d) p noRow)
 
-      keep : (u : ℕ) → u < SLOTS → m .file u KIND ≡ DIRECTORY → (q : ℕ) → q < DIRENTS → (u ≡ d → q ≡ p → ⊥) → (direntRow b u q NAME ≡ 0 → ⊥) → m .file (direntRow b u q NAME) KIND ≡ DIRECTORY → h .tree .depths .depth (direntRow b u q NAME) ≡ suc (h .tree .depths .depth u)
+      keep : (u : ℕ) → u < SLOTS → m .file u FILE-KIND ≡ DIRECTORY → (q : ℕ) → q < DIRENTS → (u ≡ d → q ≡ p → ⊥) → (direntRow b u q NAME ≡ 0 → ⊥) → m .file (direntRow b u q NAME) FILE-KIND ≡ DIRECTORY → h .tree .depths .depth (direntRow b u q NAME) ≡ suc (h .tree .depths .depth u)
       keep u hu ku q hq o = rw (placed-other-slot y m h d p noRow 0 t y 0 unlinked-fits u q o) (h .tree .depths .depth-step u hu ku q hq)
 
   pub unlinked-sound : SoundBut y (unlinked d p t y m)
@@ -56,12 +56,12 @@ module _ (m : Tables) (d p t y : ℕ) (h : SoundBut y m) (hd : d < SLOTS) (kd : 
     tree = placed-tree y m h d p noRow z t y c f
         (omega (arith, ind-some (direntRow (m .byte) d p NAME) (rw e n0), used-at (direntRow (m .byte) d) p hp (rw e n0), h .tree .lengths d hd kd))
         (λ s hs n. split s y
-        (λ q w. rw (w, q) (omega (arith, ind-eq (direntRow (m .byte) d p NAME) y e, ind-ne 0 y (λ a. n0 (sym a)), naming-at (col (m .file) KIND) (direntRow (m .byte)) d p y hd hp kd e, h .tree .links y (rw q at hs) n0)))
+        (λ q w. rw (w, q) (omega (arith, ind-eq (direntRow (m .byte) d p NAME) y e, ind-ne 0 y (λ a. n0 (sym a)), naming-at (col (m .file) FILE-KIND) (direntRow (m .byte)) d p y hd hp kd e, h .tree .links y (rw q at hs) n0)))
         (λ q w. rw w (omega (arith, ind-ne (direntRow (m .byte) d p NAME) s (λ a. q (sym a ∙ e)), ind-ne 0 s (λ a. n (sym a))))))
         unlinked-depths;
     live = record {
-      once = λ i hi q k n. rw (upd-other (col (m .file) LINKS) y c i q) (h .live .once i hi q k n);
-      alive = λ i hi q k. rw (upd-other (col (m .file) LINKS) y c i q) (h .live .alive i hi q k);
+      once = λ i hi q k n. rw (upd-other (col (m .file) FILE-LINKS) y c i q) (h .live .once i hi q k n);
+      alive = λ i hi q k. rw (upd-other (col (m .file) FILE-LINKS) y c i q) (h .live .alive i hi q k);
     };
     opens = h .opens;
     procs = h .procs;
@@ -71,7 +71,7 @@ module _ (m : Tables) (d p t y : ℕ) (h : SoundBut y m) (hd : d < SLOTS) (kd : 
       f = unlinked-fits
 
       z : ℕ
-      z = m .file d LENGTH - 1
+      z = m .file d FILE-LENGTH - 1
 
       c : ℕ
-      c = m .file y LINKS - 1
+      c = m .file y FILE-LINKS - 1

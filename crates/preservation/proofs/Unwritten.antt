@@ -6,7 +6,7 @@ use mathlib.Core.List.{List, [], _∷_}
 use Prim.Native.Nat.{ℕ}
 use native.Mathlib.Omega.{arith}
 use lib.ListN.{length}
-use Rattle.rules.specs.Layout.{OPEN, KIND, OWNER, BITS, LABEL, LENGTH, LINKS, VERSION, SLOT, OFFSET, FREE, PLAIN, DIRECTORY}
+use Rattle.rules.specs.Layout.{OPEN-FILE-WIDTH, FILE-KIND, FILE-OWNER, FILE-BITS, FILE-LABEL, FILE-LENGTH, FILE-LINKS, FILE-VERSION, OPEN-SLOT, OPEN-OFFSET, FREE, PLAIN, DIRECTORY}
 use Rattle.rules.specs.Store.{Store, view, slot, ofdOf, subjectOf, tab, applyAll}
 use Rattle.rules.specs.Refusals.{GRANTED}
 use Rattle.rules.specs.Paths.{Name}
@@ -70,7 +70,7 @@ module _ (s : Store) where
 
 -- every column but two
 abbrev NotLinksOrBits : ℕ → Type 0
-NotLinksOrBits k = (k ≡ LINKS → ⊥) × (k ≡ BITS → ⊥)
+NotLinksOrBits k = (k ≡ FILE-LINKS → ⊥) × (k ≡ FILE-BITS → ⊥)
 
 module _ (s : Store) (h : SoundStore s) (c : Call) (f : ℕ) where
   -- the effects that write to f or truncate it
@@ -80,8 +80,8 @@ module _ (s : Store) (h : SoundStore s) (c : Call) (f : ℕ) where
 
   -- in t, which a call leaves, f is not free; where the call leaves the open files as they were, f was plain
   record Stays (t : Store) : Type 0 where
-    used : tablesOf t .file f KIND ≡ FREE → ⊥
-    was : t .openFiles ≡ s .openFiles → tablesOf s .file f KIND ≡ PLAIN
+    used : tablesOf t .file f FILE-KIND ≡ FREE → ⊥
+    was : t .openFiles ≡ s .openFiles → tablesOf s .file f FILE-KIND ≡ PLAIN
 
   abbrev Left : Tables → Type 0
   Left m = Kept NotLinksOrBits f (tablesOf s) m
@@ -90,7 +90,7 @@ module _ (s : Store) (h : SoundStore s) (c : Call) (f : ℕ) where
   unfolding handed
   opened n = kept-same f (tablesOf s) (withOpen (c .process) n (tablesOf s)) refl refl
 
-  written : (w : Placement) (g : ℕ → ℕ) → (f ≡ w .slot .0 → ⊥) → Left (openTo (w .ofd .0) OFFSET (w .offset) (wrote (w .slot .0) g (w .length) (w .version) (tablesOf s)))
+  written : (w : Placement) (g : ℕ → ℕ) → (f ≡ w .slot .0 → ⊥) → Left (openTo (w .ofd .0) OPEN-OFFSET (w .offset) (wrote (w .slot .0) g (w .length) (w .version) (tablesOf s)))
   unfolding wrote
   written w g n = kept-both f (kept-written f (w .slot .0) g (w .length) (w .version) (tablesOf s) n) (kept-same f _ _ refl refl)
 
@@ -100,12 +100,12 @@ module _ (s : Store) (h : SoundStore s) (c : Call) (f : ℕ) where
   steadily : {e : Effect} (t : Store) → Stays t → Steady (tablesOf s) (tablesOf t) → Left (tablesOf t) ⊎ Rewrites e
   steadily {e} t y z = by (z f)
     where
-      by : (tablesOf t .file f KIND ≡ FREE) ⊎ ((tablesOf t .file f ≡ tablesOf s .file f) × (tablesOf t .byte f ≡ tablesOf s .byte f)) → Left (tablesOf t) ⊎ Rewrites e
+      by : (tablesOf t .file f FILE-KIND ≡ FREE) ⊎ ((tablesOf t .file f ≡ tablesOf s .file f) × (tablesOf t .byte f ≡ tablesOf s .byte f)) → Left (tablesOf t) ⊎ Rewrites e
       by (inl q) = absurd (y .used q)
       by (inr q) = inl (record { words = λ k _. ap (λ (r : ℕ → ℕ). r k) (q .0); bytes = q .1 })
 
   -- slot y is of another kind
-  apart : (y k : ℕ) → (k ≡ PLAIN → ⊥) → tablesOf s .file f KIND ≡ PLAIN → tablesOf s .file y KIND ≡ k → f ≡ y → ⊥
+  apart : (y k : ℕ) → (k ≡ PLAIN → ⊥) → tablesOf s .file f FILE-KIND ≡ PLAIN → tablesOf s .file y FILE-KIND ≡ k → f ≡ y → ⊥
   apart y k n a b q = n (sym b ∙ rw q at a)
 
   -- Each effect changes another slot, the link count or the bits, unless it rewrites f. A directory that gains or loses a name, a removed one and a slot given
@@ -123,17 +123,17 @@ module _ (s : Store) (h : SoundStore s) (c : Call) (f : ℕ) where
   effect-leaves (unlinks (unlinking d i y n k)) z =
       let w = unnaming-is s h y in
       let l = unlink-leaves s h d i y n k w in
-      leaves l (kept-unlink f s h d i y (apart (d .0) DIRECTORY (λ a. omega arith) (z .was (unlink-open-files s _ _)) (n .dir-kind)) (λ k u. u .0) w (λ q. z .used (ap (λ (x : Tables). x .file f KIND) (l .has .is) ∙ q)))
+      leaves l (kept-unlink f s h d i y (apart (d .0) DIRECTORY (λ a. omega arith) (z .was (unlink-open-files s _ _)) (n .dir-kind)) (λ k u. u .0) w (λ q. z .used (ap (λ (x : Tables). x .file f FILE-KIND) (l .has .is) ∙ q)))
   effect-leaves (removes d i y n k l) z =
       let p = z .was (remove-open-files s _ _ _) in
       leaves (remove-leaves s h d i y n k l) (kept-remove f s h d i y _ (apart (d .0) DIRECTORY (λ a. omega arith) p (n .dir-kind)) (apart (y .0) DIRECTORY (λ a. omega arith) p k))
   effect-leaves (links d i y n hy k) z =
       leaves (link-leaves s h _ d i y n hy k)
-      (kept-both f (kept-column f (y .0) LINKS _ (tablesOf s) (λ k u. u .0)) (kept-written f (d .0) _ _ _ _ (apart (d .0) DIRECTORY (λ a. omega arith) (z .was (link-open-files s _ _ _ _)) (n .fits .dir-kind))))
-  effect-leaves (changesBits y b hy k l o) z = leaves (bits-leaves s h (y .0) (b .0) hy k l) (kept-column f (y .0) BITS _ (tablesOf s) (λ k u. u .1))
+      (kept-both f (kept-column f (y .0) FILE-LINKS _ (tablesOf s) (λ k u. u .0)) (kept-written f (d .0) _ _ _ _ (apart (d .0) DIRECTORY (λ a. omega arith) (z .was (link-open-files s _ _ _ _)) (n .fits .dir-kind))))
+  effect-leaves (changesBits y b hy k l o) z = leaves (bits-leaves s h (y .0) (b .0) hy k l) (kept-column f (y .0) FILE-BITS _ (tablesOf s) (λ k u. u .1))
   effect-leaves (closes i u hi) y = steadily _ y (close-leaves s h (c .process) i (u .small) hi (u .used) (releasing-is s h (c .process) i (u .small) hi) .steady)
-  effect-leaves (stores e at o l) y = split (view s .openFiles e SLOT) f (λ q _. inr (stored _ q))
-      (λ q _. leaves (write-leaves s h (c .«data») _ (placed-well s h c e at o l)) (written (placement (view s .tree .file) (ofdOf e) (slot (view s .openFiles e SLOT)) at (length (c .«data»))) _ (λ z. q (sym z))))
+  effect-leaves (stores e at o l) y = split (view s .openFiles e OPEN-SLOT) f (λ q _. inr (stored _ q))
+      (λ q _. leaves (write-leaves s h (c .«data») _ (placed-well s h c e at o l)) (written (placement (view s .tree .file) (ofdOf e) (slot (view s .openFiles e OPEN-SLOT)) at (length (c .«data»))) _ (λ z. q (sym z))))
   effect-leaves (reads e n o l) y = leaves (move-leaves s h e _ o (read-fits s h c e n l)) (kept-same f (tablesOf s) _ refl refl)
   effect-leaves (seeks e n o l) y = leaves (move-leaves s h e n o l) (kept-same f (tablesOf s) _ refl refl)
   effect-leaves (duplicates i j e o hj g) y = unfold tablesOf in leaves (duplicate-leaves s h (c .process) i j e o hj g) (unfold shared handed in kept-same f (tablesOf s) _ refl refl)
@@ -147,11 +147,11 @@ module _ (s : Store) (h : SoundStore s) (c : Call) (f : ℕ) where
   unfolding tablesOf
   same-file t k y l = record {
     bytes = kept-block s t f (h .sized) (k .sized) (used-small t k f (y .used)) (unfold tablesOf in l .bytes);
-    kind = l .words KIND ((λ e. omega arith), (λ e. omega arith));
-    owner = l .words OWNER ((λ e. omega arith), (λ e. omega arith));
-    label = l .words LABEL ((λ e. omega arith), (λ e. omega arith));
-    length = l .words LENGTH ((λ e. omega arith), (λ e. omega arith));
-    version = l .words VERSION ((λ e. omega arith), (λ e. omega arith));
+    kind = l .words FILE-KIND ((λ e. omega arith), (λ e. omega arith));
+    owner = l .words FILE-OWNER ((λ e. omega arith), (λ e. omega arith));
+    label = l .words FILE-LABEL ((λ e. omega arith), (λ e. omega arith));
+    length = l .words FILE-LENGTH ((λ e. omega arith), (λ e. omega arith));
+    version = l .words FILE-VERSION ((λ e. omega arith), (λ e. omega arith));
   }
 
 -- ---- one call
@@ -188,14 +188,14 @@ module _ (Q : List ℕ) (s : Store) (c : Call) (f : ℕ) where
       decided Q s (w .1) c f d (decide-asked Q s c) (y (w .1) (storeAfter s c (decide Q (view s) c)) (after-sound s (w .1) c d) p))
       (λ _ _. inl (unchanged s f))
 
-  pub changed-by-write : word s f KIND ≡ PLAIN → (word (step Q s c .store) f KIND ≡ FREE → ⊥) → SameFile s (step Q s c .store) f ⊎ (WritesTo Q s c f ⊎ Truncates Q s c f)
+  pub changed-by-write : word s f FILE-KIND ≡ PLAIN → (word (step Q s c .store) f FILE-KIND ≡ FREE → ⊥) → SameFile s (step Q s c .store) f ⊎ (WritesTo Q s c f ⊎ Truncates Q s c f)
   unfolding tablesOf
-  changed-by-write k = staying (λ t. word t f KIND ≡ FREE → ⊥) (λ h t _ a. record { used = a; was = λ _. k })
+  changed-by-write k = staying (λ t. word t f FILE-KIND ≡ FREE → ⊥) (λ h t _ a. record { used = a; was = λ _. k })
 
   open-changed : IsOpen (step Q s c .store) f → SameFile s (step Q s c .store) f ⊎ (WritesTo Q s c f ⊎ Truncates Q s c f)
   open-changed = staying (λ t. IsOpen t f) (λ h t k o. record {
     used = λ z. omega (arith, z, open-plain t k f o);
-    was = λ q. open-plain s h f (subst (λ (E : List ℕ). isOpen (tab OPEN E) (slot f) ≡ true) q o);
+    was = λ q. open-plain s h f (subst (λ (E : List ℕ). isOpen (tab OPEN-FILE-WIDTH E) (slot f) ≡ true) q o);
   })
 
 -- ---- a list of calls

@@ -8,7 +8,7 @@ use lib.Dec.{eqb}
 use lib.ListN.{length, getD}
 use lib.Seq.{length-take-le}
 use borrow.Author.Tests.{eqb-true, ltb-true}
-use Rattle.rules.specs.Layout.{SLOTS, DIRENTS, NAME, KIND, DIRECTORY}
+use Rattle.rules.specs.Layout.{SLOTS, DIRENTS, NAME, FILE-KIND, DIRECTORY}
 use Rattle.rules.specs.Store.{Store, view, slot, entry, isDirent}
 use Rattle.rules.specs.Paths.{Name, names, parentNames}
 use Rattle.rules.specs.Directories.{direntOf, direntSlot, hasName}
@@ -60,17 +60,17 @@ module _ (s : Store) (h : SoundStore s) (Q : List ℕ) (who : Subject) where
   found-small f = reach-small (tablesOf s) (h .tables) (f .reach)
 
   -- an entry that has a good name is not empty
-  entry-used : (d : Slot) (hd : d .0 < SLOTS) (kd : tablesOf s .file (d .0) KIND ≡ DIRECTORY) (n : Name) (i : ℕ) → GoodName n → i < DIRENTS → hasName (view s .tree .shown (d .0)) n i ≡ true → direntRow (tablesOf s .byte) (d .0) i NAME ≡ 0 → ⊥
+  entry-used : (d : Slot) (hd : d .0 < SLOTS) (kd : tablesOf s .file (d .0) FILE-KIND ≡ DIRECTORY) (n : Name) (i : ℕ) → GoodName n → i < DIRENTS → hasName (view s .tree .shown (d .0)) n i ≡ true → direntRow (tablesOf s .byte) (d .0) i NAME ≡ 0 → ⊥
   entry-used d hd kd n i g hi t z =
       let same : sameRow (direntRow (tablesOf s .byte) (d .0) i) (λ k. getD n k 0) ≡ true = sym (has-row s h d hd kd n i) ∙ t in
       let first-same : direntRow (tablesOf s .byte) (d .0) i 0 ≡ getD n 0 0 = same-at (direntRow (tablesOf s .byte) (d .0) i) (λ k. getD n k 0) same 0 (omega arith) in
       g .bytes .no-zero 0 (g .bytes .some-byte) (sym first-same ∙ h .tables .tree .dirs (d .0) hd kd .dirents i hi .empty-zero z 0 (omega arith))
 
-  searched-fit : {P : Location → Type 0} (d : Slot) (k : ℕ) (w : Walk) → (tablesOf s .file (d .0) KIND ≡ DIRECTORY → WalkFit P w) → WalkFit P (searched (view s .tree .file) Q who d k w)
+  searched-fit : {P : Location → Type 0} (d : Slot) (k : ℕ) (w : Walk) → (tablesOf s .file (d .0) FILE-KIND ≡ DIRECTORY → WalkFit P w) → WalkFit P (searched (view s .tree .file) Q who d k w)
   unfolding tablesOf
   searched-fit d k w f =
       needAt-fit (isDirectory (view s .tree .file) d) _ k _ (λ t. needAt-fit (bitsAllow (view s .tree .file) who d EXECUTE) _ k _ (λ _. needAt-fit (labelAllows (view s .tree .file) Q who d EXECUTE) _ k w (λ _.
-      f (eqb-true (view s .tree .file (d .0) KIND) DIRECTORY t))))
+      f (eqb-true (view s .tree .file (d .0) FILE-KIND) DIRECTORY t))))
 
   lookup-fit : (j : ℕ) (at : Location) (n : Name) (k : ℕ) → Found j at → GoodName n → WalkFit (Found (suc j)) (lookup (view s .tree) Q who (at .slot) n k)
   unfolding lookup
@@ -81,7 +81,7 @@ module _ (s : Store) (h : SoundStore s) (Q : List ℕ) (who : Subject) where
       hd : at .slot .0 < SLOTS
       hd = found-small f
 
-      next : tablesOf s .file (at .slot .0) KIND ≡ DIRECTORY → (i : ℕ) → i < DIRENTS → hasName (view s .tree .shown (at .slot .0)) n i ≡ true → Found (suc j) (record { dir = at .slot; dirent = entry i; slot = slot (direntSlot (view s .tree .shown (at .slot .0)) i) })
+      next : tablesOf s .file (at .slot .0) FILE-KIND ≡ DIRECTORY → (i : ℕ) → i < DIRENTS → hasName (view s .tree .shown (at .slot .0)) n i ≡ true → Found (suc j) (record { dir = at .slot; dirent = entry i; slot = slot (direntSlot (view s .tree .shown (at .slot .0)) i) })
       next kd i hi t =
           let e : direntSlot (view s .tree .shown (at .slot .0)) i ≡ direntRow (tablesOf s .byte) (at .slot .0) i NAME = slot-at s h (at .slot) hd kd i in
           let used : direntRow (tablesOf s .byte) (at .slot .0) i NAME ≡ 0 → ⊥ = entry-used (at .slot) hd kd n i g hi t in
@@ -105,7 +105,7 @@ module _ (s : Store) (h : SoundStore s) (Q : List ℕ) (who : Subject) where
   -- the parent of a path, a directory
   pub record Parent (p : List ℕ) (at : Location) : Type 0 where
     pub found : Found (length (names p) - 1) at
-    pub kind : tablesOf s .file (at .slot .0) KIND ≡ DIRECTORY
+    pub kind : tablesOf s .file (at .slot .0) FILE-KIND ≡ DIRECTORY
 
   pub parent-fit : (p : List ℕ) → GoodPath p → WalkFit (Parent p) (walkParent (view s .tree) Q who p)
   unfolding enterParent

@@ -6,7 +6,7 @@ use native.Mathlib.Omega.{arith}
 use native.Mathlib.Decide.{ℕ-discrete}
 use lib.Dec.{eqb}
 use Rattle.rules.specs.Layout.{SLOTS, BLOCK, DIRENTS, OPEN-FILES, PROCESSES, DESCRIPTORS, NAME}
-use Rattle.rules.specs.Layout.{KIND, LENGTH, LINKS, OFFSET, REFERENCES, DIRECTORY, WORD-MAX}
+use Rattle.rules.specs.Layout.{FILE-KIND, FILE-LENGTH, FILE-LINKS, OPEN-OFFSET, OPEN-REFERENCES, DIRECTORY, WORD-MAX}
 use Rattle.rules.specs.Store.{up, plus}
 use Rattle.preservation.proofs.Sums.{sum, ind, sum-most}
 use Rattle.preservation.proofs.Tables.{Tables, col, direntRow}
@@ -47,26 +47,26 @@ holders-most desc e = sum-most PROCESSES DESCRIPTORS (λ p. sum DESCRIPTORS (λ 
 -- ---- the words of sound tables
 
 module _ (x : ℕ) (m : Tables) (h : SoundBut x m) where
-  pub length-most : (s : ℕ) → s < SLOTS → m .file s LENGTH ≤ BLOCK
-  length-most s hs = by (ℕ-discrete (m .file s KIND) DIRECTORY)
+  pub length-most : (s : ℕ) → s < SLOTS → m .file s FILE-LENGTH ≤ BLOCK
+  length-most s hs = by (ℕ-discrete (m .file s FILE-KIND) DIRECTORY)
     where
-      by : Dec (m .file s KIND ≡ DIRECTORY) → m .file s LENGTH ≤ BLOCK
+      by : Dec (m .file s FILE-KIND ≡ DIRECTORY) → m .file s FILE-LENGTH ≤ BLOCK
       by (yes e) = omega (arith, h .tree .lengths s hs e, names-most (direntRow (m .byte) s))
       by (no n) = h .slots .blocks s hs .length-most n
 
-  pub link-most : (s : ℕ) → s < SLOTS → m .file s LINKS ≤ DIRENTS * SLOTS
+  pub link-most : (s : ℕ) → s < SLOTS → m .file s FILE-LINKS ≤ DIRENTS * SLOTS
   link-most s hs = by (ℕ-discrete s 0)
     where
-      by : Dec (s ≡ 0) → m .file s LINKS ≤ DIRENTS * SLOTS
+      by : Dec (s ≡ 0) → m .file s FILE-LINKS ≤ DIRENTS * SLOTS
       by (yes e) = rw e (omega (arith, h .slots .root-links))
-      by (no n) = omega (arith, h .tree .links s hs n, links-most (col (m .file) KIND) (direntRow (m .byte)) s)
+      by (no n) = omega (arith, h .tree .links s hs n, links-most (col (m .file) FILE-KIND) (direntRow (m .byte)) s)
 
-  pub references-most : (e : ℕ) → e < OPEN-FILES → m .openFiles e REFERENCES ≤ DESCRIPTORS * PROCESSES
+  pub references-most : (e : ℕ) → e < OPEN-FILES → m .openFiles e OPEN-REFERENCES ≤ DESCRIPTORS * PROCESSES
   references-most e he = omega (arith, h .opens .refs e he, holders-most (m .desc) e)
 
-  pub offsets-most : (e : ℕ) → e < OPEN-FILES → m .openFiles e OFFSET ≤ BLOCK
-  offsets-most e he = by (ℕ-discrete (m .openFiles e REFERENCES) 0)
+  pub offsets-most : (e : ℕ) → e < OPEN-FILES → m .openFiles e OPEN-OFFSET ≤ BLOCK
+  offsets-most e he = by (ℕ-discrete (m .openFiles e OPEN-REFERENCES) 0)
     where
-      by : Dec (m .openFiles e REFERENCES ≡ 0) → m .openFiles e OFFSET ≤ BLOCK
+      by : Dec (m .openFiles e OPEN-REFERENCES ≡ 0) → m .openFiles e OPEN-OFFSET ≤ BLOCK
       by (yes z) = omega (arith, h .opens .open-files e he .offset-zero z)
       by (no n) = h .opens .open-files e he .offset-most n

@@ -6,7 +6,7 @@ use mathlib.Core.Bool.{true}
 use mathlib.Core.Logic.{_⊎_}
 use mathlib.Core.List.{List, [], _∷_}
 use lib.ListN.{length}
-use Rattle.rules.specs.Layout.{SLOTS, FILE, BLOCK, OPEN-FILES, OPEN, PROCESSES, PROCESS, RIGHTS, DESCRIPTORS, KIND, OWNER, BITS, LABEL, LENGTH, LINKS, VERSION, SLOT, OFFSET, REFERENCES, USER, FREE, PLAIN}
+use Rattle.rules.specs.Layout.{SLOTS, FILE-WIDTH, BLOCK, OPEN-FILES, OPEN-FILE-WIDTH, PROCESSES, PROCESS-WIDTH, RIGHTS-SIZE, DESCRIPTORS, FILE-KIND, FILE-OWNER, FILE-BITS, FILE-LABEL, FILE-LENGTH, FILE-LINKS, FILE-VERSION, OPEN-SLOT, OPEN-OFFSET, OPEN-REFERENCES, PROCESS-USER, FREE, PLAIN}
 use Rattle.rules.specs.Scan.{repeat}
 use Rattle.rules.specs.Store.{Store, View, view, block, up, plus, slot, fdOf}
 use Rattle.rules.specs.Refusals.{GRANTED}
@@ -36,7 +36,7 @@ word s f column = view s .tree .file f column
 
 -- the caller's user
 abbrev pub callerUser : Store → Call → ℕ
-callerUser s c = view s .proc (c .process .0) USER
+callerUser s c = view s .proc (c .process .0) PROCESS-USER
 
 abbrev pub IsGranted : List ℕ → Store → Call → Type 0
 IsGranted Q s c = step Q s c .reply .refusal ≡ GRANTED
@@ -47,7 +47,7 @@ sizes Q s = length (s .files) ∷ length (s .contents) ∷ length (s .openFiles)
 
 -- the store's: a record and a block for each slot, a record for each open file and each process, a right and a transition for each pair of labels
 abbrev pub SIZES : List ℕ
-SIZES = (SLOTS * FILE) ∷ (SLOTS * BLOCK) ∷ (OPEN-FILES * OPEN) ∷ (PROCESSES * PROCESS) ∷ (RIGHTS + RIGHTS) ∷ []
+SIZES = (SLOTS * FILE-WIDTH) ∷ (SLOTS * BLOCK) ∷ (OPEN-FILES * OPEN-FILE-WIDTH) ∷ (PROCESSES * PROCESS-WIDTH) ∷ (RIGHTS-SIZE + RIGHTS-SIZE) ∷ []
 
 -- some open file names slot f
 abbrev pub IsOpen : Store → ℕ → Type 0
@@ -80,13 +80,13 @@ GivesOut Q s c f = ((c .call ≡ 2) ⊎ (c .call ≡ 3)) × (IsGranted Q s c × 
 -- after every call of the list slot f is plain, and no call gives it out
 unfoldable pub PlainAfterEach : List ℕ → Store → ℕ → List Call → Type 0
 PlainAfterEach Q s f [] = Unit {0}
-PlainAfterEach Q s f (c ∷ cs) = (word (step Q s c .store) f KIND ≡ PLAIN) × ((GivesOut Q s c f → ⊥) × PlainAfterEach Q (step Q s c .store) f cs)
+PlainAfterEach Q s f (c ∷ cs) = (word (step Q s c .store) f FILE-KIND ≡ PLAIN) × ((GivesOut Q s c f → ⊥) × PlainAfterEach Q (step Q s c .store) f cs)
 
 -- ---- the calls that change a file's bytes and length
 
 -- call c writes to slot f: a granted write (call 12) of at least one byte, by a descriptor that holds an open file on f
 abbrev pub WritesTo : List ℕ → Store → Call → ℕ → Type 0
-WritesTo Q s c f = IsGranted Q s c × ((c .call ≡ 12) × ((0 < length (c .«data»)) × (view s .openFiles (ofdHeld (view s .desc) (c .process) (c .fd) .0) SLOT ≡ f)))
+WritesTo Q s c f = IsGranted Q s c × ((c .call ≡ 12) × ((0 < length (c .«data»)) × (view s .openFiles (ofdHeld (view s .desc) (c .process) (c .fd) .0) OPEN-SLOT ≡ f)))
 
 -- walk w ends at slot f
 unfoldable pub EndsAt : Walk → ℕ → Type 0
@@ -105,11 +105,11 @@ Unwritten Q s f (c ∷ cs) = (WritesTo Q s c f → ⊥) × ((Truncates Q s c f �
 -- slot f holds in t the file that it holds in s, neither written nor truncated. Its link count and its bits may differ.
 pub record SameFile (s t : Store) (f : ℕ) : Type 0 where
   pub bytes : block (t .contents) f ≡ block (s .contents) f
-  pub kind : word t f KIND ≡ word s f KIND
-  pub owner : word t f OWNER ≡ word s f OWNER
-  pub label : word t f LABEL ≡ word s f LABEL
-  pub length : word t f LENGTH ≡ word s f LENGTH
-  pub version : word t f VERSION ≡ word s f VERSION
+  pub kind : word t f FILE-KIND ≡ word s f FILE-KIND
+  pub owner : word t f FILE-OWNER ≡ word s f FILE-OWNER
+  pub label : word t f FILE-LABEL ≡ word s f FILE-LABEL
+  pub length : word t f FILE-LENGTH ≡ word s f FILE-LENGTH
+  pub version : word t f FILE-VERSION ≡ word s f FILE-VERSION
 
 -- ---- the numbers that a granted call writes are plain sums: nothing is lost to the 32 bits of a word. A number that only goes down, or is
 -- copied, is no sum; the version is left out, since it may wrap.
@@ -117,7 +117,7 @@ pub record SameFile (s t : Store) (f : ℕ) : Type 0 where
 -- a share of open file e: the descriptor's word is e + 1, and there is one reference more
 unfoldable pub PlainShare : View → Share → Type 0
 PlainShare v share.Nothing = Unit {0}
-PlainShare v (share.Held e references) = (descWord e ≡ e .0 + 1) × (references ≡ v .openFiles (e .0) REFERENCES + 1)
+PlainShare v (share.Held e references) = (descWord e ≡ e .0 + 1) × (references ≡ v .openFiles (e .0) OPEN-REFERENCES + 1)
 
 -- a read's new offset is where it began and what it read
 unfoldable pub PlainRead : Output → (offset : ℕ) → Type 0
@@ -130,15 +130,15 @@ unfoldable pub PlainSums : Store → Call → Output → Effect → Type 0
 PlainSums s c o effect.Nothing = Unit {0}
 PlainSums s c o (effect.Opened n) = descWord (n .ofd) ≡ n .ofd .0 + 1
 PlainSums s c o (effect.Truncated n r) = descWord (n .ofd) ≡ n .ofd .0 + 1
-PlainSums s c o (effect.Created d y r) = d .length ≡ word s (d .dir .0) LENGTH + 1
+PlainSums s c o (effect.Created d y r) = d .length ≡ word s (d .dir .0) FILE-LENGTH + 1
 PlainSums s c o (effect.Unlinked d u) = Unit {0}
 PlainSums s c o (effect.Removed d y r) = Unit {0}
-PlainSums s c o (effect.Linked d y links) = (d .length ≡ word s (d .dir .0) LENGTH + 1) × (links ≡ word s (y .0) LINKS + 1)
+PlainSums s c o (effect.Linked d y links) = (d .length ≡ word s (d .dir .0) FILE-LENGTH + 1) × (links ≡ word s (y .0) FILE-LINKS + 1)
 PlainSums s c o (effect.BitsChanged y b) = Unit {0}
 PlainSums s c o (effect.Closed i r) = Unit {0}
-PlainSums s c o (effect.Stored w) = (w .offset ≡ w .at + length (c .«data»)) × (w .length ≡ max (word s (w .slot .0) LENGTH) (w .at + length (c .«data»)))
+PlainSums s c o (effect.Stored w) = (w .offset ≡ w .at + length (c .«data»)) × (w .length ≡ max (word s (w .slot .0) FILE-LENGTH) (w .at + length (c .«data»)))
 PlainSums s c o (effect.Moved e offset) = PlainRead o offset
-PlainSums s c o (effect.Duplicated i e references) = (descWord e ≡ e .0 + 1) × (references ≡ view s .openFiles (e .0) REFERENCES + 1)
+PlainSums s c o (effect.Duplicated i e references) = (descWord e ≡ e .0 + 1) × (references ≡ view s .openFiles (e .0) OPEN-REFERENCES + 1)
 PlainSums s c o (effect.Forked q who) =
     (i : ℕ) → i < DESCRIPTORS → let t = repeat (shared (c .process) q) 0 i s in PlainShare (view t) (shareOf (view t .openFiles) (view t .desc) (c .process) (fdOf i))
 PlainSums s c o effect.Exited = Unit {0}
@@ -158,30 +158,30 @@ pub record Claims : Type 0 where
   pub refused-leaves-store : (Q : List ℕ) (s : Store) (c : Call) → (IsGranted Q s c → ⊥) → step Q s c .store ≡ s
   pub refused-leaves-buffer : (Q : List ℕ) (s : Store) (c : Call) → (IsGranted Q s c → ⊥) → step Q s c .reply .buffer ≡ c .buffer
   -- 2. Where a slot is in use before and after a call, whichever call it is, and its bits differ, the caller was user 0 or its owner,
-  pub bits-by-owner : (Q : List ℕ) (s : Store) (c : Call) (f : ℕ) → (word s f KIND ≡ FREE → ⊥) → (word (step Q s c .store) f KIND ≡ FREE → ⊥) → (word (step Q s c .store) f BITS ≡ word s f BITS → ⊥) →
-      (callerUser s c ≡ 0) ⊎ (callerUser s c ≡ word s f OWNER)
+  pub bits-by-owner : (Q : List ℕ) (s : Store) (c : Call) (f : ℕ) → (word s f FILE-KIND ≡ FREE → ⊥) → (word (step Q s c .store) f FILE-KIND ≡ FREE → ⊥) → (word (step Q s c .store) f FILE-BITS ≡ word s f FILE-BITS → ⊥) →
+      (callerUser s c ≡ 0) ⊎ (callerUser s c ≡ word s f FILE-OWNER)
   -- and the call was number 8, granted. Such a slot holds the same file before and after: no call both frees a slot and gives one out, so nothing more is
   -- supposed of it.
-  pub bits-by-call-8 : (Q : List ℕ) (s : Store) (c : Call) (f : ℕ) → (word s f KIND ≡ FREE → ⊥) → (word (step Q s c .store) f KIND ≡ FREE → ⊥) → (word (step Q s c .store) f BITS ≡ word s f BITS → ⊥) →
+  pub bits-by-call-8 : (Q : List ℕ) (s : Store) (c : Call) (f : ℕ) → (word s f FILE-KIND ≡ FREE → ⊥) → (word (step Q s c .store) f FILE-KIND ≡ FREE → ⊥) → (word (step Q s c .store) f FILE-BITS ≡ word s f FILE-BITS → ⊥) →
       (c .call ≡ 8) × IsGranted Q s c
   -- 3. An open file's slot is plain. While after every call some open file names f, slot f stays plain, and no call gives it out as new.
-  pub open-plain : (Q : List ℕ) (s : Store) (f : ℕ) → sound Q s ≡ true → IsOpen s f → word s f KIND ≡ PLAIN
+  pub open-plain : (Q : List ℕ) (s : Store) (f : ℕ) → sound Q s ≡ true → IsOpen s f → word s f FILE-KIND ≡ PLAIN
   pub open-stays : (Q : List ℕ) (s : Store) (f : ℕ) (cs : List Call) → sound Q s ≡ true → OpenAfterEach Q s f cs → PlainAfterEach Q s f cs
   -- An unlink (call 4), the one that takes the last name included, leaves an open file's record but for its link count (the same kind, owner, bits, label,
   -- length and version), and all its 512 bytes.
-  pub unlink-leaves-record : (Q : List ℕ) (s : Store) (c : Call) (f k : ℕ) → c .call ≡ 4 → IsOpen s f → (k ≡ LINKS → ⊥) → word (step Q s c .store) f k ≡ word s f k
+  pub unlink-leaves-record : (Q : List ℕ) (s : Store) (c : Call) (f k : ℕ) → c .call ≡ 4 → IsOpen s f → (k ≡ FILE-LINKS → ⊥) → word (step Q s c .store) f k ≡ word s f k
   pub unlink-leaves-bytes : (Q : List ℕ) (s : Store) (c : Call) (f : ℕ) → c .call ≡ 4 → IsOpen s f → block (step Q s c .store .contents) f ≡ block (s .contents) f
   -- A plain file that a call does not free keeps its bytes and its length, version, owner and label, or the call was a granted write to it or a granted
   -- truncating open of it: for every call, on any store.
-  pub changed-by-write : (Q : List ℕ) (s : Store) (c : Call) (f : ℕ) → word s f KIND ≡ PLAIN → (word (step Q s c .store) f KIND ≡ FREE → ⊥) → SameFile s (step Q s c .store) f ⊎ (WritesTo Q s c f ⊎ Truncates Q s c f)
+  pub changed-by-write : (Q : List ℕ) (s : Store) (c : Call) (f : ℕ) → word s f FILE-KIND ≡ PLAIN → (word (step Q s c .store) f FILE-KIND ≡ FREE → ⊥) → SameFile s (step Q s c .store) f ⊎ (WritesTo Q s c f ⊎ Truncates Q s c f)
   -- So a list of calls after each of which some open file names f, and none of which writes to f or truncates it, leaves f as it was. A list on a store
   -- that is not sound changes nothing.
   pub open-unwritten : (Q : List ℕ) (s : Store) (f : ℕ) (cs : List Call) → OpenAfterEach Q s f cs → Unwritten Q s f cs → SameFile s (final Q s cs) f
   -- 4. No counter of a sound store wraps, but for the version: lengths, link counts, references and offsets go up by plain sums,
-  pub length-up : (Q : List ℕ) (s : Store) (f : ℕ) → sound Q s ≡ true → f < SLOTS → up (word s f LENGTH) ≡ word s f LENGTH + 1
-  pub links-up : (Q : List ℕ) (s : Store) (f : ℕ) → sound Q s ≡ true → f < SLOTS → up (word s f LINKS) ≡ word s f LINKS + 1
-  pub references-up : (Q : List ℕ) (s : Store) (e : ℕ) → sound Q s ≡ true → e < OPEN-FILES → up (view s .openFiles e REFERENCES) ≡ view s .openFiles e REFERENCES + 1
-  pub offset-plus : (Q : List ℕ) (s : Store) (e n : ℕ) → sound Q s ≡ true → e < OPEN-FILES → n ≤ BLOCK → plus (view s .openFiles e OFFSET) n ≡ view s .openFiles e OFFSET + n
+  pub length-up : (Q : List ℕ) (s : Store) (f : ℕ) → sound Q s ≡ true → f < SLOTS → up (word s f FILE-LENGTH) ≡ word s f FILE-LENGTH + 1
+  pub links-up : (Q : List ℕ) (s : Store) (f : ℕ) → sound Q s ≡ true → f < SLOTS → up (word s f FILE-LINKS) ≡ word s f FILE-LINKS + 1
+  pub references-up : (Q : List ℕ) (s : Store) (e : ℕ) → sound Q s ≡ true → e < OPEN-FILES → up (view s .openFiles e OPEN-REFERENCES) ≡ view s .openFiles e OPEN-REFERENCES + 1
+  pub offset-plus : (Q : List ℕ) (s : Store) (e n : ℕ) → sound Q s ≡ true → e < OPEN-FILES → n ≤ BLOCK → plus (view s .openFiles e OPEN-OFFSET) n ≡ view s .openFiles e OPEN-OFFSET + n
   -- and so in every granted decision.
   pub granted-sums : (Q : List ℕ) (s : Store) (c : Call) (n : ℕ) (o : Output) (e : Effect) → sound Q s ≡ true → decide Q (view s) c ≡ Granted n o e → PlainSums s c o e
   -- 5. Tables of another number of slots, 64 among them, are not taken (paper 02, R-2): where the length of any of the five tables is another than the

@@ -5,7 +5,7 @@ use mathlib.Core.List.{List, [], _∷_}
 use lib.Dec.{eqb}
 use lib.ListN.{getD, drop, replicate}
 use lib.Seq.{sets}
-use Rattle.rules.specs.Layout.{SLOTS, FILE, BLOCK, OPEN-FILES, OPEN, PROCESSES, PROCESS, RIGHTS}
+use Rattle.rules.specs.Layout.{SLOTS, FILE-WIDTH, BLOCK, OPEN-FILES, OPEN-FILE-WIDTH, PROCESSES, PROCESS-WIDTH, RIGHTS-SIZE}
 use Rattle.tables.specs.NameWords.{pair, quad}
 use Rattle.recorded.specs.declared.records.Sizes.{Sizes}
 use Rattle.recorded.specs.declared.records.Tables.{Tables}
@@ -45,12 +45,12 @@ tables b d s f c e p q = record { broken = b; ended = d; sizes = s; files = f; c
 -- all 0 and of the right sizes, with room for one word more
 unfoldable pub emptyTables : Tables
 emptyTables =
-    tables false false (sizes (SLOTS * FILE) (SLOTS * BLOCK) (OPEN-FILES * OPEN) (PROCESSES * PROCESS) (RIGHTS + RIGHTS))
-    (replicate (SLOTS * FILE + 1) 0)
+    tables false false (sizes (SLOTS * FILE-WIDTH) (SLOTS * BLOCK) (OPEN-FILES * OPEN-FILE-WIDTH) (PROCESSES * PROCESS-WIDTH) (RIGHTS-SIZE + RIGHTS-SIZE))
+    (replicate (SLOTS * FILE-WIDTH + 1) 0)
     (replicate (SLOTS * BLOCK + 1) 0)
-    (replicate (OPEN-FILES * OPEN + 1) 0)
-    (replicate (PROCESSES * PROCESS + 1) 0)
-    (replicate (RIGHTS + RIGHTS + 1) 0)
+    (replicate (OPEN-FILES * OPEN-FILE-WIDTH + 1) 0)
+    (replicate (PROCESSES * PROCESS-WIDTH + 1) 0)
+    (replicate (RIGHTS-SIZE + RIGHTS-SIZE + 1) 0)
 
 unfoldable pub brokenTables : Tables → Tables
 brokenTables t = tables true (t .ended) (t .sizes) (t .files) (t .contents) (t .«open_files») (t .processes) (t .policy)

@@ -1,6 +1,6 @@
 // What a directory becomes that loses a name.
 ghost use mathlib.Core.Path.{_≡_};
-ghost use Rattle.rules.specs.Layout.{FILE};
+ghost use Rattle.rules.specs.Layout.{FILE-WIDTH};
 ghost use Rattle.rules.specs.Store.{tab};
 ghost use Rattle.rules.specs.Checks.{loses};
 use rules::decision::DirChange;
@@ -11,7 +11,7 @@ use tables::numbers::up_one;
 
 // A directory that loses the name in entry i.
 pub fn losing(files: &[u32], d: Slot, i: Dirent) -> DirChange
-    ensures { λ r. ⌜ r ≡ loses (tab FILE (now (files .entry))) d i ⌝ }
+    ensures { λ r. ⌜ r ≡ loses (tab FILE-WIDTH (now (files .entry))) d i ⌝ }
 {
     DirChange {
         dir: d,

@@ -1,7 +1,7 @@
 // 5. Remove directory.
 ghost use mathlib.Core.Path.{_≡_};
 ghost use lib.Dec.{eqb};
-ghost use Rattle.rules.specs.Layout.{FILE, LENGTH};
+ghost use Rattle.rules.specs.Layout.{FILE-WIDTH, FILE-LENGTH};
 ghost use Rattle.rules.specs.Store.{tab, tree};
 ghost use Rattle.rules.specs.DecidePaths.{removed, removeEmpty, removeAt, decideRemove};
 use crate::dirs::losing;
@@ -21,7 +21,7 @@ use rules::rights::Rights;
 use tables::files::is_directory;
 
 fn removed_at(files: &[u32], at: Location) -> Decision
-    ensures { λ r. ⌜ r ≡ removed (tab FILE (now (files .entry))) at ⌝ }
+    ensures { λ r. ⌜ r ≡ removed (tab FILE-WIDTH (now (files .entry))) at ⌝ }
 {
     let s = at.slot;
     Decision::Granted(
@@ -32,13 +32,13 @@ fn removed_at(files: &[u32], at: Location) -> Decision
 }
 
 fn has_no_names(files: &[u32], d: Slot) -> bool
-    ensures { λ r. ⌜ r ≡ eqb (tab FILE (now (files .entry)) (d .0) LENGTH) 0 ⌝ }
+    ensures { λ r. ⌜ r ≡ eqb (tab FILE-WIDTH (now (files .entry)) (d .0) FILE-LENGTH) 0 ⌝ }
 {
     tables::files::length(files, d) == 0
 }
 
 fn remove_empty(files: &[u32], at: Location) -> Decision
-    ensures { λ r. ⌜ r ≡ removeEmpty (tab FILE (now (files .entry))) at ⌝ }
+    ensures { λ r. ⌜ r ≡ removeEmpty (tab FILE-WIDTH (now (files .entry))) at ⌝ }
 {
     if !has_no_names(files, at.slot) {
         return Decision::Refused(Refusal::NotEmpty, 0);
@@ -47,7 +47,7 @@ fn remove_empty(files: &[u32], at: Location) -> Decision
 }
 
 fn remove_at(files: &[u32], policy: &[u8], who: Subject, at: Location) -> Decision
-    ensures { λ r. ⌜ r ≡ removeAt (now (policy .entry)) (tab FILE (now (files .entry))) who at ⌝ }
+    ensures { λ r. ⌜ r ≡ removeAt (now (policy .entry)) (tab FILE-WIDTH (now (files .entry))) who at ⌝ }
 {
     if !is_directory(files, at.slot) {
         return Decision::Refused(Refusal::WrongKind, 0);

@@ -5,7 +5,7 @@ ghost use mathlib.Core.List.{[], _∷_};
 ghost use Prim.Native.Nat.{_-_};
 ghost use lib.Dec.{eqb};
 ghost use Rattle.rules.specs.Choice.{every};
-ghost use Rattle.rules.specs.Layout.{FILE, OPEN, LINKS};
+ghost use Rattle.rules.specs.Layout.{FILE-WIDTH, OPEN-FILE-WIDTH, FILE-LINKS};
 ghost use Rattle.rules.specs.Store.{tab, tree};
 ghost use Rattle.rules.specs.Sound.{isOpen};
 ghost use Rattle.rules.specs.Checks.{freed, unnaming};
@@ -34,14 +34,14 @@ use tables::layout::OPEN_FILES;
 use tables::numbers::down_one;
 
 fn was_last_link(files: &[u32], s: Slot) -> bool
-    ensures { λ r. ⌜ r ≡ eqb (tab FILE (now (files .entry)) (s .0) LINKS - 1) 0 ⌝ }
+    ensures { λ r. ⌜ r ≡ eqb (tab FILE-WIDTH (now (files .entry)) (s .0) FILE-LINKS - 1) 0 ⌝ }
 {
     down_one(links(files, s)) == 0
 }
 
 // The file goes with its name: no other name, and no open file.
 fn unnamed_goes(files: &[u32], open_files: &[u32], s: Slot) -> bool
-    ensures { λ r. ⌜ r ≡ every (eqb (tab FILE (now (files .entry)) (s .0) LINKS - 1) 0 ∷ not (isOpen (tab OPEN (now («open_files» .entry))) s) ∷ []) ⌝ }
+    ensures { λ r. ⌜ r ≡ every (eqb (tab FILE-WIDTH (now (files .entry)) (s .0) FILE-LINKS - 1) 0 ∷ not (isOpen (tab OPEN-FILE-WIDTH (now («open_files» .entry))) s) ∷ []) ⌝ }
 {
     if !was_last_link(files, s) {
         return false;
@@ -50,20 +50,20 @@ fn unnamed_goes(files: &[u32], open_files: &[u32], s: Slot) -> bool
 }
 
 fn unnamed_freed(files: &[u32], s: Slot) -> Unnamed
-    ensures { λ r. ⌜ r ≡ unnamed.Freed s (freed (tab FILE (now (files .entry))) s) ⌝ }
+    ensures { λ r. ⌜ r ≡ unnamed.Freed s (freed (tab FILE-WIDTH (now (files .entry))) s) ⌝ }
 {
     Unnamed::Freed(s, freed_record(files, s))
 }
 
 fn unnamed_kept(files: &[u32], s: Slot) -> Unnamed
-    ensures { λ r. ⌜ r ≡ unnamed.Kept s (tab FILE (now (files .entry)) (s .0) LINKS - 1) ⌝ }
+    ensures { λ r. ⌜ r ≡ unnamed.Kept s (tab FILE-WIDTH (now (files .entry)) (s .0) FILE-LINKS - 1) ⌝ }
 {
     Unnamed::Kept(s, down_one(links(files, s)))
 }
 
 // The plain file in slot s loses a name.
 fn unname(files: &[u32], open_files: &[u32], s: Slot) -> Unnamed
-    ensures { λ r. ⌜ r ≡ unnaming (tab FILE (now (files .entry))) (tab OPEN (now («open_files» .entry))) s ⌝ }
+    ensures { λ r. ⌜ r ≡ unnaming (tab FILE-WIDTH (now (files .entry))) (tab OPEN-FILE-WIDTH (now («open_files» .entry))) s ⌝ }
 {
     if unnamed_goes(files, open_files, s) {
         return unnamed_freed(files, s);
@@ -72,7 +72,7 @@ fn unname(files: &[u32], open_files: &[u32], s: Slot) -> Unnamed
 }
 
 fn unlinked_at(files: &[u32], open_files: &[u32], at: Location) -> Decision
-    ensures { λ r. ⌜ r ≡ unlinked (tab FILE (now (files .entry))) (tab OPEN (now («open_files» .entry))) at ⌝ }
+    ensures { λ r. ⌜ r ≡ unlinked (tab FILE-WIDTH (now (files .entry))) (tab OPEN-FILE-WIDTH (now («open_files» .entry))) at ⌝ }
 {
     Decision::Granted(
         0,
@@ -91,7 +91,7 @@ fn unlink_at(
     who: Subject,
     at: Location,
 ) -> Decision
-    ensures { λ r. ⌜ r ≡ unlinkAt (now (policy .entry)) (tab FILE (now (files .entry))) (tab OPEN (now («open_files» .entry))) who at ⌝ }
+    ensures { λ r. ⌜ r ≡ unlinkAt (now (policy .entry)) (tab FILE-WIDTH (now (files .entry))) (tab OPEN-FILE-WIDTH (now («open_files» .entry))) who at ⌝ }
 {
     if !is_plain(files, at.slot) {
         return Decision::Refused(Refusal::WrongKind, 0);
@@ -113,7 +113,7 @@ pub fn decide_unlink(
     who: Subject,
     path: &[u8],
 ) -> Decision
-    ensures { λ r. ⌜ r ≡ decideUnlink (now (policy .entry)) (tree (now (files .entry)) (now (contents .entry))) (tab OPEN (now («open_files» .entry))) who (now (path .entry)) ⌝ }
+    ensures { λ r. ⌜ r ≡ decideUnlink (now (policy .entry)) (tree (now (files .entry)) (now (contents .entry))) (tab OPEN-FILE-WIDTH (now («open_files» .entry))) who (now (path .entry)) ⌝ }
 {
     match walk_path(files, contents, policy, who, path) {
         Walk::Reached(at) => unlink_at(files, open_files, policy, who, at),

@@ -1,6 +1,6 @@
 // When the bits and the labels grant a right.
 ghost use mathlib.Core.Path.{_≡_};
-ghost use Rattle.rules.specs.Layout.{FILE};
+ghost use Rattle.rules.specs.Layout.{FILE-WIDTH};
 ghost use Rattle.rules.specs.Store.{tab};
 ghost use Rattle.rules.specs.Rights.{stands, covers, rightsIn, bitsGrant, owns, labelGrants};
 ghost use Rattle.rules.specs.Walk.{bitsAllow, labelAllows};
@@ -71,7 +71,7 @@ fn label_grants(policy: &[u8], who: Subject, label: u32, want: Rights) -> bool
 
 // The bits of slot s grant the rights.
 pub fn bits_allow(files: &[u32], who: Subject, s: Slot, want: Rights) -> bool
-    ensures { λ r. ⌜ r ≡ bitsAllow (tab FILE (now (files .entry))) who s want ⌝ }
+    ensures { λ r. ⌜ r ≡ bitsAllow (tab FILE-WIDTH (now (files .entry))) who s want ⌝ }
 {
     bits_grant(
         who,
@@ -83,7 +83,7 @@ pub fn bits_allow(files: &[u32], who: Subject, s: Slot, want: Rights) -> bool
 
 // The label of slot s grants the rights.
 pub fn label_allows(files: &[u32], policy: &[u8], who: Subject, s: Slot, want: Rights) -> bool
-    ensures { λ r. ⌜ r ≡ labelAllows (tab FILE (now (files .entry))) (now (policy .entry)) who s want ⌝ }
+    ensures { λ r. ⌜ r ≡ labelAllows (tab FILE-WIDTH (now (files .entry))) (now (policy .entry)) who s want ⌝ }
 {
     label_grants(policy, who, tables::files::label(files, s), want)
 }

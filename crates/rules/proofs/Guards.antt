@@ -6,7 +6,7 @@ use mathlib.Core.Bool.{true}
 use mathlib.Core.List.{List, [], _∷_, _++_}
 use lib.ListN.{take, set, replicate}
 use Rattle.rules.specs.Computing.{computing}
-use Rattle.rules.specs.Layout.{FILE, KIND, VERSION, PLAIN, PROCESS-LABEL, WORD-MAX, SLASH}
+use Rattle.rules.specs.Layout.{FILE-WIDTH, FILE-KIND, FILE-VERSION, PLAIN, PROCESS-LABEL, WORD-MAX, SLASH}
 use Rattle.rules.specs.Store.{Store, store, tab, procOf, block}
 use Rattle.rules.specs.Sound.{policySound, sizesSound}
 use Rattle.rules.specs.Calls.{Call}
@@ -102,7 +102,7 @@ read-in-mode-2 = refl
 -- ---- files that outlive their names
 
 -- "Freeing a slot when the last name goes, though a descriptor remains"
-freed-though-open : tab FILE (after (opens 2 FARES-NOW 1 ∷ unlinks 1 FARES-NOW ∷ []) .files) 2 KIND ≡ PLAIN
+freed-though-open : tab FILE-WIDTH (after (opens 2 FARES-NOW 1 ∷ unlinks 1 FARES-NOW ∷ []) .files) 2 FILE-KIND ≡ PLAIN
 unfolding computing afterFrom
 freed-though-open = refl
 
@@ -144,8 +144,8 @@ highest-free-slot = refl
 
 -- "a stamp of 4,294,967,295 is followed by 0"
 worn : Store
-worn = store (set (console .files) (FILE * 1 + VERSION) WORD-MAX) (console .contents) (console .openFiles) (console .processes)
+worn = store (set (console .files) (FILE-WIDTH * 1 + FILE-VERSION) WORD-MAX) (console .contents) (console .openFiles) (console .processes)
 
-version-saturates : tab FILE (afterFrom worn (creates 1 FARES-X ∷ []) .files) 1 VERSION ≡ 0
+version-saturates : tab FILE-WIDTH (afterFrom worn (creates 1 FARES-X ∷ []) .files) 1 FILE-VERSION ≡ 0
 unfolding computing afterFrom worn
 version-saturates = refl

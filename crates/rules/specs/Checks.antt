@@ -6,7 +6,7 @@ use mathlib.Core.List.{List, [], _∷_}
 use lib.Dec.{eqb, ltb}
 use Rattle.rules.specs.Choice.{every}
 use Rattle.rules.specs.Scan.{first}
-use Rattle.rules.specs.Layout.{SLOTS, OPEN-FILES, PROCESSES, DESCRIPTORS, KIND, LENGTH, LINKS, VERSION, FREE, SLOT, REFERENCES, USED, DIRENTS}
+use Rattle.rules.specs.Layout.{SLOTS, OPEN-FILES, PROCESSES, DESCRIPTORS, FILE-KIND, FILE-LENGTH, FILE-LINKS, FILE-VERSION, FREE, OPEN-SLOT, OPEN-REFERENCES, PROCESS-USED, DIRENTS}
 use Rattle.rules.specs.Store.{Tree, Table, slot, pidOf, isPid, fdOf, ofdOf, isDirent, bitsAt, up}
 use Rattle.rules.specs.Paths.{Name}
 use Rattle.rules.specs.Directories.{direntOf}
@@ -50,7 +50,7 @@ after (Stopped r k) f = Refused r k
 
 -- "a process number over 7 is 2"
 unfoldable pub inUse : Table → Pid → Bool
-inUse proc p = every (isPid p ∷ eqb (proc (p .0) USED) 1 ∷ [])
+inUse proc p = every (isPid p ∷ eqb (proc (p .0) PROCESS-USED) 1 ∷ [])
 
 -- "descriptor not held"; a descriptor over 7 holds nothing
 unfoldable pub held : Table → Pid → Fd → Bool
@@ -66,13 +66,13 @@ nameAbsent t d name = not (isDirent (direntOf (t .shown (d .0)) name))
 -- ---- "always the lowest free"; the number past the last where none is
 
 unfoldable pub slotFree : Table → ℕ → Bool
-slotFree file s = eqb (file s KIND) FREE
+slotFree file s = eqb (file s FILE-KIND) FREE
 
 abbrev pub freeSlot : Table → Slot
 freeSlot file = slot (first (slotFree file) 0 SLOTS)
 
 unfoldable pub ofdFree : Table → ℕ → Bool
-ofdFree openFiles e = eqb (openFiles e REFERENCES) 0
+ofdFree openFiles e = eqb (openFiles e OPEN-REFERENCES) 0
 
 abbrev pub freeOfd : Table → Ofd
 freeOfd openFiles = ofdOf (first (ofdFree openFiles) 0 OPEN-FILES)
@@ -84,7 +84,7 @@ abbrev pub freeFd : Table → Pid → Fd
 freeFd desc p = fdOf (first (fdFree desc p) 0 DESCRIPTORS)
 
 unfoldable pub pidFree : Table → ℕ → Bool
-pidFree proc p = eqb (proc p USED) 0
+pidFree proc p = eqb (proc p PROCESS-USED) 0
 
 abbrev pub freePid : Table → Pid
 freePid proc = pidOf (first (pidFree proc) 0 PROCESSES)
@@ -92,32 +92,32 @@ freePid proc = pidOf (first (pidFree proc) 0 PROCESSES)
 -- ---- a directory gains or loses a name: its length, and its version goes up by one
 
 abbrev pub gains : Table → Slot → Dirent → DirChange
-gains file d i = record { dir = d; dirent = i; length = up (file (d .0) LENGTH); version = up (file (d .0) VERSION) }
+gains file d i = record { dir = d; dirent = i; length = up (file (d .0) FILE-LENGTH); version = up (file (d .0) FILE-VERSION) }
 
 abbrev pub loses : Table → Slot → Dirent → DirChange
-loses file d i = record { dir = d; dirent = i; length = file (d .0) LENGTH - 1; version = up (file (d .0) VERSION) }
+loses file d i = record { dir = d; dirent = i; length = file (d .0) FILE-LENGTH - 1; version = up (file (d .0) FILE-VERSION) }
 
 -- ---- "A plain file with no name and no open entry is freed at once, and so is a removed directory"
 
 -- the record of a freed slot: its version goes up by one
 abbrev pub freed : Table → Slot → Record
-freed file s = record { kind = FREE; owner = 0; bits = bitsAt 0; label = 0; length = 0; links = 0; version = up (file (s .0) VERSION) }
+freed file s = record { kind = FREE; owner = 0; bits = bitsAt 0; label = 0; length = 0; links = 0; version = up (file (s .0) FILE-VERSION) }
 
 -- the plain file in slot s loses a name
 unfoldable pub unnaming : (file openFiles : Table) → Slot → Unnamed
 unnaming file openFiles s =
-    cond (every (eqb (file (s .0) LINKS - 1) 0 ∷ not (isOpen openFiles s) ∷ [])) (unnamed.Freed s (freed file s))
-    (unnamed.Kept s (file (s .0) LINKS - 1))
+    cond (every (eqb (file (s .0) FILE-LINKS - 1) 0 ∷ not (isOpen openFiles s) ∷ [])) (unnamed.Freed s (freed file s))
+    (unnamed.Kept s (file (s .0) FILE-LINKS - 1))
 
 -- open file e on slot s goes: the file goes with it if it has no name and no other open file
 unfoldable pub closing : (file openFiles : Table) → Ofd → Slot → Release
 closing file openFiles e s =
-    cond (every (eqb (file (s .0) LINKS) 0 ∷ not (openBut openFiles e s) ∷ [])) (release.Freed e s (freed file s))
+    cond (every (eqb (file (s .0) FILE-LINKS) 0 ∷ not (openBut openFiles e s) ∷ [])) (release.Freed e s (freed file s))
     (release.Gone e)
 
 -- open file e loses a reference
 unfoldable pub dropping : (file openFiles : Table) → Ofd → Release
-dropping file openFiles e = cond (ltb 1 (openFiles (e .0) REFERENCES)) (release.Kept e (openFiles (e .0) REFERENCES - 1)) (closing file openFiles e (slot (openFiles (e .0) SLOT)))
+dropping file openFiles e = cond (ltb 1 (openFiles (e .0) OPEN-REFERENCES)) (release.Kept e (openFiles (e .0) OPEN-REFERENCES - 1)) (closing file openFiles e (slot (openFiles (e .0) OPEN-SLOT)))
 
 -- a descriptor is emptied
 unfoldable pub releasing : (file openFiles desc : Table) → Pid → Fd → Release
@@ -126,7 +126,7 @@ releasing file openFiles desc p i = cond (held desc p i) (dropping file openFile
 -- ---- a child shares its parent's open file
 
 abbrev pub sharing : Table → Ofd → Share
-sharing openFiles e = share.Held e (up (openFiles (e .0) REFERENCES))
+sharing openFiles e = share.Held e (up (openFiles (e .0) OPEN-REFERENCES))
 
 unfoldable pub shareOf : (openFiles desc : Table) → Pid → Fd → Share
 shareOf openFiles desc p i = cond (held desc p i) (sharing openFiles (ofdHeld desc p i)) share.Nothing

@@ -2,7 +2,7 @@
 use Prim.Native.Nat.{ℕ, zero, suc, _-_, _*_}
 use mathlib.Core.List.{List, [], _∷_, _++_}
 use lib.ListN.{length, replicate}
-use Rattle.rules.specs.Layout.{SLOTS, BLOCK, FILE, OPEN, OPEN-FILES, PROCESS, PROCESSES, LABELS, RIGHTS, NONE}
+use Rattle.rules.specs.Layout.{SLOTS, BLOCK, FILE-WIDTH, OPEN-FILE-WIDTH, OPEN-FILES, PROCESS-WIDTH, PROCESSES, LABELS, RIGHTS-SIZE, NO-TRANSITION}
 use Rattle.rules.specs.Store.{Store, store, zeros, slot}
 use Rattle.rules.specs.Paths.{Name}
 use Rattle.rules.specs.Directories.{dirent}
@@ -24,7 +24,7 @@ filled n l = l ++ zeros (n - length l)
 -- 0 root, owner 0, bits 5; 1 /fares, owner 10, bits 5; 2 /fares/now, owner 10, bits 4; 3 /key, owner 10, bits 0, label 3
 abbrev pub consoleFiles : List ℕ
 consoleFiles =
-    filled (SLOTS * FILE)
+    filled (SLOTS * FILE-WIDTH)
     (2 ∷ 0 ∷ 5 ∷ 0 ∷ 2 ∷ 0 ∷ 0 ∷
     2 ∷ 10 ∷ 5 ∷ 0 ∷ 1 ∷ 1 ∷ 0 ∷
     1 ∷ 10 ∷ 4 ∷ 0 ∷ 5 ∷ 1 ∷ 0 ∷
@@ -41,14 +41,14 @@ consoleContents key =
 
 -- processes 0, 1, 2: users 0, 10, 20, labels 0, 1, 2, holding nothing
 abbrev pub consoleProcesses : List ℕ
-consoleProcesses = filled (PROCESSES * PROCESS) (filled PROCESS (1 ∷ 0 ∷ 0 ∷ []) ++ filled PROCESS (1 ∷ 10 ∷ 1 ∷ []) ++ filled PROCESS (1 ∷ 20 ∷ 2 ∷ []))
+consoleProcesses = filled (PROCESSES * PROCESS-WIDTH) (filled PROCESS-WIDTH (1 ∷ 0 ∷ 0 ∷ []) ++ filled PROCESS-WIDTH (1 ∷ 10 ∷ 1 ∷ []) ++ filled PROCESS-WIDTH (1 ∷ 20 ∷ 2 ∷ []))
 
 unfoldable pub consoleWith : (key : List ℕ) → Store
-consoleWith key = store consoleFiles (consoleContents key) (zeros (OPEN-FILES * OPEN)) consoleProcesses
+consoleWith key = store consoleFiles (consoleContents key) (zeros (OPEN-FILES * OPEN-FILE-WIDTH)) consoleProcesses
 
 unfoldable pub console : Store
 console = consoleWith (1 ∷ 2 ∷ 3 ∷ 4 ∷ [])
 
 -- "Rights over label 0: 7, 7, 5; over label 3: 0, 2, 0; all else 0. No transitions"
 unfoldable pub consolePolicy : List ℕ
-consolePolicy = filled RIGHTS (filled LABELS (7 ∷ []) ++ filled LABELS (7 ∷ 0 ∷ 0 ∷ 2 ∷ []) ++ filled LABELS (5 ∷ [])) ++ replicate RIGHTS NONE
+consolePolicy = filled RIGHTS-SIZE (filled LABELS (7 ∷ []) ++ filled LABELS (7 ∷ 0 ∷ 0 ∷ 2 ∷ []) ++ filled LABELS (5 ∷ [])) ++ replicate RIGHTS-SIZE NO-TRANSITION

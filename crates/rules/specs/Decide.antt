@@ -4,7 +4,7 @@ use mathlib.Core.Bool.{Bool, true, false, cond, not}
 use mathlib.Core.List.{List, [], _∷_}
 use lib.Dec.{eqb, ltb, leb}
 use lib.ListN.{length}
-use Rattle.rules.specs.Layout.{BLOCK, DESCRIPTORS, PROCESSES, PLAIN, DIRECTORY, LENGTH, VERSION, SLOT, MODE, OFFSET, REFERENCES, USER, PROCESS-LABEL}
+use Rattle.rules.specs.Layout.{BLOCK, DESCRIPTORS, PROCESSES, PLAIN, DIRECTORY, FILE-LENGTH, FILE-VERSION, OPEN-SLOT, OPEN-MODE, OPEN-OFFSET, OPEN-REFERENCES, PROCESS-USER, PROCESS-LABEL}
 use Rattle.rules.specs.Store.{Table, View, slot, isPid, isFd, modeAt, subjectOf, up, plus}
 use Rattle.rules.specs.Rights.{bitsOf, reads, writes, appends}
 use Rattle.rules.specs.Calls.{Call, operation, wellFormed}
@@ -37,13 +37,13 @@ decideClose file openFiles desc p i = need (held desc p i) NotHeld (closed file 
 
 -- what the file of open file e has from its offset on
 abbrev pub remaining : (file openFiles : Table) → Ofd → ℕ
-remaining file openFiles e = file (openFiles (e .0) SLOT) LENGTH - openFiles (e .0) OFFSET
+remaining file openFiles e = file (openFiles (e .0) OPEN-SLOT) FILE-LENGTH - openFiles (e .0) OPEN-OFFSET
 
 abbrev pub fetching : Table → Ofd → ℕ → Decision
-fetching openFiles e n = Granted n (output.Bytes (slot (openFiles (e .0) SLOT)) (openFiles (e .0) OFFSET) n) (effect.Moved e (plus (openFiles (e .0) OFFSET) n))
+fetching openFiles e n = Granted n (output.Bytes (slot (openFiles (e .0) OPEN-SLOT)) (openFiles (e .0) OPEN-OFFSET) n) (effect.Moved e (plus (openFiles (e .0) OPEN-OFFSET) n))
 
 unfoldable pub readOpen : (file openFiles : Table) → Ofd → (size : ℕ) → Decision
-readOpen file openFiles e size = need (reads (modeAt (openFiles (e .0) MODE))) WrongDirection (fetching openFiles e (min size (remaining file openFiles e)))
+readOpen file openFiles e size = need (reads (modeAt (openFiles (e .0) OPEN-MODE))) WrongDirection (fetching openFiles e (min size (remaining file openFiles e)))
 
 unfoldable pub decideRead : (file openFiles desc : Table) → Pid → Fd → (size : ℕ) → Decision
 decideRead file openFiles desc p i size = need (held desc p i) NotHeld (readOpen file openFiles (ofdHeld desc p i) size)
@@ -52,28 +52,28 @@ decideRead file openFiles desc p i size = need (held desc p i) NotHeld (readOpen
 -- of what was written; value is the count. Zero bytes change nothing"
 
 unfoldable pub writeAt : (file openFiles : Table) → Ofd → ℕ
-writeAt file openFiles e = cond (appends (modeAt (openFiles (e .0) MODE))) (file (openFiles (e .0) SLOT) LENGTH) (openFiles (e .0) OFFSET)
+writeAt file openFiles e = cond (appends (modeAt (openFiles (e .0) OPEN-MODE))) (file (openFiles (e .0) OPEN-SLOT) FILE-LENGTH) (openFiles (e .0) OPEN-OFFSET)
 
 abbrev pub placement : Table → Ofd → Slot → (at n : ℕ) → Placement
 placement file e s at n = record {
   ofd = e;
   slot = s;
-  end = file (s .0) LENGTH;
-  gap = at - file (s .0) LENGTH;
+  end = file (s .0) FILE-LENGTH;
+  gap = at - file (s .0) FILE-LENGTH;
   at = at;
-  length = max (file (s .0) LENGTH) (plus at n);
-  version = up (file (s .0) VERSION);
+  length = max (file (s .0) FILE-LENGTH) (plus at n);
+  version = up (file (s .0) FILE-VERSION);
   offset = plus at n;
 }
 
 unfoldable pub writeFile : (file openFiles : Table) → Ofd → (at n : ℕ) → Decision
-writeFile file openFiles e at n = need (leb (at + n) BLOCK) TooLong (granted n (effect.Stored (placement file e (slot (openFiles (e .0) SLOT)) at n)))
+writeFile file openFiles e at n = need (leb (at + n) BLOCK) TooLong (granted n (effect.Stored (placement file e (slot (openFiles (e .0) OPEN-SLOT)) at n)))
 
 unfoldable pub writeSome : (file openFiles : Table) → Ofd → (n : ℕ) → Decision
 writeSome file openFiles e n = cond (eqb n 0) (granted 0 effect.Nothing) (writeFile file openFiles e (writeAt file openFiles e) n)
 
 unfoldable pub writeOpen : (file openFiles : Table) → Ofd → (n : ℕ) → Decision
-writeOpen file openFiles e n = need (writes (modeAt (openFiles (e .0) MODE))) WrongDirection (writeSome file openFiles e n)
+writeOpen file openFiles e n = need (writes (modeAt (openFiles (e .0) OPEN-MODE))) WrongDirection (writeSome file openFiles e n)
 
 unfoldable pub decideWrite : (file openFiles desc : Table) → Pid → Fd → (n : ℕ) → Decision
 decideWrite file openFiles desc p i n = need (held desc p i) NotHeld (writeOpen file openFiles (ofdHeld desc p i) n)
@@ -89,7 +89,7 @@ decideSeek desc p i n = need (held desc p i) NotHeld (sought desc p i n)
 -- ---- 14. Duplicate (4, 13): "a descriptor for the same entry"; the value is that descriptor
 
 abbrev pub duplicated : Table → Ofd → Fd → Decision
-duplicated openFiles e i = granted (i .0) (effect.Duplicated i e (up (openFiles (e .0) REFERENCES)))
+duplicated openFiles e i = granted (i .0) (effect.Duplicated i e (up (openFiles (e .0) OPEN-REFERENCES)))
 
 unfoldable pub duplicateTo : Table → Ofd → Fd → Decision
 duplicateTo openFiles e i = need (isFd i) TableFull (duplicated openFiles e i)

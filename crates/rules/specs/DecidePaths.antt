@@ -4,7 +4,7 @@ use mathlib.Core.Bool.{Bool, true, false, cond, not}
 use mathlib.Core.List.{List, [], _∷_}
 use lib.Dec.{eqb, ltb}
 use Rattle.rules.specs.Choice.{every}
-use Rattle.rules.specs.Layout.{SLOTS, OPEN-FILES, DESCRIPTORS, DIRENTS, OWNER, BITS, LABEL, LENGTH, LINKS, VERSION, PLAIN, DIRECTORY}
+use Rattle.rules.specs.Layout.{SLOTS, OPEN-FILES, DESCRIPTORS, DIRENTS, FILE-OWNER, FILE-BITS, FILE-LABEL, FILE-LENGTH, FILE-LINKS, FILE-VERSION, PLAIN, DIRECTORY}
 use Rattle.rules.specs.Store.{Table, Tree, slot, isSlot, isFd, isOfd, isDirent, bitsAt, recordOf, up}
 use Rattle.rules.specs.Rights.{READ, WRITE, EXECUTE, owns, moved, modeOf, modeRights}
 use Rattle.rules.specs.Paths.{Name, names, lastName}
@@ -46,12 +46,12 @@ allowed file Q who s want d =
 abbrev pub truncated : Table → Slot → Record
 truncated file s = record {
   kind = PLAIN;
-  owner = file (s .0) OWNER;
-  bits = bitsAt (file (s .0) BITS);
-  label = file (s .0) LABEL;
+  owner = file (s .0) FILE-OWNER;
+  bits = bitsAt (file (s .0) FILE-BITS);
+  label = file (s .0) FILE-LABEL;
   length = 0;
-  links = file (s .0) LINKS;
-  version = up (file (s .0) VERSION);
+  links = file (s .0) FILE-LINKS;
+  version = up (file (s .0) FILE-VERSION);
 }
 
 abbrev pub newOpen : Slot → OpenMode → Fd → Ofd → NewOpen
@@ -60,7 +60,7 @@ newOpen s m i e = record { fd = i; ofd = e; slot = s; mode = m }
 -- an empty file is not truncated
 unfoldable pub opening : Table → Slot → OpenMode → (truncating : Bool) → Fd → Ofd → Effect
 opening file s m truncating i e =
-    cond (every (truncating ∷ ltb 0 (file (s .0) LENGTH) ∷ [])) (effect.Truncated (newOpen s m i e) (truncated file s))
+    cond (every (truncating ∷ ltb 0 (file (s .0) FILE-LENGTH) ∷ [])) (effect.Truncated (newOpen s m i e) (truncated file s))
     (effect.Opened (newOpen s m i e))
 
 abbrev pub opened : Table → Slot → OpenMode → (truncating : Bool) → Fd → Ofd → Decision
@@ -87,7 +87,7 @@ decideOpen Q t openFiles desc p who n path = after (walkPath t Q who path) (λ a
 -- place (13). Owner is the caller's user, bits as given, label the parent's. Value: the slot"
 
 abbrev pub newRecord : Table → Subject → (kind : ℕ) → Bits → (d s : Slot) → Record
-newRecord file who kind bits d s = record { kind = kind; owner = who .user; bits = bits; label = file (d .0) LABEL; length = 0; links = 1; version = file (s .0) VERSION }
+newRecord file who kind bits d s = record { kind = kind; owner = who .user; bits = bits; label = file (d .0) FILE-LABEL; length = 0; links = 1; version = file (s .0) FILE-VERSION }
 
 abbrev pub created : Table → Subject → (kind : ℕ) → Bits → (d s : Slot) → Dirent → Decision
 created file who kind bits d s i = granted (s .0) (effect.Created (gains file d i) s (newRecord file who kind bits d s))
@@ -125,7 +125,7 @@ abbrev pub removed : Table → Location → Decision
 removed file at = granted 0 (effect.Removed (loses file (at .dir) (at .dirent)) (at .slot) (freed file (at .slot)))
 
 abbrev pub removeEmpty : Table → Location → Decision
-removeEmpty file at = need (eqb (file (at .slot .0) LENGTH) 0) NotEmpty (removed file at)
+removeEmpty file at = need (eqb (file (at .slot .0) FILE-LENGTH) 0) NotEmpty (removed file at)
 
 unfoldable pub removeAt : List ℕ → Table → Subject → Location → Decision
 removeAt Q file who at =
@@ -139,7 +139,7 @@ decideRemove Q t who path = after (walkPath t Q who path) (removeAt Q (t .file) 
 -- ---- 6. Link: "walk the old; plain (8); the new as in create, but only a place is needed. Value 0"
 
 abbrev pub linked : Table → (old d : Slot) → Dirent → Decision
-linked file old d i = granted 0 (effect.Linked (gains file d i) old (up (file (old .0) LINKS)))
+linked file old d i = granted 0 (effect.Linked (gains file d i) old (up (file (old .0) FILE-LINKS)))
 
 unfoldable pub linkRoom : Table → (old d : Slot) → Dirent → Decision
 linkRoom file old d i = need (isDirent i) TableFull (linked file old d i)
@@ -177,7 +177,7 @@ decideList Q t who k path = after (walkPath t Q who path) (λ at. listAt Q t who
 
 unfoldable pub changeBitsAt : List ℕ → Table → Subject → Bits → Slot → Decision
 changeBitsAt Q file who bits s =
-    need (owns who (file (s .0) OWNER)) BitsForbid
+    need (owns who (file (s .0) FILE-OWNER)) BitsForbid
     (need (labelAllows file Q who s WRITE) LabelForbids
     (granted 0 (effect.BitsChanged s bits)))
 
@@ -196,7 +196,7 @@ decideStat Q t who path = after (walkPath t Q who path) (λ at. described (t .fi
 -- ---- 17. Execute: "walk; plain (8); execute (9, 10). The label moves by the transition, if any"
 
 abbrev pub executed : List ℕ → Table → Subject → Slot → Decision
-executed Q file who s = granted 0 (effect.Relabelled (moved Q (who .label) (file (s .0) LABEL)))
+executed Q file who s = granted 0 (effect.Relabelled (moved Q (who .label) (file (s .0) FILE-LABEL)))
 
 unfoldable pub executeAt : List ℕ → Table → Subject → Slot → Decision
 executeAt Q file who s =

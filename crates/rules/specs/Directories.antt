@@ -7,7 +7,7 @@ use lib.Dec.{eqb, ltb}
 use lib.ListN.{getD, take, drop}
 use Rattle.rules.specs.Choice.{every}
 use Rattle.rules.specs.Scan.{count, first}
-use Rattle.rules.specs.Layout.{NAME, DIRENT, DIRENTS}
+use Rattle.rules.specs.Layout.{NAME, DIRENT-WIDTH, DIRENTS}
 use Rattle.rules.specs.Store.{entry}
 use Rattle.rules.specs.Paths.{Name, sameName}
 use Rattle.rules.specs.declared.ids.Slot.{Slot}
@@ -15,7 +15,7 @@ use Rattle.rules.specs.declared.ids.Dirent.{Dirent}
 
 -- entry i from its first byte on
 abbrev pub direntAt : List ℕ → ℕ → List ℕ
-direntAt D i = drop (DIRENT * i) D
+direntAt D i = drop (DIRENT-WIDTH * i) D
 
 unfoldable pub direntSlot : List ℕ → ℕ → ℕ
 direntSlot D i = getD (direntAt D i) NAME 0

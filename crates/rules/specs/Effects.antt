@@ -3,7 +3,7 @@
 use Prim.Native.Nat.{ℕ, _+_, _*_}
 use mathlib.Core.List.{List, [], _∷_, _++_}
 use Rattle.rules.specs.Scan.{repeat}
-use Rattle.rules.specs.Layout.{DIRENT, DESCRIPTORS, BITS, LENGTH, LINKS, VERSION, OFFSET, REFERENCES, PROCESS-LABEL}
+use Rattle.rules.specs.Layout.{DIRENT-WIDTH, DESCRIPTORS, FILE-BITS, FILE-LENGTH, FILE-LINKS, FILE-VERSION, OPEN-OFFSET, OPEN-REFERENCES, PROCESS-LABEL}
 use Rattle.rules.specs.Store.{Store, View, view, fdOf, up, zeros, Change, fileWord, fileTo, clearTo, bytesTo, openWord, openTo, openZero, descTo, procWord, procTo, procZero, applyAll}
 use Rattle.rules.specs.Paths.{Name, names, lastName}
 use Rattle.rules.specs.Directories.{dirent}
@@ -34,22 +34,22 @@ words r = r .kind ∷ r .owner ∷ r .bits .0 ∷ r .label ∷ r .length ∷ r .
 
 -- the directory's new length and version
 abbrev pub dirWords : DirChange → List Change
-dirWords d = fileWord (d .dir .0) LENGTH (d .length) ∷ fileWord (d .dir .0) VERSION (d .version) ∷ []
+dirWords d = fileWord (d .dir .0) FILE-LENGTH (d .length) ∷ fileWord (d .dir .0) FILE-VERSION (d .version) ∷ []
 
 unfoldable pub nameChanges : Name → Slot → DirChange → List Change
-nameChanges name s d = bytesTo (d .dir .0) (DIRENT * d .dirent .0) (dirent name s) ∷ dirWords d
+nameChanges name s d = bytesTo (d .dir .0) (DIRENT-WIDTH * d .dirent .0) (dirent name s) ∷ dirWords d
 
 unfoldable pub unnameChanges : DirChange → List Change
-unnameChanges d = bytesTo (d .dir .0) (DIRENT * d .dirent .0) (zeros DIRENT) ∷ dirWords d
+unnameChanges d = bytesTo (d .dir .0) (DIRENT-WIDTH * d .dirent .0) (zeros DIRENT-WIDTH) ∷ dirWords d
 
 unfoldable pub createChanges : Name → DirChange → Slot → Record → List Change
 createChanges name d s r = fileTo (s .0) (words r) ∷ nameChanges name s d
 
 unfoldable pub linkChanges : Name → DirChange → Slot → ℕ → List Change
-linkChanges name d s links = fileWord (s .0) LINKS links ∷ nameChanges name s d
+linkChanges name d s links = fileWord (s .0) FILE-LINKS links ∷ nameChanges name s d
 
 unfoldable pub unnamedChanges : Unnamed → List Change
-unnamedChanges (unnamed.Kept s links) = fileWord (s .0) LINKS links ∷ []
+unnamedChanges (unnamed.Kept s links) = fileWord (s .0) FILE-LINKS links ∷ []
 unnamedChanges (unnamed.Freed s r) = clearTo (s .0) (words r) ∷ []
 
 unfoldable pub unlinkChanges : DirChange → Unnamed → List Change
@@ -73,7 +73,7 @@ truncateChanges p n r = openChanges p n ++ (clearTo (n .slot .0) (words r) ∷ [
 
 unfoldable pub releaseChanges : Release → List Change
 releaseChanges release.Nothing = []
-releaseChanges (release.Kept e refs) = openWord (e .0) REFERENCES refs ∷ []
+releaseChanges (release.Kept e refs) = openWord (e .0) OPEN-REFERENCES refs ∷ []
 releaseChanges (release.Gone e) = openZero (e .0) ∷ []
 releaseChanges (release.Freed e s r) = openZero (e .0) ∷ clearTo (s .0) (words r) ∷ []
 
@@ -84,20 +84,20 @@ unfoldable pub storeChanges : List ℕ → Placement → List Change
 storeChanges «data» w =
     bytesTo (w .slot .0) (w .end) (zeros (w .gap))
     ∷ bytesTo (w .slot .0) (w .at) «data»
-    ∷ fileWord (w .slot .0) LENGTH (w .length)
-    ∷ fileWord (w .slot .0) VERSION (w .version)
-    ∷ openWord (w .ofd .0) OFFSET (w .offset)
+    ∷ fileWord (w .slot .0) FILE-LENGTH (w .length)
+    ∷ fileWord (w .slot .0) FILE-VERSION (w .version)
+    ∷ openWord (w .ofd .0) OPEN-OFFSET (w .offset)
     ∷ []
 
 unfoldable pub duplicateChanges : Pid → Fd → Ofd → (refs : ℕ) → List Change
-duplicateChanges p i e refs = descTo (p .0) (i .0) (descWord e) ∷ openWord (e .0) REFERENCES refs ∷ []
+duplicateChanges p i e refs = descTo (p .0) (i .0) (descWord e) ∷ openWord (e .0) OPEN-REFERENCES refs ∷ []
 
 -- ---- fork and exit, one descriptor at a time
 
 -- the child's descriptor i is what its parent's is
 unfoldable pub shareChanges : (child : Pid) → Fd → Share → List Change
 shareChanges q i share.Nothing = descTo (q .0) (i .0) 0 ∷ []
-shareChanges q i (share.Held e refs) = descTo (q .0) (i .0) (descWord e) ∷ openWord (e .0) REFERENCES refs ∷ []
+shareChanges q i (share.Held e refs) = descTo (q .0) (i .0) (descWord e) ∷ openWord (e .0) OPEN-REFERENCES refs ∷ []
 
 unfoldable pub shared : (parent child : Pid) → ℕ → Store → Store
 shared p q i t = applyAll (shareChanges q (fdOf i) (shareOf (view t .openFiles) (view t .desc) p (fdOf i))) t
@@ -125,10 +125,10 @@ carryOut c (effect.Created d s r) t = applyAll (createChanges (lastName (names (
 carryOut c (effect.Unlinked d u) t = applyAll (unlinkChanges d u) t
 carryOut c (effect.Removed d s r) t = applyAll (removeChanges d s r) t
 carryOut c (effect.Linked d s links) t = applyAll (linkChanges (lastName (names (c .«data»))) d s links) t
-carryOut c (effect.BitsChanged s bits) t = applyAll (fileWord (s .0) BITS (bits .0) ∷ []) t
+carryOut c (effect.BitsChanged s bits) t = applyAll (fileWord (s .0) FILE-BITS (bits .0) ∷ []) t
 carryOut c (effect.Closed i r) t = applyAll (closeChanges (c .process) i r) t
 carryOut c (effect.Stored w) t = applyAll (storeChanges (c .«data») w) t
-carryOut c (effect.Moved e offset) t = applyAll (openWord (e .0) OFFSET offset ∷ []) t
+carryOut c (effect.Moved e offset) t = applyAll (openWord (e .0) OPEN-OFFSET offset ∷ []) t
 carryOut c (effect.Duplicated i e refs) t = applyAll (duplicateChanges (c .process) i e refs) t
 carryOut c (effect.Forked q who) t = applyAll (forkChanges q who) (sharedAll (c .process) q t)
 carryOut c effect.Exited t = applyAll (procZero (c .process .0) ∷ []) (releasedAll (c .process) t)

@@ -14,8 +14,8 @@ BLOCK = 512
 abbrev pub DIRENTS : ℕ
 DIRENTS = 16
 
-abbrev pub DIRENT : ℕ
-DIRENT = 16
+abbrev pub DIRENT-WIDTH : ℕ
+DIRENT-WIDTH = 16
 
 -- open files (the paper's open entries)
 abbrev pub OPEN-FILES : ℕ
@@ -42,31 +42,31 @@ PATH = 64
 
 -- ---- a file's record
 
-abbrev pub FILE : ℕ
-FILE = 7
+abbrev pub FILE-WIDTH : ℕ
+FILE-WIDTH = 7
 
-abbrev pub KIND : ℕ
-KIND = 0
+abbrev pub FILE-KIND : ℕ
+FILE-KIND = 0
 
-abbrev pub OWNER : ℕ
-OWNER = 1
+abbrev pub FILE-OWNER : ℕ
+FILE-OWNER = 1
 
-abbrev pub BITS : ℕ
-BITS = 2
+abbrev pub FILE-BITS : ℕ
+FILE-BITS = 2
 
-abbrev pub LABEL : ℕ
-LABEL = 3
+abbrev pub FILE-LABEL : ℕ
+FILE-LABEL = 3
 
-abbrev pub LENGTH : ℕ
-LENGTH = 4
+abbrev pub FILE-LENGTH : ℕ
+FILE-LENGTH = 4
 
 -- how many directory entries name it (the paper's names)
-abbrev pub LINKS : ℕ
-LINKS = 5
+abbrev pub FILE-LINKS : ℕ
+FILE-LINKS = 5
 
 -- the paper's stamp
-abbrev pub VERSION : ℕ
-VERSION = 6
+abbrev pub FILE-VERSION : ℕ
+FILE-VERSION = 6
 
 -- kinds
 abbrev pub FREE : ℕ
@@ -80,35 +80,35 @@ DIRECTORY = 2
 
 -- ---- an open file
 
-abbrev pub OPEN : ℕ
-OPEN = 4
+abbrev pub OPEN-FILE-WIDTH : ℕ
+OPEN-FILE-WIDTH = 4
 
-abbrev pub SLOT : ℕ
-SLOT = 0
+abbrev pub OPEN-SLOT : ℕ
+OPEN-SLOT = 0
 
-abbrev pub MODE : ℕ
-MODE = 1
+abbrev pub OPEN-MODE : ℕ
+OPEN-MODE = 1
 
 -- the paper's position
-abbrev pub OFFSET : ℕ
-OFFSET = 2
+abbrev pub OPEN-OFFSET : ℕ
+OPEN-OFFSET = 2
 
-abbrev pub REFERENCES : ℕ
-REFERENCES = 3
+abbrev pub OPEN-REFERENCES : ℕ
+OPEN-REFERENCES = 3
 
 -- ---- a process: three words of its own, then its descriptors (0 nothing, e + 1 open file e)
 
-abbrev pub PROCESS : ℕ
-PROCESS = 11
+abbrev pub PROCESS-WIDTH : ℕ
+PROCESS-WIDTH = 11
 
-abbrev pub OWN : ℕ
-OWN = 3
+abbrev pub PROCESS-DESCRIPTOR : ℕ
+PROCESS-DESCRIPTOR = 3
 
-abbrev pub USED : ℕ
-USED = 0
+abbrev pub PROCESS-USED : ℕ
+PROCESS-USED = 0
 
-abbrev pub USER : ℕ
-USER = 1
+abbrev pub PROCESS-USER : ℕ
+PROCESS-USER = 1
 
 -- a process's label
 abbrev pub PROCESS-LABEL : ℕ
@@ -116,12 +116,12 @@ PROCESS-LABEL = 2
 
 -- ---- the policy: rights, then transitions
 
-abbrev pub RIGHTS : ℕ
-RIGHTS = LABELS * LABELS
+abbrev pub RIGHTS-SIZE : ℕ
+RIGHTS-SIZE = LABELS * LABELS
 
 -- no transition
-abbrev pub NONE : ℕ
-NONE = 255
+abbrev pub NO-TRANSITION : ℕ
+NO-TRANSITION = 255
 
 -- ---- largest values
 

@@ -5,7 +5,7 @@ use mathlib.Core.List.{List, [], _∷_}
 use lib.Dec.{eqb, ltb, leb}
 use lib.ListN.{getD}
 use Rattle.rules.specs.Choice.{every, some, implies}
-use Rattle.rules.specs.Layout.{LABELS, RIGHTS, NONE, RIGHTS-MAX, BITS-MAX, MODE-MAX}
+use Rattle.rules.specs.Layout.{LABELS, RIGHTS-SIZE, NO-TRANSITION, RIGHTS-MAX, BITS-MAX, MODE-MAX}
 use Rattle.rules.specs.declared.rights.Rights.{Rights}
 use Rattle.rules.specs.declared.rights.RightsNumber.{RightsNumber}
 use Rattle.rules.specs.declared.rights.RightsNumber.the-variants as rights
@@ -135,8 +135,8 @@ labelGrants Q who label want = covers (policyRights Q (who .label) label) want
 
 -- the transition from process label l by program label m: a label, or 255 for none
 unfoldable pub transition : List ℕ → ℕ → ℕ → ℕ
-transition Q l m = getD Q (RIGHTS + (LABELS * l + m)) 0
+transition Q l m = getD Q (RIGHTS-SIZE + (LABELS * l + m)) 0
 
 -- "The label moves by the transition, if any"
 unfoldable pub moved : List ℕ → ℕ → ℕ → ℕ
-moved Q l m = cond (eqb (transition Q l m) NONE) l (transition Q l m)
+moved Q l m = cond (eqb (transition Q l m) NO-TRANSITION) l (transition Q l m)

@@ -6,8 +6,8 @@ use lib.Dec.{eqb, ltb, leb}
 use lib.ListN.{length, getD, drop}
 use Rattle.rules.specs.Choice.{every, some, implies}
 use Rattle.rules.specs.Scan.{all, any, count, total, first}
-use Rattle.rules.specs.Layout.{SLOTS, BLOCK, DIRENT, DIRENTS, NAME, NAMES, OPEN-FILES, PROCESSES, DESCRIPTORS, FILE, OPEN, PROCESS, RIGHTS, NONE, SLASH}
-use Rattle.rules.specs.Layout.{KIND, OWNER, BITS, LABEL, LENGTH, LINKS, VERSION, FREE, PLAIN, DIRECTORY, SLOT, MODE, OFFSET, REFERENCES, USED, USER, PROCESS-LABEL}
+use Rattle.rules.specs.Layout.{SLOTS, BLOCK, DIRENT-WIDTH, DIRENTS, NAME, NAMES, OPEN-FILES, PROCESSES, DESCRIPTORS, FILE-WIDTH, OPEN-FILE-WIDTH, PROCESS-WIDTH, RIGHTS-SIZE, NO-TRANSITION, SLASH}
+use Rattle.rules.specs.Layout.{FILE-KIND, FILE-OWNER, FILE-BITS, FILE-LABEL, FILE-LENGTH, FILE-LINKS, FILE-VERSION, FREE, PLAIN, DIRECTORY, OPEN-SLOT, OPEN-MODE, OPEN-OFFSET, OPEN-REFERENCES, PROCESS-USED, PROCESS-USER, PROCESS-LABEL}
 use Rattle.rules.specs.Layout.{KIND-MAX, USER-MAX, LABEL-MAX, WORD-MAX}
 use Rattle.rules.specs.Store.{Store, Table, Tree, View, view, slot, ofdOf}
 use Rattle.rules.specs.Rights.{rightsKnown, bitsKnown, modeOf, modeKept}
@@ -21,8 +21,8 @@ use Rattle.rules.specs.declared.ids.Ofd.{Ofd}
 
 unfoldable pub sizesSound : Store → Bool
 sizesSound s =
-    every (eqb (length (s .files)) (SLOTS * FILE) ∷ eqb (length (s .contents)) (SLOTS * BLOCK)
-    ∷ eqb (length (s .openFiles)) (OPEN-FILES * OPEN) ∷ eqb (length (s .processes)) (PROCESSES * PROCESS) ∷ [])
+    every (eqb (length (s .files)) (SLOTS * FILE-WIDTH) ∷ eqb (length (s .contents)) (SLOTS * BLOCK)
+    ∷ eqb (length (s .openFiles)) (OPEN-FILES * OPEN-FILE-WIDTH) ∷ eqb (length (s .processes)) (PROCESSES * PROCESS-WIDTH) ∷ [])
 
 -- ---- the policy: rights 0 to 7; transitions to a label, or 255
 
@@ -30,21 +30,21 @@ unfoldable pub rightSound : List ℕ → ℕ → Bool
 rightSound Q i = rightsKnown (getD Q i 0)
 
 unfoldable pub transitionSound : List ℕ → ℕ → Bool
-transitionSound Q i = some (leb (getD Q i 0) LABEL-MAX ∷ eqb (getD Q i 0) NONE ∷ [])
+transitionSound Q i = some (leb (getD Q i 0) LABEL-MAX ∷ eqb (getD Q i 0) NO-TRANSITION ∷ [])
 
 unfoldable pub policySound : List ℕ → Bool
-policySound Q = every (eqb (length Q) (RIGHTS + RIGHTS) ∷ all (rightSound Q) 0 RIGHTS ∷ all (transitionSound Q) RIGHTS (RIGHTS + RIGHTS) ∷ [])
+policySound Q = every (eqb (length Q) (RIGHTS-SIZE + RIGHTS-SIZE) ∷ all (rightSound Q) 0 RIGHTS-SIZE ∷ all (transitionSound Q) RIGHTS-SIZE (RIGHTS-SIZE + RIGHTS-SIZE) ∷ [])
 
 -- ---- a file's record: "all fields in range"; "A free record is zero but for its stamp"
 
 unfoldable pub recordFree : Table → ℕ → Bool
 recordFree file s =
-    every (eqb (file s OWNER) 0 ∷ eqb (file s BITS) 0 ∷ eqb (file s LABEL) 0 ∷ eqb (file s LENGTH) 0 ∷ eqb (file s LINKS) 0 ∷ [])
+    every (eqb (file s FILE-OWNER) 0 ∷ eqb (file s FILE-BITS) 0 ∷ eqb (file s FILE-LABEL) 0 ∷ eqb (file s FILE-LENGTH) 0 ∷ eqb (file s FILE-LINKS) 0 ∷ [])
 
 unfoldable pub recordSound : Table → ℕ → Bool
 recordSound file s =
-    every (leb (file s KIND) KIND-MAX ∷ leb (file s OWNER) USER-MAX ∷ bitsKnown (file s BITS) ∷ leb (file s LABEL) LABEL-MAX
-    ∷ leb (file s VERSION) WORD-MAX ∷ implies (eqb (file s KIND) FREE) (recordFree file s) ∷ [])
+    every (leb (file s FILE-KIND) KIND-MAX ∷ leb (file s FILE-OWNER) USER-MAX ∷ bitsKnown (file s FILE-BITS) ∷ leb (file s FILE-LABEL) LABEL-MAX
+    ∷ leb (file s FILE-VERSION) WORD-MAX ∷ implies (eqb (file s FILE-KIND) FREE) (recordFree file s) ∷ [])
 
 -- ---- a directory's entries
 
@@ -63,7 +63,7 @@ nameSound n = every (not (isPadding n 0) ∷ all (nameByteSound n) 0 NAME ∷ no
 
 -- "each place naming a slot in use other than 0"
 unfoldable pub usedSound : Table → Name → (target : ℕ) → Bool
-usedSound file n target = every (nameSound n ∷ ltb target SLOTS ∷ not (eqb (file target KIND) FREE) ∷ [])
+usedSound file n target = every (nameSound n ∷ ltb target SLOTS ∷ not (eqb (file target FILE-KIND) FREE) ∷ [])
 
 -- "An empty place is all 0"; any other has a name, a slot, then 0
 unfoldable pub direntSound : Table → List ℕ → ℕ → Bool
@@ -85,7 +85,7 @@ isUsed D i = not (isEmpty D i)
 -- "a directory's [length] equal to its number of names"; "the last 256 bytes of the slot are 0"
 unfoldable pub direntsSound : Table → List ℕ → (length : ℕ) → Bool
 direntsSound file D n =
-    every (all (direntSound file D) 0 DIRENTS ∷ all (isNew D) 0 DIRENTS ∷ eqb n (count (isUsed D) 0 DIRENTS) ∷ allZero (drop (DIRENTS * DIRENT) D) ∷ [])
+    every (all (direntSound file D) 0 DIRENTS ∷ all (isNew D) 0 DIRENTS ∷ eqb n (count (isUsed D) 0 DIRENTS) ∷ allZero (drop (DIRENTS * DIRENT-WIDTH) D) ∷ [])
 
 -- ---- the tree
 
@@ -102,7 +102,7 @@ linksTo t s = total (linksFrom t s) 0 SLOTS
 
 -- "names equal to the places counted"; "root a directory with no name"
 unfoldable pub linksSound : Tree → ℕ → Bool
-linksSound t s = cond (eqb s 0) (eqb (t .file s LINKS) 0) (eqb (t .file s LINKS) (linksTo t s))
+linksSound t s = cond (eqb s 0) (eqb (t .file s FILE-LINKS) 0) (eqb (t .file s FILE-LINKS) (linksTo t s))
 
 unfoldable pub isParent : Tree → ℕ → ℕ → Bool
 isParent t d u = every (isDirectory (t .file) (slot u) ∷ any (linksAt (t .shown u) d) 0 DIRENTS ∷ [])
@@ -119,13 +119,13 @@ climbs t (suc n) d = cond (eqb d 0) true (climbs t n (parentOf t d))
 -- "every other directory named exactly once and at most 8 names deep; every directory reached from the root"
 unfoldable pub directorySound : Tree → ℕ → Bool
 directorySound t d =
-    every (direntsSound (t .file) (t .shown d) (t .file d LENGTH) ∷ some (eqb d 0 ∷ eqb (t .file d LINKS) 1 ∷ []) ∷ climbs t NAMES d ∷ [])
+    every (direntsSound (t .file) (t .shown d) (t .file d FILE-LENGTH) ∷ some (eqb d 0 ∷ eqb (t .file d FILE-LINKS) 1 ∷ []) ∷ climbs t NAMES d ∷ [])
 
 -- ---- open files
 
 -- open file e, another than x, is on slot s
 unfoldable pub isOn : Table → Ofd → Slot → ℕ → Bool
-isOn openFiles x s e = every (not (eqb e (x .0)) ∷ not (eqb (openFiles e REFERENCES) 0) ∷ eqb (openFiles e SLOT) (s .0) ∷ [])
+isOn openFiles x s e = every (not (eqb e (x .0)) ∷ not (eqb (openFiles e OPEN-REFERENCES) 0) ∷ eqb (openFiles e OPEN-SLOT) (s .0) ∷ [])
 
 -- slot s is open, but for open file x
 unfoldable pub openBut : Table → Ofd → Slot → Bool
@@ -138,7 +138,7 @@ isOpen openFiles s = openBut openFiles (ofdOf OPEN-FILES) s
 -- "a plain file's length at most 512"; "each plain file named or open"; "A plain file's bytes past its length are 0"
 unfoldable pub plainSound : Tree → (openFiles : Table) → ℕ → Bool
 plainSound t openFiles s =
-    every (leb (t .file s LENGTH) BLOCK ∷ some (ltb 0 (t .file s LINKS) ∷ isOpen openFiles (slot s) ∷ []) ∷ allZero (t .shown s) ∷ [])
+    every (leb (t .file s FILE-LENGTH) BLOCK ∷ some (ltb 0 (t .file s FILE-LINKS) ∷ isOpen openFiles (slot s) ∷ []) ∷ allZero (t .shown s) ∷ [])
 
 -- what is owed by kind; a free slot's bytes are 0
 unfoldable pub kindSound : Tree → (openFiles : Table) → ℕ → Bool
@@ -161,18 +161,18 @@ holders desc e = total (holdersIn desc e) 0 PROCESSES
 
 -- a free open file is all zero
 unfoldable pub openFree : Table → ℕ → Bool
-openFree openFiles e = every (eqb (openFiles e SLOT) 0 ∷ eqb (openFiles e MODE) 0 ∷ eqb (openFiles e OFFSET) 0 ∷ [])
+openFree openFiles e = every (eqb (openFiles e OPEN-SLOT) 0 ∷ eqb (openFiles e OPEN-MODE) 0 ∷ eqb (openFiles e OPEN-OFFSET) 0 ∷ [])
 
 -- "open entries only on plain files", the mode and the position in range
 unfoldable pub openUsed : (file openFiles : Table) → ℕ → Bool
 openUsed file openFiles e =
-    every (ltb (openFiles e SLOT) SLOTS ∷ isPlain file (slot (openFiles e SLOT)) ∷ modeKept (modeOf (openFiles e MODE))
-    ∷ leb (openFiles e OFFSET) BLOCK ∷ [])
+    every (ltb (openFiles e OPEN-SLOT) SLOTS ∷ isPlain file (slot (openFiles e OPEN-SLOT)) ∷ modeKept (modeOf (openFiles e OPEN-MODE))
+    ∷ leb (openFiles e OPEN-OFFSET) BLOCK ∷ [])
 
 -- "references equal to the descriptors counted, at least 1"
 unfoldable pub openSound : (file openFiles desc : Table) → ℕ → Bool
 openSound file openFiles desc e =
-    every (eqb (openFiles e REFERENCES) (holders desc e) ∷ cond (eqb (openFiles e REFERENCES) 0) (openFree openFiles e) (openUsed file openFiles e) ∷ [])
+    every (eqb (openFiles e OPEN-REFERENCES) (holders desc e) ∷ cond (eqb (openFiles e OPEN-REFERENCES) 0) (openFree openFiles e) (openUsed file openFiles e) ∷ [])
 
 -- ---- processes
 
@@ -184,14 +184,14 @@ unfoldable pub descFree : Table → ℕ → ℕ → Bool
 descFree desc p i = eqb (desc p i) 0
 
 unfoldable pub procFree : (proc desc : Table) → ℕ → Bool
-procFree proc desc p = every (eqb (proc p USER) 0 ∷ eqb (proc p PROCESS-LABEL) 0 ∷ all (descFree desc p) 0 DESCRIPTORS ∷ [])
+procFree proc desc p = every (eqb (proc p PROCESS-USER) 0 ∷ eqb (proc p PROCESS-LABEL) 0 ∷ all (descFree desc p) 0 DESCRIPTORS ∷ [])
 
 unfoldable pub procUsed : (proc desc : Table) → ℕ → Bool
 procUsed proc desc p =
-    every (eqb (proc p USED) 1 ∷ leb (proc p USER) USER-MAX ∷ leb (proc p PROCESS-LABEL) LABEL-MAX ∷ all (descSound desc p) 0 DESCRIPTORS ∷ [])
+    every (eqb (proc p PROCESS-USED) 1 ∷ leb (proc p PROCESS-USER) USER-MAX ∷ leb (proc p PROCESS-LABEL) LABEL-MAX ∷ all (descSound desc p) 0 DESCRIPTORS ∷ [])
 
 unfoldable pub procSound : (proc desc : Table) → ℕ → Bool
-procSound proc desc p = cond (eqb (proc p USED) 0) (procFree proc desc p) (procUsed proc desc p)
+procSound proc desc p = cond (eqb (proc p PROCESS-USED) 0) (procFree proc desc p) (procUsed proc desc p)
 
 -- ---- all of it
 

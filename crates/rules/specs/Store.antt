@@ -5,7 +5,7 @@ use mathlib.Core.List.{List, [], _∷_, _++_}
 use lib.Dec.{eqb, ltb}
 use lib.ListN.{length, getD, take, drop, set, replicate}
 use lib.Seq.{sets}
-use Rattle.rules.specs.Layout.{SLOTS, OPEN-FILES, PROCESSES, DIRENTS, BLOCK, FILE, KIND, OWNER, BITS, LABEL, LENGTH, LINKS, VERSION, PLAIN, OPEN, PROCESS, OWN, USER, PROCESS-LABEL, DESCRIPTORS}
+use Rattle.rules.specs.Layout.{SLOTS, OPEN-FILES, PROCESSES, DIRENTS, BLOCK, FILE-WIDTH, FILE-KIND, FILE-OWNER, FILE-BITS, FILE-LABEL, FILE-LENGTH, FILE-LINKS, FILE-VERSION, PLAIN, OPEN-FILE-WIDTH, PROCESS-WIDTH, PROCESS-DESCRIPTOR, PROCESS-USER, PROCESS-LABEL, DESCRIPTORS}
 use Rattle.rules.specs.declared.decision.Record.{Record}
 use Rattle.rules.specs.declared.ids.Slot.{Slot}
 use Rattle.rules.specs.declared.ids.Pid.{Pid}
@@ -89,11 +89,11 @@ tab w xs i k = cond (ltb k w) (getD xs (w * i + k) 0) 0
 
 -- a process's own words
 abbrev pub procOf : List ℕ → Table
-procOf P p k = cond (ltb k OWN) (getD P (PROCESS * p + k) 0) 0
+procOf P p k = cond (ltb k PROCESS-DESCRIPTOR) (getD P (PROCESS-WIDTH * p + k) 0) 0
 
 -- what descriptor i of process p holds; nothing for i over 7
 unfoldable pub descOf : List ℕ → Table
-descOf P p i = cond (ltb i DESCRIPTORS) (getD P (PROCESS * p + (OWN + i)) 0) 0
+descOf P p i = cond (ltb i DESCRIPTORS) (getD P (PROCESS-WIDTH * p + (PROCESS-DESCRIPTOR + i)) 0) 0
 
 -- the bytes of slot s
 abbrev pub block : List ℕ → ℕ → List ℕ
@@ -101,31 +101,31 @@ block C s = take BLOCK (drop (BLOCK * s) C)
 
 -- how many bytes of slot s are a plain file's own
 unfoldable pub hidden : List ℕ → ℕ → ℕ
-hidden F s = cond (eqb (tab FILE F s KIND) PLAIN) (tab FILE F s LENGTH) 0
+hidden F s = cond (eqb (tab FILE-WIDTH F s FILE-KIND) PLAIN) (tab FILE-WIDTH F s FILE-LENGTH) 0
 
 -- of a directory or a free slot all its bytes, of a plain file those past its length
 unfoldable pub shownOf : List ℕ → List ℕ → ℕ → List ℕ
 shownOf F C s = drop (hidden F s) (block C s)
 
 abbrev pub tree : (F C : List ℕ) → Tree
-tree F C = record { file = tab FILE F; shown = shownOf F C }
+tree F C = record { file = tab FILE-WIDTH F; shown = shownOf F C }
 
 abbrev pub view : Store → View
-view s = record { tree = tree (s .files) (s .contents); openFiles = tab OPEN (s .openFiles); proc = procOf (s .processes); desc = descOf (s .processes) }
+view s = record { tree = tree (s .files) (s .contents); openFiles = tab OPEN-FILE-WIDTH (s .openFiles); proc = procOf (s .processes); desc = descOf (s .processes) }
 
 -- who asks: process p
 abbrev pub subjectOf : Table → Pid → Subject
-subjectOf proc p = record { user = proc (p .0) USER; label = proc (p .0) PROCESS-LABEL }
+subjectOf proc p = record { user = proc (p .0) PROCESS-USER; label = proc (p .0) PROCESS-LABEL }
 
 abbrev pub recordOf : Table → Slot → Record
 recordOf file s = record {
-  kind = file (s .0) KIND;
-  owner = file (s .0) OWNER;
-  bits = bitsAt (file (s .0) BITS);
-  label = file (s .0) LABEL;
-  length = file (s .0) LENGTH;
-  links = file (s .0) LINKS;
-  version = file (s .0) VERSION;
+  kind = file (s .0) FILE-KIND;
+  owner = file (s .0) FILE-OWNER;
+  bits = bitsAt (file (s .0) FILE-BITS);
+  label = file (s .0) FILE-LABEL;
+  length = file (s .0) FILE-LENGTH;
+  links = file (s .0) FILE-LINKS;
+  version = file (s .0) FILE-VERSION;
 }
 
 -- ---- counters are words of 32 bits
@@ -163,17 +163,17 @@ pub data Change : Type 0 where
   procZero : ℕ → Change  -- a process, all zero
 
 abbrev pub change : Change → Store → Store
-change (fileWord s k x) t = store (set (t .files) (FILE * s + k) x) (t .contents) (t .openFiles) (t .processes)
-change (fileTo s ws) t = store (puts FILE (t .files) s 0 ws) (t .contents) (t .openFiles) (t .processes)
-change (clearTo s ws) t = store (puts FILE (t .files) s 0 ws) (sets (t .contents) (BLOCK * s + 0) (zeros BLOCK)) (t .openFiles) (t .processes)
+change (fileWord s k x) t = store (set (t .files) (FILE-WIDTH * s + k) x) (t .contents) (t .openFiles) (t .processes)
+change (fileTo s ws) t = store (puts FILE-WIDTH (t .files) s 0 ws) (t .contents) (t .openFiles) (t .processes)
+change (clearTo s ws) t = store (puts FILE-WIDTH (t .files) s 0 ws) (sets (t .contents) (BLOCK * s + 0) (zeros BLOCK)) (t .openFiles) (t .processes)
 change (bytesTo s at bs) t = store (t .files) (sets (t .contents) (BLOCK * s + at) bs) (t .openFiles) (t .processes)
-change (openWord e k x) t = store (t .files) (t .contents) (set (t .openFiles) (OPEN * e + k) x) (t .processes)
-change (openTo e ws) t = store (t .files) (t .contents) (puts OPEN (t .openFiles) e 0 ws) (t .processes)
-change (openZero e) t = store (t .files) (t .contents) (sets (t .openFiles) (OPEN * e + 0) (zeros OPEN)) (t .processes)
-change (descTo p i x) t = store (t .files) (t .contents) (t .openFiles) (set (t .processes) (PROCESS * p + (OWN + i)) x)
-change (procWord p k x) t = store (t .files) (t .contents) (t .openFiles) (set (t .processes) (PROCESS * p + k) x)
-change (procTo p ws) t = store (t .files) (t .contents) (t .openFiles) (puts PROCESS (t .processes) p 0 ws)
-change (procZero p) t = store (t .files) (t .contents) (t .openFiles) (sets (t .processes) (PROCESS * p + 0) (zeros PROCESS))
+change (openWord e k x) t = store (t .files) (t .contents) (set (t .openFiles) (OPEN-FILE-WIDTH * e + k) x) (t .processes)
+change (openTo e ws) t = store (t .files) (t .contents) (puts OPEN-FILE-WIDTH (t .openFiles) e 0 ws) (t .processes)
+change (openZero e) t = store (t .files) (t .contents) (sets (t .openFiles) (OPEN-FILE-WIDTH * e + 0) (zeros OPEN-FILE-WIDTH)) (t .processes)
+change (descTo p i x) t = store (t .files) (t .contents) (t .openFiles) (set (t .processes) (PROCESS-WIDTH * p + (PROCESS-DESCRIPTOR + i)) x)
+change (procWord p k x) t = store (t .files) (t .contents) (t .openFiles) (set (t .processes) (PROCESS-WIDTH * p + k) x)
+change (procTo p ws) t = store (t .files) (t .contents) (t .openFiles) (puts PROCESS-WIDTH (t .processes) p 0 ws)
+change (procZero p) t = store (t .files) (t .contents) (t .openFiles) (sets (t .processes) (PROCESS-WIDTH * p + 0) (zeros PROCESS-WIDTH))
 
 unfoldable pub applyAll : List Change → Store → Store
 applyAll [] t = t

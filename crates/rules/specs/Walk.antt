@@ -4,7 +4,7 @@ use mathlib.Core.Bool.{Bool, true, false}
 use mathlib.Core.List.{List, [], _∷_}
 use lib.Dec.{eqb, ltb}
 use lib.ListN.{length}
-use Rattle.rules.specs.Layout.{KIND, OWNER, BITS, LABEL, DIRECTORY, PLAIN, DIRENTS}
+use Rattle.rules.specs.Layout.{FILE-KIND, FILE-OWNER, FILE-BITS, FILE-LABEL, DIRECTORY, PLAIN, DIRENTS}
 use Rattle.rules.specs.Store.{Table, Tree, slot, entry, isDirent, bitsAt}
 use Rattle.rules.specs.Rights.{EXECUTE, bitsGrant, labelGrants}
 use Rattle.rules.specs.Paths.{Name, names, parentNames}
@@ -20,17 +20,17 @@ use Rattle.rules.specs.declared.decision.Walk.{Walk}
 use Rattle.rules.specs.declared.decision.Walk.the-variants.{Reached, Stopped}
 
 abbrev pub isDirectory : Table → Slot → Bool
-isDirectory file s = eqb (file (s .0) KIND) DIRECTORY
+isDirectory file s = eqb (file (s .0) FILE-KIND) DIRECTORY
 
 abbrev pub isPlain : Table → Slot → Bool
-isPlain file s = eqb (file (s .0) KIND) PLAIN
+isPlain file s = eqb (file (s .0) FILE-KIND) PLAIN
 
 -- the subject has the rights over slot s, by its bits and by its label
 abbrev pub bitsAllow : Table → Subject → Slot → Rights → Bool
-bitsAllow file who s want = bitsGrant who (file (s .0) OWNER) (bitsAt (file (s .0) BITS)) want
+bitsAllow file who s want = bitsGrant who (file (s .0) FILE-OWNER) (bitsAt (file (s .0) FILE-BITS)) want
 
 abbrev pub labelAllows : Table → List ℕ → Subject → Slot → Rights → Bool
-labelAllows file Q who s want = labelGrants Q who (file (s .0) LABEL) want
+labelAllows file Q who s want = labelGrants Q who (file (s .0) FILE-LABEL) want
 
 -- a check at the k-th name: what follows, or the refusal with the name's number
 unfoldable pub needAt : Bool → Refusal → ℕ → Walk → Walk

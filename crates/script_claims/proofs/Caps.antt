@@ -11,7 +11,7 @@ use lib.Dec.{eqb, ltb, leb}
 use lib.ListN.{length, take}
 use lib.Seq.{length-take-le, take-all}
 use Rattle.rules.specs.Choice.{every}
-use Rattle.rules.specs.Layout.{BLOCK, PROCESSES, DESCRIPTORS, PATH, MODE}
+use Rattle.rules.specs.Layout.{BLOCK, PROCESSES, DESCRIPTORS, PATH, OPEN-MODE}
 use Rattle.rules.specs.Rights.{writes}
 use Rattle.rules.specs.Store.{Store, Table, pidOf, fdOf, modeAt, view, descOf}
 use Rattle.rules.specs.Paths.{shapeOk, pathOk}
@@ -133,7 +133,7 @@ module _ (Q : List ℕ) (s : Store) where
 
   -- what becomes of a write of too much
   unwritten : Pid → Fd → Decision
-  unwritten p i = need (held (view s .desc) p i) NotHeld (need (writes (modeAt (view s .openFiles (ofdHeld (view s .desc) p i .0) MODE))) WrongDirection (Refused TooLong 0))
+  unwritten p i = need (held (view s .desc) p i) NotHeld (need (writes (modeAt (view s .openFiles (ofdHeld (view s .desc) p i .0) OPEN-MODE))) WrongDirection (Refused TooLong 0))
 
   unwritten-quiet : (p : Pid) (i : Fd) → Quiet (unwritten p i)
   unfolding unwritten

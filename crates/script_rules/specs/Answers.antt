@@ -4,24 +4,24 @@ use mathlib.Core.Bool.{Bool, true, false, cond}
 use mathlib.Core.List.{List, [], _∷_, _++_}
 use lib.Dec.{eqb}
 use lib.ListN.{length, getD, take}
-use Rattle.rules.specs.Layout.{KIND, OWNER, BITS, LABEL, LENGTH, LINKS, VERSION}
+use Rattle.rules.specs.Layout.{FILE-KIND, FILE-OWNER, FILE-BITS, FILE-LABEL, FILE-LENGTH, FILE-LINKS, FILE-VERSION}
 use Rattle.rules.specs.declared.answer.Answer.{Answer}
 use Rattle.script_rules.specs.Text.{NEWLINE, decimal, hexOf, little}
 
 -- "for stat, kind 1, owner 2, bits 1, label 1, length 2, names 2, stamp 4 bytes, little end first"
 unfoldable pub statBytes : List ℕ → List ℕ
 statBytes f =
-    little 1 (getD f KIND 0)
-    ++ (little 2 (getD f OWNER 0)
-    ++ (little 1 (getD f BITS 0)
-    ++ (little 1 (getD f LABEL 0)
-    ++ (little 2 (getD f LENGTH 0)
-    ++ (little 2 (getD f LINKS 0)
-    ++ little 4 (getD f VERSION 0))))))
+    little 1 (getD f FILE-KIND 0)
+    ++ (little 2 (getD f FILE-OWNER 0)
+    ++ (little 1 (getD f FILE-BITS 0)
+    ++ (little 1 (getD f FILE-LABEL 0)
+    ++ (little 2 (getD f FILE-LENGTH 0)
+    ++ (little 2 (getD f FILE-LINKS 0)
+    ++ little 4 (getD f FILE-VERSION 0))))))
 
 -- of an answer with fields; a file's kind is never 0
 unfoldable pub fieldBytes : List ℕ → List ℕ
-fieldBytes f = cond (eqb (getD f KIND 0) 0) [] (statBytes f)
+fieldBytes f = cond (eqb (getD f FILE-KIND 0) 0) [] (statBytes f)
 
 -- "bytes read or .. a listed name; for stat ..". The buffer of a call that does not read is empty
 unfoldable pub dataOf : Answer → (buffer : List ℕ) → List ℕ

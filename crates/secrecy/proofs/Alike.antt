@@ -4,7 +4,7 @@ use mathlib.Core.Bool.{Bool, true, false, cond}
 use mathlib.Core.List.{List, [], _∷_}
 use Prim.Native.Nat.{ℕ, _<_}
 use Rattle.rules.specs.Choice.{every}
-use Rattle.rules.specs.Layout.{LABELS, FILE, LABEL}
+use Rattle.rules.specs.Layout.{LABELS, FILE-WIDTH, FILE-LABEL}
 use Rattle.rules.specs.Rights.{moved}
 use Rattle.rules.specs.Store.{Store, View, view, tab}
 use Rattle.rules.specs.Calls.{Call}
@@ -36,7 +36,7 @@ pub record Alike (reach : ℕ → Type 0) (f n L : ℕ) (x x′ : Outcome) : Typ
 
 module _ (Q : List ℕ) (reach : ℕ → Type 0) (f n L : ℕ) (no-right : (l : ℕ) → reach l → mayRead Q l L ≡ false)
     (closed-under : (l m : ℕ) → m < LABELS → reach l → reach (moved Q l m)) where
-  outcome-alike : (s s′ : Store) → Apart f n s s′ → Secret reach f n L s → ((t : ℕ) → tab FILE (s .files) t LABEL < LABELS) → (c : Call) (d : Decision) → Fit Q (view s) (c .process) d
+  outcome-alike : (s s′ : Store) → Apart f n s s′ → Secret reach f n L s → ((t : ℕ) → tab FILE-WIDTH (s .files) t FILE-LABEL < LABELS) → (c : Call) (d : Decision) → Fit Q (view s) (c .process) d
       → Alike reach f n L (outcomeOf s c d) (outcomeOf s′ c d)
   unfolding outcomeOf replyTo storeAfter
   outcome-alike s s′ a z small c _ (refused r k) = record { replies = refl; stores = apart a z }

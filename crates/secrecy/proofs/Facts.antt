@@ -9,7 +9,7 @@ use native.Mathlib.Decide.{decLt}
 use borrow.Author.Tests.{eqb-true, leb-true, ltb-true}
 use lib.Dec.{ltb}
 use lib.ListN.{length, getD, List·getD-eq-default}
-use Rattle.rules.specs.Layout.{SLOTS, BLOCK, FILE, OPEN-FILES, OPEN, PROCESSES, PROCESS, OWN, LABELS, LABEL-MAX, KIND, LABEL, LENGTH, PLAIN, DESCRIPTORS}
+use Rattle.rules.specs.Layout.{SLOTS, BLOCK, FILE-WIDTH, OPEN-FILES, OPEN-FILE-WIDTH, PROCESSES, PROCESS-WIDTH, PROCESS-DESCRIPTOR, LABELS, LABEL-MAX, FILE-KIND, FILE-LABEL, FILE-LENGTH, PLAIN, DESCRIPTORS}
 use Rattle.rules.specs.Store.{Store, view, tab, descOf}
 use Rattle.rules.specs.Sound.{sound, storeSound, sizesSound, tablesSound, slotSound, recordSound, kindSound, plainSound}
 use Rattle.rules.proofs.Scans.{all-at}
@@ -21,7 +21,7 @@ desc-eight : (P : List ℕ) (p i : ℕ) → descOf P p i ≢ 0 → i < DESCRIPTO
 unfolding descOf
 desc-eight P p i ne = go (ltb i DESCRIPTORS) refl ne
   where
-    go : (t : Bool) → ltb i DESCRIPTORS ≡ t → cond t (getD P (PROCESS * p + (OWN + i)) 0) 0 ≢ 0 → i < DESCRIPTORS
+    go : (t : Bool) → ltb i DESCRIPTORS ≡ t → cond t (getD P (PROCESS-WIDTH * p + (PROCESS-DESCRIPTOR + i)) 0) 0 ≢ 0 → i < DESCRIPTORS
     go true e h = ltb-true i DESCRIPTORS e
     go false e h = absurd (h refl)
 
@@ -30,15 +30,15 @@ module _ (Q : List ℕ) (s : Store) (h : sound Q s ≡ true) where
   unfolding sound storeSound
   parts = both _ _ (test 1 _ h)
 
-  pub files-size : length (s .files) ≡ SLOTS * FILE
+  pub files-size : length (s .files) ≡ SLOTS * FILE-WIDTH
   unfolding sizesSound
   files-size = eqb-true _ _ (test 0 _ (parts .0))
 
-  pub open-files-size : length (s .openFiles) ≡ OPEN-FILES * OPEN
+  pub open-files-size : length (s .openFiles) ≡ OPEN-FILES * OPEN-FILE-WIDTH
   unfolding sizesSound
   open-files-size = eqb-true _ _ (test 2 _ (parts .0))
 
-  pub processes-size : length (s .processes) ≡ PROCESSES * PROCESS
+  pub processes-size : length (s .processes) ≡ PROCESSES * PROCESS-WIDTH
   unfolding sizesSound
   processes-size = eqb-true _ _ (test 3 _ (parts .0))
 
@@ -55,19 +55,19 @@ module _ (Q : List ℕ) (s : Store) (h : sound Q s ≡ true) where
   record-sound t lt = test 0 _ (slot-sound t lt)
 
   -- every program label is one of the sixteen
-  pub small-label : (t : ℕ) → tab FILE (s .files) t LABEL < LABELS
+  pub small-label : (t : ℕ) → tab FILE-WIDTH (s .files) t FILE-LABEL < LABELS
   unfolding recordSound
   small-label t = go (decLt t SLOTS)
     where
-      go : Dec (t < SLOTS) → tab FILE (s .files) t LABEL < LABELS
+      go : Dec (t < SLOTS) → tab FILE-WIDTH (s .files) t FILE-LABEL < LABELS
       go (yes lt) =
-          let l : tab FILE (s .files) t LABEL ≤ LABEL-MAX = leb-true _ _ (test 3 _ (record-sound t lt)) in
+          let l : tab FILE-WIDTH (s .files) t FILE-LABEL ≤ LABEL-MAX = leb-true _ _ (test 3 _ (record-sound t lt)) in
           omega arith
       go (no ge) =
-          let z : tab FILE (s .files) t LABEL ≡ 0 = List·getD-eq-default (s .files) 0 (omega (arith, files-size)) in
+          let z : tab FILE-WIDTH (s .files) t FILE-LABEL ≡ 0 = List·getD-eq-default (s .files) 0 (omega (arith, files-size)) in
           omega arith
 
-  module _ (f : ℕ) (plain : tab FILE (s .files) f KIND ≡ PLAIN) where
+  module _ (f : ℕ) (plain : tab FILE-WIDTH (s .files) f FILE-KIND ≡ PLAIN) where
     -- a plain file is in one of the slots
     pub plain-slot : f < SLOTS
     plain-slot = go (decLt f SLOTS)
@@ -75,7 +75,7 @@ module _ (Q : List ℕ) (s : Store) (h : sound Q s ≡ true) where
         go : Dec (f < SLOTS) → f < SLOTS
         go (yes lt) = lt
         go (no ge) =
-            let z : tab FILE (s .files) f KIND ≡ 0 = List·getD-eq-default (s .files) 0 (omega (arith, files-size)) in
+            let z : tab FILE-WIDTH (s .files) f FILE-KIND ≡ 0 = List·getD-eq-default (s .files) 0 (omega (arith, files-size)) in
             absurd (omega arith)
 
     plain-sound : plainSound (view s .tree) (view s .openFiles) f ≡ true
@@ -83,6 +83,6 @@ module _ (Q : List ℕ) (s : Store) (h : sound Q s ≡ true) where
     plain-sound = rw plain at (test 2 _ (slot-sound f plain-slot))
 
     -- and has at most 512 bytes
-    pub plain-length : tab FILE (s .files) f LENGTH ≤ BLOCK
+    pub plain-length : tab FILE-WIDTH (s .files) f FILE-LENGTH ≤ BLOCK
     unfolding plainSound
     plain-length = leb-true _ _ (test 0 _ plain-sound)

@@ -9,7 +9,7 @@ use borrow.Author.Tests.{ltb-true, eqb-true, eqb-false, not-true}
 use lib.Dec.{eqb, ltb}
 use lib.ListN.{length}
 use Rattle.rules.specs.Choice.{every}
-use Rattle.rules.specs.Layout.{SLOTS, PROCESSES, DESCRIPTORS, LABEL, LENGTH, PLAIN, DIRECTORY, SLOT, MODE, USED}
+use Rattle.rules.specs.Layout.{SLOTS, PROCESSES, DESCRIPTORS, FILE-LABEL, FILE-LENGTH, PLAIN, DIRECTORY, OPEN-SLOT, OPEN-MODE, PROCESS-USED}
 use Rattle.rules.specs.Store.{Tree, View, slot, isDirent, modeAt, subjectOf}
 use Rattle.rules.specs.Rights.{reads, labelGrants, moved, bitsOf, modeOf, modeRights}
 use Rattle.rules.specs.Paths.{Name, names, parentNames}
@@ -60,13 +60,13 @@ pub record Based (v : View) : Type 0 where
 -- a process that may call
 pub record Caller (v : View) (p : Pid) : Type 0 where
   pub small : p .0 < PROCESSES
-  pub used : v .proc (p .0) USED ≡ 1
+  pub used : v .proc (p .0) PROCESS-USED ≡ 1
 
 -- bytes are given out of slots that an open file reads
 pub record Fetched (v : View) (s : ℕ) : Type 0 where
   pub ofd : Ofd
-  pub mode : reads (modeAt (v .openFiles (ofd .0) MODE)) ≡ true
-  pub names : v .openFiles (ofd .0) SLOT ≡ s
+  pub mode : reads (modeAt (v .openFiles (ofd .0) OPEN-MODE)) ≡ true
+  pub names : v .openFiles (ofd .0) OPEN-SLOT ≡ s
 
 pub data OutputFit (v : View) : Output → Type 0 where
   silent : OutputFit v output.Nothing
@@ -77,7 +77,7 @@ pub data OutputFit (v : View) : Output → Type 0 where
 -- a file is opened with a descriptor of the eight, in a mode whose rights the labels grant
 pub record OpenFit (Q : List ℕ) (v : View) (p : Pid) (n : NewOpen) : Type 0 where
   pub eight : n .fd .0 < DESCRIPTORS
-  pub rights : labelGrants Q (subjectOf (v .proc) p) (v .tree .file (n .slot .0) LABEL) (modeRights (n .mode)) ≡ true
+  pub rights : labelGrants Q (subjectOf (v .proc) p) (v .tree .file (n .slot .0) FILE-LABEL) (modeRights (n .mode)) ≡ true
 
 pub data EffectFit (Q : List ℕ) (v : View) (p : Pid) : Effect → Type 0 where
   nothing : EffectFit Q v p effect.Nothing
@@ -89,12 +89,12 @@ pub data EffectFit (Q : List ℕ) (v : View) (p : Pid) : Effect → Type 0 where
   linked : (d : DirChange) (s : Slot) (links : ℕ) → isDirectory (v .tree .file) (d .dir) ≡ true → EffectFit Q v p (effect.Linked d s links)
   rebitted : (s : Slot) (x : Bits) → EffectFit Q v p (effect.BitsChanged s x)
   closed : (i : Fd) (r : Release) → i .0 < DESCRIPTORS → EffectFit Q v p (effect.Closed i r)
-  stored : (w : Placement) → v .tree .file (w .slot .0) LENGTH ≤ w .length → EffectFit Q v p (effect.Stored w)
+  stored : (w : Placement) → v .tree .file (w .slot .0) FILE-LENGTH ≤ w .length → EffectFit Q v p (effect.Stored w)
   shifted : (e : Ofd) (offset : ℕ) → EffectFit Q v p (effect.Moved e offset)
   duplicated : (i : Fd) (e : Ofd) (refs : ℕ) → i .0 < DESCRIPTORS → EffectFit Q v p (effect.Duplicated i e refs)
   forked : (q : Pid) (who : Subject) → subjectOf (v .proc) p .label ≡ who .label → EffectFit Q v p (effect.Forked q who)
   exited : EffectFit Q v p effect.Exited
-  relabelled : (t label : ℕ) → moved Q (subjectOf (v .proc) p .label) (v .tree .file t LABEL) ≡ label → EffectFit Q v p (effect.Relabelled label)
+  relabelled : (t label : ℕ) → moved Q (subjectOf (v .proc) p .label) (v .tree .file t FILE-LABEL) ≡ label → EffectFit Q v p (effect.Relabelled label)
 
 pub data Fit (Q : List ℕ) (v : View) (p : Pid) : Decision → Type 0 where
   refused : (r : Refusal) (k : ℕ) → Fit Q v p (Refused r k)
@@ -169,7 +169,7 @@ module _ (Q : List ℕ) (v : View) (b : Based v) (p : Pid) (u : Caller v p) wher
 
   opening-fit : (s : Slot) (m : OpenMode) (c : Bool) (i : Fd) (e : Ofd) → OpenFit Q v p (newOpen s m i e) → EffectFit Q v p (opening (v .tree .file) s m c i e)
   unfolding opening
-  opening-fit s m c i e h = go (every (c ∷ ltb 0 (v .tree .file (s .0) LENGTH) ∷ []))
+  opening-fit s m c i e h = go (every (c ∷ ltb 0 (v .tree .file (s .0) FILE-LENGTH) ∷ []))
     where
       go : (t : Bool) → EffectFit Q v p (cond t (effect.Truncated (newOpen s m i e) (truncated (v .tree .file) s)) (effect.Opened (newOpen s m i e)))
       go true = truncates _ _ h

@@ -10,7 +10,7 @@ use lib.Dec.{eqb}
 use lib.ListN.{length, take, drop}
 use lib.Seq.{sets}
 use Rattle.rules.specs.Choice.{every, some, implies}
-use Rattle.rules.specs.Layout.{DESCRIPTORS, LABELS, FILE, KIND, BITS, LABEL, LENGTH, LINKS, VERSION, FREE, PLAIN, DIRECTORY, PROCESS-LABEL}
+use Rattle.rules.specs.Layout.{DESCRIPTORS, LABELS, FILE-WIDTH, FILE-KIND, FILE-BITS, FILE-LABEL, FILE-LENGTH, FILE-LINKS, FILE-VERSION, FREE, PLAIN, DIRECTORY, PROCESS-LABEL}
 use Rattle.rules.specs.Rights.{READ, READ-WRITE, WRITE, MODE-READ, MODE-BOTH, reads, stands, covers, labelGrants, modeRights, moved}
 use Rattle.rules.specs.Store.{Store, View, view, tab, slot, clearTo, fdOf}
 use Rattle.rules.specs.Paths.{Name}
@@ -70,12 +70,12 @@ mode-asked m r rd h = one (eqb (m .0) (MODE-READ .0)) rd h
 
 module _ (reach : ℕ → Type 0) (f n : ℕ) where
   -- a word that is neither kind, label nor length
-  word : (k x : ℕ) → k ≢ KIND → k ≢ LABEL → k ≢ LENGTH → OwnWord n k x
+  word : (k x : ℕ) → k ≢ FILE-KIND → k ≢ FILE-LABEL → k ≢ FILE-LENGTH → OwnWord n k x
   word k x a b c = record { kind = a; label = b; length = λ e. absurd (c e) }
 
   unnamed-keep : (L : ℕ) (u : Unnamed) → KeepsAll reach f n L (unnamedChanges u)
   unfolding unnamedChanges KeepsAll Keeps
-  unnamed-keep L (unnamed.Kept s links) = ((omega arith, λ _. word LINKS links (λ e. omega arith) (λ e. omega arith) (λ e. omega arith)), tt)
+  unnamed-keep L (unnamed.Kept s links) = ((omega arith, λ _. word FILE-LINKS links (λ e. omega arith) (λ e. omega arith) (λ e. omega arith)), tt)
   unnamed-keep L (unnamed.Freed s r) = (refl, tt)
 
   close-keep : (L : ℕ) (p : Pid) (i : Fd) (r : Release) → i .0 < DESCRIPTORS → KeepsAll reach f n L (closeChanges p i r)
@@ -114,19 +114,19 @@ module _ (reach : ℕ → Type 0) (f n : ℕ) where
 
 module _ (Q : List ℕ) (reach : ℕ → Type 0) (f n L : ℕ) (no-right : (l : ℕ) → reach l → mayRead Q l L ≡ false)
     (closed-under : (l m : ℕ) → m < LABELS → reach l → reach (moved Q l m)) where
-  module _ (s s′ : Store) (a : Apart f n s s′) (z : Secret reach f n L s) (small : (t : ℕ) → tab FILE (s .files) t LABEL < LABELS) where
+  module _ (s s′ : Store) (a : Apart f n s s′) (z : Secret reach f n L s) (small : (t : ℕ) → tab FILE-WIDTH (s .files) t FILE-LABEL < LABELS) where
     -- a directory or a free slot is not f
     not-directory : (t : Slot) → isDirectory (view s .tree .file) t ≡ true → t .0 ≢ f
     not-directory t d e =
-        let k : tab FILE (s .files) (t .0) KIND ≡ DIRECTORY = eqb-true _ _ d in
-        let q : tab FILE (s .files) (t .0) KIND ≡ PLAIN = ap (λ (x : ℕ). tab FILE (s .files) x KIND) e ∙ z .own .plain in
+        let k : tab FILE-WIDTH (s .files) (t .0) FILE-KIND ≡ DIRECTORY = eqb-true _ _ d in
+        let q : tab FILE-WIDTH (s .files) (t .0) FILE-KIND ≡ PLAIN = ap (λ (x : ℕ). tab FILE-WIDTH (s .files) x FILE-KIND) e ∙ z .own .plain in
         omega arith
 
     not-free : (t : ℕ) → slotFree (view s .tree .file) t ≡ true → t ≢ f
     unfolding slotFree
     not-free t d e =
-        let k : tab FILE (s .files) t KIND ≡ FREE = eqb-true _ _ d in
-        let q : tab FILE (s .files) t KIND ≡ PLAIN = ap (λ (x : ℕ). tab FILE (s .files) x KIND) e ∙ z .own .plain in
+        let k : tab FILE-WIDTH (s .files) t FILE-KIND ≡ FREE = eqb-true _ _ d in
+        let q : tab FILE-WIDTH (s .files) t FILE-KIND ≡ PLAIN = ap (λ (x : ℕ). tab FILE-WIDTH (s .files) x FILE-KIND) e ∙ z .own .plain in
         omega arith
 
     dir-keep : (d : DirChange) → isDirectory (view s .tree .file) (d .dir) ≡ true → KeepsAll reach f n L (dirWords d)
@@ -145,7 +145,7 @@ module _ (Q : List ℕ) (reach : ℕ → Type 0) (f n L : ℕ) (no-right : (l : 
     unreadable : (p : Pid) (w : NewOpen) → reach (view s .proc (p .0) PROCESS-LABEL) → OpenFit Q (view s) p w → reads (w .mode) ≡ true → w .slot .0 ≡ f → ⊥
     unfolding labelGrants
     unreadable p w r o rd e =
-        let l : tab FILE (s .files) (w .slot .0) LABEL ≡ L = ap (λ (x : ℕ). tab FILE (s .files) x LABEL) e ∙ z .own .label in
+        let l : tab FILE-WIDTH (s .files) (w .slot .0) FILE-LABEL ≡ L = ap (λ (x : ℕ). tab FILE-WIDTH (s .files) x FILE-LABEL) e ∙ z .own .label in
         false≢true (sym (no-right _ r) ∙ mode-asked (w .mode) _ rd (rw l at (o .rights)))
 
     open-keep : (p : Pid) (w : NewOpen) → reach (view s .proc (p .0) PROCESS-LABEL) → OpenFit Q (view s) p w → KeepsAll reach f n L (openChanges p w)
@@ -162,7 +162,7 @@ module _ (Q : List ℕ) (reach : ℕ → Type 0) (f n L : ℕ) (no-right : (l : 
 
     link-keep : (nm : Name) (d : DirChange) (t : Slot) (links : ℕ) → isDirectory (view s .tree .file) (d .dir) ≡ true → KeepsAll reach f n L (linkChanges nm d t links)
     unfolding linkChanges KeepsAll Keeps
-    link-keep nm d t links h = ((omega arith, λ _. word reach f n LINKS links (λ e. omega arith) (λ e. omega arith) (λ e. omega arith)), name-keep nm t d h)
+    link-keep nm d t links h = ((omega arith, λ _. word reach f n FILE-LINKS links (λ e. omega arith) (λ e. omega arith) (λ e. omega arith)), name-keep nm t d h)
 
     unlink-keep : (d : DirChange) (u : Unnamed) → isDirectory (view s .tree .file) (d .dir) ≡ true → KeepsAll reach f n L (unlinkChanges d u)
     unfolding unlinkChanges
@@ -173,16 +173,16 @@ module _ (Q : List ℕ) (reach : ℕ → Type 0) (f n L : ℕ) (no-right : (l : 
     remove-keep d t x h = append-keep reach f n L (unnameChanges d) _ (unname-keep d h) (clear-keep reach f n L t x)
 
     -- a write never makes a file shorter
-    store-keep : (bs : List ℕ) (w : Placement) → view s .tree .file (w .slot .0) LENGTH ≤ w .length → KeepsAll reach f n L (storeChanges bs w)
+    store-keep : (bs : List ℕ) (w : Placement) → view s .tree .file (w .slot .0) FILE-LENGTH ≤ w .length → KeepsAll reach f n L (storeChanges bs w)
     unfolding storeChanges KeepsAll Keeps
     store-keep bs w h = (
       tt,
-      (tt, ((omega arith, longer), ((omega arith, λ _. word reach f n VERSION (w .version) (λ e. omega arith) (λ e. omega arith) (λ e. omega arith)), ((omega arith, omega arith), tt)))),
+      (tt, ((omega arith, longer), ((omega arith, λ _. word reach f n FILE-VERSION (w .version) (λ e. omega arith) (λ e. omega arith) (λ e. omega arith)), ((omega arith, omega arith), tt)))),
     )
       where
-        longer : w .slot .0 ≡ f → OwnWord n LENGTH (w .length)
+        longer : w .slot .0 ≡ f → OwnWord n FILE-LENGTH (w .length)
         longer e =
-            let g : n ≤ tab FILE (s .files) (w .slot .0) LENGTH = subst (λ (x : ℕ). n ≤ tab FILE (s .files) x LENGTH) (sym e) (z .own .within) in
+            let g : n ≤ tab FILE-WIDTH (s .files) (w .slot .0) FILE-LENGTH = subst (λ (x : ℕ). n ≤ tab FILE-WIDTH (s .files) x FILE-LENGTH) (sym e) (z .own .within) in
             record { kind = λ q. omega arith; label = λ q. omega arith; length = λ _. omega arith }
 
     duplicate-keep : (p : Pid) (i : Fd) (e : Ofd) (refs : ℕ) → i .0 < DESCRIPTORS → KeepsAll reach f n L (duplicateChanges p i e refs)
@@ -202,7 +202,7 @@ module _ (Q : List ℕ) (reach : ℕ → Type 0) (f n L : ℕ) (no-right : (l : 
     effect-keep c _ r (unlinked d u h) = all-keep reach f n L _ s s′ (unlink-keep d u h) (apart a z)
     effect-keep c _ r (removed d t x h) = all-keep reach f n L _ s s′ (remove-keep d t x h) (apart a z)
     effect-keep c _ r (linked d t links h) = all-keep reach f n L _ s s′ (link-keep _ d t links h) (apart a z)
-    effect-keep c _ r (rebitted t x) = all-keep reach f n L _ s s′ ((omega arith, λ _. word reach f n BITS (x .0) (λ e. omega arith) (λ e. omega arith) (λ e. omega arith)), tt) (apart a z)
+    effect-keep c _ r (rebitted t x) = all-keep reach f n L _ s s′ ((omega arith, λ _. word reach f n FILE-BITS (x .0) (λ e. omega arith) (λ e. omega arith) (λ e. omega arith)), tt) (apart a z)
     effect-keep c _ r (closed i x h) = all-keep reach f n L _ s s′ (close-keep reach f n L (c .process) i x h) (apart a z)
     effect-keep c _ r (stored w h) = all-keep reach f n L _ s s′ (store-keep (c .«data») w h) (apart a z)
     effect-keep c _ r (shifted e offset) = all-keep reach f n L _ s s′ ((omega arith, omega arith), tt) (apart a z)

@@ -11,7 +11,7 @@ use native.Mathlib.Decide.{ℕ-discrete}
 use lib.ListN.{length, getD, drop, set, length-replicate}
 use lib.Seq.{sets}
 use Rattle.rules.specs.Scan.{iterate, repeat}
-use Rattle.rules.specs.Layout.{BLOCK, FILE, KIND, LENGTH, PLAIN, OPEN, SLOT, MODE, PROCESS, OWN, DESCRIPTORS, USED, PROCESS-LABEL}
+use Rattle.rules.specs.Layout.{BLOCK, FILE-WIDTH, FILE-KIND, FILE-LENGTH, PLAIN, OPEN-FILE-WIDTH, OPEN-SLOT, OPEN-MODE, PROCESS-WIDTH, PROCESS-DESCRIPTOR, DESCRIPTORS, PROCESS-USED, PROCESS-LABEL}
 use Rattle.rules.specs.Rights.{reads}
 use Rattle.rules.specs.Store.{Store, View, store, tab, procOf, descOf, view, block, modeAt, hidden, shownOf, puts, zeros, Change, fileWord, fileTo, clearTo, bytesTo, openWord, openTo, openZero, descTo, procWord, procTo, procZero, change, applyAll}
 use Rattle.secrecy.proofs.Agree.{Agree, agree-sets, agree-clear, agree-block, agree-rest}
@@ -37,12 +37,12 @@ pub data Related (reach : ℕ → Type 0) (f n L : ℕ) (s s′ : Store) : Type 
 
 -- ---- the rules see no difference
 
-shown-same : (f n : ℕ) (F C C′ : List ℕ) → Agree (BLOCK * f) (BLOCK * f + n) C C′ → n ≤ BLOCK → tab FILE F f KIND ≡ PLAIN → n ≤ tab FILE F f LENGTH → shownOf F C ≡ shownOf F C′
+shown-same : (f n : ℕ) (F C C′ : List ℕ) → Agree (BLOCK * f) (BLOCK * f + n) C C′ → n ≤ BLOCK → tab FILE-WIDTH F f FILE-KIND ≡ PLAIN → n ≤ tab FILE-WIDTH F f FILE-LENGTH → shownOf F C ≡ shownOf F C′
 unfolding shownOf hidden
 shown-same f n F C C′ a small plain within = fun-ext (λ d. go d (ℕ-discrete d f))
   where
     own : drop (hidden F f) (block C f) ≡ drop (hidden F f) (block C′ f)
-    own = simp plain (agree-rest f n C C′ a small (tab FILE F f LENGTH) within)
+    own = simp plain (agree-rest f n C C′ a small (tab FILE-WIDTH F f FILE-LENGTH) within)
 
     go : (d : ℕ) → Dec (d ≡ f) → drop (hidden F d) (block C d) ≡ drop (hidden F d) (block C′ d)
     go d (yes e) = subst (λ (x : ℕ). drop (hidden F x) (block C x) ≡ drop (hidden F x) (block C′ x)) (sym e) own
@@ -53,8 +53,8 @@ view-same f n L s s′ a o =
     let e : shownOf (s .files) (s .contents) ≡ shownOf (s′ .files) (s′ .contents)
     = shown-same f n (s .files) (s .contents) (s′ .contents) (a .contents) (a .small) (o .plain) (o .within) ∙ ap (λ (F : List ℕ). shownOf F (s′ .contents)) (a .files) in
     λ i. record {
-      tree = record { file = tab FILE (a .files i); shown = e i };
-      openFiles = tab OPEN (a .openFiles i);
+      tree = record { file = tab FILE-WIDTH (a .files i); shown = e i };
+      openFiles = tab OPEN-FILE-WIDTH (a .openFiles i);
       proc = procOf (a .processes i);
       desc = descOf (a .processes i);
     }
@@ -63,16 +63,16 @@ view-same f n L s s′ a o =
 
 -- what a change must be to keep two stores related
 unfoldable pub Keeps : (ℕ → Type 0) → ℕ → ℕ → Change → Type 0
-Keeps reach f n (fileWord t k x) = (k < FILE) × (t ≡ f → OwnWord n k x)
-Keeps reach f n (fileTo t ws) = (length ws ≡ FILE) × (t ≢ f)
-Keeps reach f n (clearTo t ws) = length ws ≡ FILE
+Keeps reach f n (fileWord t k x) = (k < FILE-WIDTH) × (t ≡ f → OwnWord n k x)
+Keeps reach f n (fileTo t ws) = (length ws ≡ FILE-WIDTH) × (t ≢ f)
+Keeps reach f n (clearTo t ws) = length ws ≡ FILE-WIDTH
 Keeps reach f n (bytesTo t at bs) = Unit {0}
-Keeps reach f n (openWord e k x) = (MODE < k) × (k < OPEN)
-Keeps reach f n (openTo e ws) = (length ws ≡ OPEN) × (reads (modeAt (getD ws MODE 0)) ≡ true → getD ws SLOT 0 ≡ f → ⊥)
+Keeps reach f n (openWord e k x) = (OPEN-MODE < k) × (k < OPEN-FILE-WIDTH)
+Keeps reach f n (openTo e ws) = (length ws ≡ OPEN-FILE-WIDTH) × (reads (modeAt (getD ws OPEN-MODE 0)) ≡ true → getD ws OPEN-SLOT 0 ≡ f → ⊥)
 Keeps reach f n (openZero e) = Unit {0}
 Keeps reach f n (descTo p i x) = i < DESCRIPTORS
 Keeps reach f n (procWord p k x) = (k ≡ PROCESS-LABEL) × reach x
-Keeps reach f n (procTo p ws) = (length ws ≡ OWN) × (getD ws USED 0 ≡ 1 → reach (getD ws PROCESS-LABEL 0))
+Keeps reach f n (procTo p ws) = (length ws ≡ PROCESS-DESCRIPTOR) × (getD ws PROCESS-USED 0 ≡ 1 → reach (getD ws PROCESS-LABEL 0))
 Keeps reach f n (procZero p) = Unit {0}
 
 length-zeros : (n : ℕ) → length (zeros n) ≡ n
@@ -85,16 +85,16 @@ module _ (reach : ℕ → Type 0) (f n L : ℕ) where
   clear-own s s′ ws a =
       let e : sets (s .contents) (BLOCK * f) (zeros BLOCK) ≡ sets (s′ .contents) (BLOCK * f) (zeros BLOCK) = agree-clear (BLOCK * f) (BLOCK * f + n) (s .contents) (s′ .contents) (a .contents) (zeros BLOCK) (rw length-zeros (omega (arith, a .small))) in
       let q : sets (s .contents) (BLOCK * f + 0) (zeros BLOCK) ≡ sets (s′ .contents) (BLOCK * f + 0) (zeros BLOCK) = rw add-zero e in
-      λ i. store (puts FILE (a .files i) f 0 ws) (q i) (a .openFiles i) (a .processes i)
+      λ i. store (puts FILE-WIDTH (a .files i) f 0 ws) (q i) (a .openFiles i) (a .processes i)
 
   pub change-keeps : (c : Change) (s s′ : Store) → Keeps reach f n c → Related reach f n L s s′ → Related reach f n L (change c s) (change c s′)
   unfolding Keeps
   change-keeps c s s′ h (same e) = same (ap (change c) e)
   change-keeps (fileWord t k x) s s′ h (apart a z) = apart
-      (record { files = ap (λ (F : List ℕ). set F (FILE * t + k) x) (a .files); openFiles = a .openFiles; processes = a .processes; contents = a .contents; small = a .small })
+      (record { files = ap (λ (F : List ℕ). set F (FILE-WIDTH * t + k) x) (a .files); openFiles = a .openFiles; processes = a .processes; contents = a .contents; small = a .small })
       (record { own = own-word f n L (s .files) t k x (h .0) (h .1) (z .own); unread = z .unread; labels = z .labels })
   change-keeps (fileTo t ws) s s′ h (apart a z) = apart
-      (record { files = ap (λ (F : List ℕ). puts FILE F t 0 ws) (a .files); openFiles = a .openFiles; processes = a .processes; contents = a .contents; small = a .small })
+      (record { files = ap (λ (F : List ℕ). puts FILE-WIDTH F t 0 ws) (a .files); openFiles = a .openFiles; processes = a .processes; contents = a .contents; small = a .small })
       (record { own = own-record f n L (s .files) t ws (h .0) (h .1) (z .own); unread = z .unread; labels = z .labels })
   change-keeps (clearTo t ws) s s′ h (apart a z) = go (ℕ-discrete t f)
     where
@@ -102,7 +102,7 @@ module _ (reach : ℕ → Type 0) (f n L : ℕ) where
       go (yes e) = same (subst (λ (x : ℕ). change (clearTo x ws) s ≡ change (clearTo x ws) s′) (sym e) (clear-own s s′ ws a))
       go (no ne) = apart
           (record {
-            files = ap (λ (F : List ℕ). puts FILE F t 0 ws) (a .files);
+            files = ap (λ (F : List ℕ). puts FILE-WIDTH F t 0 ws) (a .files);
             openFiles = a .openFiles;
             processes = a .processes;
             contents = agree-sets (BLOCK * f) (BLOCK * f + n) (s .contents) (s′ .contents) (a .contents) (BLOCK * t + 0) (zeros BLOCK);
@@ -113,25 +113,25 @@ module _ (reach : ℕ → Type 0) (f n L : ℕ) where
       (record { files = a .files; openFiles = a .openFiles; processes = a .processes; contents = agree-sets (BLOCK * f) (BLOCK * f + n) (s .contents) (s′ .contents) (a .contents) (BLOCK * t + at) bs; small = a .small })
       (record { own = z .own; unread = z .unread; labels = z .labels })
   change-keeps (openWord e k x) s s′ h (apart a z) = apart
-      (record { files = a .files; openFiles = ap (λ (E : List ℕ). set E (OPEN * e + k) x) (a .openFiles); processes = a .processes; contents = a .contents; small = a .small })
+      (record { files = a .files; openFiles = ap (λ (E : List ℕ). set E (OPEN-FILE-WIDTH * e + k) x) (a .openFiles); processes = a .processes; contents = a .contents; small = a .small })
       (record { own = z .own; unread = unread-word f (s .openFiles) e k x (h .0) (h .1) (z .unread); labels = z .labels })
   change-keeps (openTo e ws) s s′ h (apart a z) = apart
-      (record { files = a .files; openFiles = ap (λ (E : List ℕ). puts OPEN E e 0 ws) (a .openFiles); processes = a .processes; contents = a .contents; small = a .small })
+      (record { files = a .files; openFiles = ap (λ (E : List ℕ). puts OPEN-FILE-WIDTH E e 0 ws) (a .openFiles); processes = a .processes; contents = a .contents; small = a .small })
       (record { own = z .own; unread = unread-record f (s .openFiles) e ws (h .0) (h .1) (z .unread); labels = z .labels })
   change-keeps (openZero e) s s′ h (apart a z) = apart
-      (record { files = a .files; openFiles = ap (λ (E : List ℕ). sets E (OPEN * e + 0) (zeros OPEN)) (a .openFiles); processes = a .processes; contents = a .contents; small = a .small })
+      (record { files = a .files; openFiles = ap (λ (E : List ℕ). sets E (OPEN-FILE-WIDTH * e + 0) (zeros OPEN-FILE-WIDTH)) (a .openFiles); processes = a .processes; contents = a .contents; small = a .small })
       (record { own = z .own; unread = unread-zero f (s .openFiles) e (z .unread); labels = z .labels })
   change-keeps (descTo p i x) s s′ h (apart a z) = apart
-      (record { files = a .files; openFiles = a .openFiles; processes = ap (λ (P : List ℕ). set P (PROCESS * p + (OWN + i)) x) (a .processes); contents = a .contents; small = a .small })
+      (record { files = a .files; openFiles = a .openFiles; processes = ap (λ (P : List ℕ). set P (PROCESS-WIDTH * p + (PROCESS-DESCRIPTOR + i)) x) (a .processes); contents = a .contents; small = a .small })
       (record { own = z .own; unread = z .unread; labels = labels-desc reach (s .processes) (z .labels) p i x h })
   change-keeps (procWord p k x) s s′ h (apart a z) = apart
-      (record { files = a .files; openFiles = a .openFiles; processes = ap (λ (P : List ℕ). set P (PROCESS * p + k) x) (a .processes); contents = a .contents; small = a .small })
+      (record { files = a .files; openFiles = a .openFiles; processes = ap (λ (P : List ℕ). set P (PROCESS-WIDTH * p + k) x) (a .processes); contents = a .contents; small = a .small })
       (record { own = z .own; unread = z .unread; labels = rw (h .0) (labels-word reach (s .processes) (z .labels) p x (h .1)) })
   change-keeps (procTo p ws) s s′ h (apart a z) = apart
-      (record { files = a .files; openFiles = a .openFiles; processes = ap (λ (P : List ℕ). puts PROCESS P p 0 ws) (a .processes); contents = a .contents; small = a .small })
+      (record { files = a .files; openFiles = a .openFiles; processes = ap (λ (P : List ℕ). puts PROCESS-WIDTH P p 0 ws) (a .processes); contents = a .contents; small = a .small })
       (record { own = z .own; unread = z .unread; labels = labels-own reach (s .processes) (z .labels) p ws (h .0) (h .1) })
   change-keeps (procZero p) s s′ h (apart a z) = apart
-      (record { files = a .files; openFiles = a .openFiles; processes = ap (λ (P : List ℕ). sets P (PROCESS * p + 0) (zeros PROCESS)) (a .processes); contents = a .contents; small = a .small })
+      (record { files = a .files; openFiles = a .openFiles; processes = ap (λ (P : List ℕ). sets P (PROCESS-WIDTH * p + 0) (zeros PROCESS-WIDTH)) (a .processes); contents = a .contents; small = a .small })
       (record { own = z .own; unread = z .unread; labels = labels-zero reach (s .processes) (z .labels) p })
 
   -- ---- a list of changes, and a number of turns

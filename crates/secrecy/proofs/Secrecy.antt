@@ -10,7 +10,7 @@ use borrow.Author.Tests.{eqb-false, lt-ltb, eq-eqb}
 use lib.Dec.{eqb}
 use lib.ListN.{List·getD-eq-default}
 use Rattle.rules.specs.Choice.{every, some}
-use Rattle.rules.specs.Layout.{SLOTS, BLOCK, FILE, OPEN-FILES, OPEN, PROCESSES, LABELS, KIND, LABEL, LENGTH, PLAIN, NONE, MODE}
+use Rattle.rules.specs.Layout.{SLOTS, BLOCK, FILE-WIDTH, OPEN-FILES, OPEN-FILE-WIDTH, PROCESSES, LABELS, FILE-KIND, FILE-LABEL, FILE-LENGTH, PLAIN, NO-TRANSITION, OPEN-MODE}
 use Rattle.rules.specs.Rights.{transition, moved}
 use Rattle.rules.specs.Store.{Store, view, tab, pidOf, ofdOf}
 use Rattle.rules.specs.Calls.{Call}
@@ -26,12 +26,12 @@ use Rattle.secrecy.proofs.Alike.{Alike, step-alike}
 
 -- ---- from what is supposed to the relation that the calls keep
 
-apart-of : (f : ℕ) (s s′ : Store) → tab FILE (s .files) f LENGTH ≤ BLOCK → DifferInBytes f s s′ → Apart f (tab FILE (s .files) f LENGTH) s s′
+apart-of : (f : ℕ) (s s′ : Store) → tab FILE-WIDTH (s .files) f FILE-LENGTH ≤ BLOCK → DifferInBytes f s s′ → Apart f (tab FILE-WIDTH (s .files) f FILE-LENGTH) s s′
 apart-of f s s′ small d = record {
   files = d .files;
   openFiles = d .openFiles;
   processes = d .processes;
-  contents = agree-of-blocks f (tab FILE (s .files) f LENGTH) (s .contents) (s′ .contents) (d .size) (d .others) (d .rest);
+  contents = agree-of-blocks f (tab FILE-WIDTH (s .files) f FILE-LENGTH) (s .contents) (s′ .contents) (d .size) (d .others) (d .rest);
   small = small;
 }
 
@@ -42,16 +42,16 @@ unread-of Q s f h none e r q = go (decLt e OPEN-FILES)
     go : Dec (e < OPEN-FILES) → ⊥
     go (yes lt) = none (record { ofd = ofdOf e; number = lt; mode = r; names = q })
     go (no ge) =
-        let z : tab OPEN (s .openFiles) e MODE ≡ 0 = List·getD-eq-default (s .openFiles) 0 (omega (arith, open-files-size Q s h)) in
+        let z : tab OPEN-FILE-WIDTH (s .openFiles) e OPEN-MODE ≡ 0 = List·getD-eq-default (s .openFiles) 0 (omega (arith, open-files-size Q s h)) in
         no-mode (rw z at r)
 
 labels-of : (Q : List ℕ) (s : Store) → sound Q s ≡ true → Labels (Reached Q s) (s .processes)
 unfolding inUse every
 labels-of Q s h = record { room = processes-size Q s h; used = λ p lt u. held _ (record { process = pidOf p; used = simp (lt-ltb p PROCESSES lt, eq-eqb _ _ u); has = refl }) }
 
-start : (Q : List ℕ) (f : ℕ) (s s′ : Store) → Supposed Q f s s′ → Related (Reached Q s) f (tab FILE (s .files) f LENGTH) (tab FILE (s .files) f LABEL) s s′
+start : (Q : List ℕ) (f : ℕ) (s s′ : Store) → Supposed Q f s s′ → Related (Reached Q s) f (tab FILE-WIDTH (s .files) f FILE-LENGTH) (tab FILE-WIDTH (s .files) f FILE-LABEL) s s′
 start Q f s s′ h =
-    let plain : tab FILE (s .files) f KIND ≡ PLAIN = h .differ .plain in
+    let plain : tab FILE-WIDTH (s .files) f FILE-KIND ≡ PLAIN = h .differ .plain in
     let slot : f < SLOTS = plain-slot Q s (h .sound-one) f plain in
     apart (apart-of f s s′ (plain-length Q s (h .sound-one) f plain) (h .differ))
     (record {
@@ -63,9 +63,9 @@ start Q f s s′ h =
 -- the labels reached are closed under execute
 reach-closed : (Q : List ℕ) (s : Store) (l m : ℕ) → m < LABELS → Reached Q s l → Reached Q s (moved Q l m)
 unfolding moved
-reach-closed Q s l m h r = go (eqb (transition Q l m) NONE) refl
+reach-closed Q s l m h r = go (eqb (transition Q l m) NO-TRANSITION) refl
   where
-    go : (b : Bool) → eqb (transition Q l m) NONE ≡ b → Reached Q s (cond b l (transition Q l m))
+    go : (b : Bool) → eqb (transition Q l m) NO-TRANSITION ≡ b → Reached Q s (cond b l (transition Q l m))
     go true e = r
     go false e = given l m h (eqb-false _ _ e) r
 
@@ -80,7 +80,7 @@ differ-of f n L s s′ a o = record {
   processes = a .processes;
   size = a .contents .size;
   others = agree-block f n (s .contents) (s′ .contents) (a .contents) (a .small);
-  rest = agree-rest f n (s .contents) (s′ .contents) (a .contents) (a .small) (tab FILE (s .files) f LENGTH) (o .within);
+  rest = agree-rest f n (s .contents) (s′ .contents) (a .contents) (a .small) (tab FILE-WIDTH (s .files) f FILE-LENGTH) (o .within);
 }
 
 -- a plain file's slot is not free
@@ -121,4 +121,4 @@ module _ (Q : List ℕ) (reach : ℕ → Type 0) (f n L : ℕ) (no-right : (l : 
 -- ---- demand 3
 
 pub secrecy : Secrecy
-secrecy Q f s s′ h cs = run-alike Q (Reached Q s) f (tab FILE (s .files) f LENGTH) (tab FILE (s .files) f LABEL) (h .no-reader) (reach-closed Q s) cs s s′ (start Q f s s′ h)
+secrecy Q f s s′ h cs = run-alike Q (Reached Q s) f (tab FILE-WIDTH (s .files) f FILE-LENGTH) (tab FILE-WIDTH (s .files) f FILE-LABEL) (h .no-reader) (reach-closed Q s) cs s s′ (start Q f s s′ h)

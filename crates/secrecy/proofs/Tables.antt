@@ -9,7 +9,7 @@ use native.Mathlib.Decide.{decLt, ℕ-discrete}
 use lib.ListN.{length, getD, set, length-set, List·getD-eq-default}
 use lib.Seq.{sets, length-sets, getD-set-same, getD-set-other}
 use Rattle.rules.specs.Choice.{some}
-use Rattle.rules.specs.Layout.{FILE, KIND, LABEL, LENGTH, PLAIN, OPEN, SLOT, MODE, PROCESSES, PROCESS, OWN, DESCRIPTORS, USED, PROCESS-LABEL}
+use Rattle.rules.specs.Layout.{FILE-WIDTH, FILE-KIND, FILE-LABEL, FILE-LENGTH, PLAIN, OPEN-FILE-WIDTH, OPEN-SLOT, OPEN-MODE, PROCESSES, PROCESS-WIDTH, PROCESS-DESCRIPTOR, DESCRIPTORS, PROCESS-USED, PROCESS-LABEL}
 use Rattle.rules.specs.Rights.{reads}
 use Rattle.rules.specs.Store.{tab, procOf, modeAt, puts, zeros}
 use Rattle.secrecy.proofs.Agree.{getD-sets-before, getD-sets-past, getD-sets-in, puts-sets}
@@ -17,155 +17,155 @@ use Rattle.secrecy.proofs.Agree.{getD-sets-before, getD-sets-past, getD
 -- ---- the files: slot f has a plain file with label L, not shorter than n
 
 pub record Own (f n L : ℕ) (F : List ℕ) : Type 0 where
-  pub plain : tab FILE F f KIND ≡ PLAIN
-  pub label : tab FILE F f LABEL ≡ L
-  pub within : n ≤ tab FILE F f LENGTH
-  pub room : FILE * f + FILE ≤ length F
+  pub plain : tab FILE-WIDTH F f FILE-KIND ≡ PLAIN
+  pub label : tab FILE-WIDTH F f FILE-LABEL ≡ L
+  pub within : n ≤ tab FILE-WIDTH F f FILE-LENGTH
+  pub room : FILE-WIDTH * f + FILE-WIDTH ≤ length F
 
 -- a word of the file's own record that may be put anew
 pub record OwnWord (n k x : ℕ) : Type 0 where
-  pub kind : k ≢ KIND
-  pub label : k ≢ LABEL
-  pub length : k ≡ LENGTH → n ≤ x
+  pub kind : k ≢ FILE-KIND
+  pub label : k ≢ FILE-LABEL
+  pub length : k ≡ FILE-LENGTH → n ≤ x
 
-word-other : (F : List ℕ) (t k x f j : ℕ) → k < FILE → j < FILE → (t ≡ f → k ≡ j → ⊥) → getD (set F (FILE * t + k) x) (FILE * f + j) 0 ≡ getD F (FILE * f + j) 0
-word-other F t k x f j hk hj ne = getD-set-other F (FILE * t + k) (FILE * f + j) x 0 (λ z. ne (omega arith) (omega arith))
+word-other : (F : List ℕ) (t k x f j : ℕ) → k < FILE-WIDTH → j < FILE-WIDTH → (t ≡ f → k ≡ j → ⊥) → getD (set F (FILE-WIDTH * t + k) x) (FILE-WIDTH * f + j) 0 ≡ getD F (FILE-WIDTH * f + j) 0
+word-other F t k x f j hk hj ne = getD-set-other F (FILE-WIDTH * t + k) (FILE-WIDTH * f + j) x 0 (λ z. ne (omega arith) (omega arith))
 
-pub own-word : (f n L : ℕ) (F : List ℕ) (t k x : ℕ) → k < FILE → (t ≡ f → OwnWord n k x) → Own f n L F → Own f n L (set F (FILE * t + k) x)
+pub own-word : (f n L : ℕ) (F : List ℕ) (t k x : ℕ) → k < FILE-WIDTH → (t ≡ f → OwnWord n k x) → Own f n L F → Own f n L (set F (FILE-WIDTH * t + k) x)
 own-word f n L F t k x h w o = record {
-  plain = word-other F t k x f KIND h (omega arith) (λ e q. w e .kind q) ∙ o .plain;
-  label = word-other F t k x f LABEL h (omega arith) (λ e q. w e .label q) ∙ o .label;
-  within = go (ℕ-discrete t f) (ℕ-discrete k LENGTH);
+  plain = word-other F t k x f FILE-KIND h (omega arith) (λ e q. w e .kind q) ∙ o .plain;
+  label = word-other F t k x f FILE-LABEL h (omega arith) (λ e q. w e .label q) ∙ o .label;
+  within = go (ℕ-discrete t f) (ℕ-discrete k FILE-LENGTH);
   room = rw length-set (o .room);
 }
   where
-    go : Dec (t ≡ f) → Dec (k ≡ LENGTH) → n ≤ getD (set F (FILE * t + k) x) (FILE * f + LENGTH) 0
-    go (no ne) q = rw (word-other F t k x f LENGTH h (omega arith) (λ e _. ne e)) (o .within)
-    go (yes e) (no ne) = rw (word-other F t k x f LENGTH h (omega arith) (λ _ z. ne z)) (o .within)
+    go : Dec (t ≡ f) → Dec (k ≡ FILE-LENGTH) → n ≤ getD (set F (FILE-WIDTH * t + k) x) (FILE-WIDTH * f + FILE-LENGTH) 0
+    go (no ne) q = rw (word-other F t k x f FILE-LENGTH h (omega arith) (λ e _. ne e)) (o .within)
+    go (yes e) (no ne) = rw (word-other F t k x f FILE-LENGTH h (omega arith) (λ _ z. ne z)) (o .within)
     go (yes e) (yes z) =
-        let same : getD (set F (FILE * f + LENGTH) x) (FILE * f + LENGTH) 0 ≡ x = getD-set-same F (FILE * f + LENGTH) x 0 (omega (arith, o .room)) in
+        let same : getD (set F (FILE-WIDTH * f + FILE-LENGTH) x) (FILE-WIDTH * f + FILE-LENGTH) 0 ≡ x = getD-set-same F (FILE-WIDTH * f + FILE-LENGTH) x 0 (omega (arith, o .room)) in
         rw (e, z, same) (w e .length z)
 
 -- another slot's record
-record-other : (F : List ℕ) (t f j : ℕ) (ws : List ℕ) → length ws ≡ FILE → t ≢ f → j < FILE → getD (puts FILE F t 0 ws) (FILE * f + j) 0 ≡ getD F (FILE * f + j) 0
+record-other : (F : List ℕ) (t f j : ℕ) (ws : List ℕ) → length ws ≡ FILE-WIDTH → t ≢ f → j < FILE-WIDTH → getD (puts FILE-WIDTH F t 0 ws) (FILE-WIDTH * f + j) 0 ≡ getD F (FILE-WIDTH * f + j) 0
 record-other F t f j ws w ne h = rw puts-sets (go (decLt t f))
   where
-    go : Dec (t < f) → getD (sets F (FILE * t + 0) ws) (FILE * f + j) 0 ≡ getD F (FILE * f + j) 0
-    go (yes lt) = getD-sets-past F (FILE * t + 0) ws (FILE * f + j) (omega arith)
-    go (no ge) = getD-sets-before F (FILE * t + 0) ws (FILE * f + j) (omega (arith, ne))
+    go : Dec (t < f) → getD (sets F (FILE-WIDTH * t + 0) ws) (FILE-WIDTH * f + j) 0 ≡ getD F (FILE-WIDTH * f + j) 0
+    go (yes lt) = getD-sets-past F (FILE-WIDTH * t + 0) ws (FILE-WIDTH * f + j) (omega arith)
+    go (no ge) = getD-sets-before F (FILE-WIDTH * t + 0) ws (FILE-WIDTH * f + j) (omega (arith, ne))
 
-pub own-record : (f n L : ℕ) (F : List ℕ) (t : ℕ) (ws : List ℕ) → length ws ≡ FILE → t ≢ f → Own f n L F → Own f n L (puts FILE F t 0 ws)
+pub own-record : (f n L : ℕ) (F : List ℕ) (t : ℕ) (ws : List ℕ) → length ws ≡ FILE-WIDTH → t ≢ f → Own f n L F → Own f n L (puts FILE-WIDTH F t 0 ws)
 own-record f n L F t ws w ne o = record {
-  plain = record-other F t f KIND ws w ne (omega arith) ∙ o .plain;
-  label = record-other F t f LABEL ws w ne (omega arith) ∙ o .label;
-  within = rw (record-other F t f LENGTH ws w ne (omega arith)) (o .within);
+  plain = record-other F t f FILE-KIND ws w ne (omega arith) ∙ o .plain;
+  label = record-other F t f FILE-LABEL ws w ne (omega arith) ∙ o .label;
+  within = rw (record-other F t f FILE-LENGTH ws w ne (omega arith)) (o .within);
   room = rw (puts-sets, length-sets) (o .room);
 }
 
 -- ---- the open files: none that reads is on slot f
 
 abbrev pub Unread : ℕ → List ℕ → Type 0
-Unread f E = (e : ℕ) → reads (modeAt (tab OPEN E e MODE)) ≡ true → tab OPEN E e SLOT ≡ f → ⊥
+Unread f E = (e : ℕ) → reads (modeAt (tab OPEN-FILE-WIDTH E e OPEN-MODE)) ≡ true → tab OPEN-FILE-WIDTH E e OPEN-SLOT ≡ f → ⊥
 
 -- an offset or a count of references
-pub unread-word : (f : ℕ) (E : List ℕ) (e k x : ℕ) → MODE < k → k < OPEN → Unread f E → Unread f (set E (OPEN * e + k) x)
+pub unread-word : (f : ℕ) (E : List ℕ) (e k x : ℕ) → OPEN-MODE < k → k < OPEN-FILE-WIDTH → Unread f E → Unread f (set E (OPEN-FILE-WIDTH * e + k) x)
 unread-word f E e k x lo hi old y r q =
-    let m : getD (set E (OPEN * e + k) x) (OPEN * y + MODE) 0 ≡ getD E (OPEN * y + MODE) 0 = getD-set-other E (OPEN * e + k) (OPEN * y + MODE) x 0 (λ z. omega arith) in
-    let s : getD (set E (OPEN * e + k) x) (OPEN * y + SLOT) 0 ≡ getD E (OPEN * y + SLOT) 0 = getD-set-other E (OPEN * e + k) (OPEN * y + SLOT) x 0 (λ z. omega arith) in
+    let m : getD (set E (OPEN-FILE-WIDTH * e + k) x) (OPEN-FILE-WIDTH * y + OPEN-MODE) 0 ≡ getD E (OPEN-FILE-WIDTH * y + OPEN-MODE) 0 = getD-set-other E (OPEN-FILE-WIDTH * e + k) (OPEN-FILE-WIDTH * y + OPEN-MODE) x 0 (λ z. omega arith) in
+    let s : getD (set E (OPEN-FILE-WIDTH * e + k) x) (OPEN-FILE-WIDTH * y + OPEN-SLOT) 0 ≡ getD E (OPEN-FILE-WIDTH * y + OPEN-SLOT) 0 = getD-set-other E (OPEN-FILE-WIDTH * e + k) (OPEN-FILE-WIDTH * y + OPEN-SLOT) x 0 (λ z. omega arith) in
     old y (rw m at r) (rw s at q)
 
 pub no-mode : reads (modeAt 0) ≡ true → ⊥
 unfolding reads some
 no-mode e = false≢true e
 
-pub unread-sets : (f : ℕ) (E : List ℕ) (e : ℕ) (ws : List ℕ) → length ws ≡ OPEN → (reads (modeAt (getD ws MODE 0)) ≡ true → getD ws SLOT 0 ≡ f → ⊥) → Unread f E
-    → Unread f (sets E (OPEN * e + 0) ws)
-unread-sets f E e ws w new old y = go (ℕ-discrete e y) (decLt (OPEN * e + MODE) (length E))
+pub unread-sets : (f : ℕ) (E : List ℕ) (e : ℕ) (ws : List ℕ) → length ws ≡ OPEN-FILE-WIDTH → (reads (modeAt (getD ws OPEN-MODE 0)) ≡ true → getD ws OPEN-SLOT 0 ≡ f → ⊥) → Unread f E
+    → Unread f (sets E (OPEN-FILE-WIDTH * e + 0) ws)
+unread-sets f E e ws w new old y = go (ℕ-discrete e y) (decLt (OPEN-FILE-WIDTH * e + OPEN-MODE) (length E))
   where
-    go : Dec (e ≡ y) → Dec (OPEN * e + MODE < length E) → reads (modeAt (getD (sets E (OPEN * e + 0) ws) (OPEN * y + MODE) 0)) ≡ true → getD (sets E (OPEN * e + 0) ws) (OPEN * y + SLOT) 0 ≡ f → ⊥
+    go : Dec (e ≡ y) → Dec (OPEN-FILE-WIDTH * e + OPEN-MODE < length E) → reads (modeAt (getD (sets E (OPEN-FILE-WIDTH * e + 0) ws) (OPEN-FILE-WIDTH * y + OPEN-MODE) 0)) ≡ true → getD (sets E (OPEN-FILE-WIDTH * e + 0) ws) (OPEN-FILE-WIDTH * y + OPEN-SLOT) 0 ≡ f → ⊥
     go (no ne) b r q = other (decLt e y) r q
       where
-        other : Dec (e < y) → reads (modeAt (getD (sets E (OPEN * e + 0) ws) (OPEN * y + MODE) 0)) ≡ true → getD (sets E (OPEN * e + 0) ws) (OPEN * y + SLOT) 0 ≡ f → ⊥
+        other : Dec (e < y) → reads (modeAt (getD (sets E (OPEN-FILE-WIDTH * e + 0) ws) (OPEN-FILE-WIDTH * y + OPEN-MODE) 0)) ≡ true → getD (sets E (OPEN-FILE-WIDTH * e + 0) ws) (OPEN-FILE-WIDTH * y + OPEN-SLOT) 0 ≡ f → ⊥
         other (yes lt) r q =
-            let m : getD (sets E (OPEN * e + 0) ws) (OPEN * y + MODE) 0 ≡ getD E (OPEN * y + MODE) 0 = getD-sets-past E (OPEN * e + 0) ws (OPEN * y + MODE) (omega arith) in
-            let s : getD (sets E (OPEN * e + 0) ws) (OPEN * y + SLOT) 0 ≡ getD E (OPEN * y + SLOT) 0 = getD-sets-past E (OPEN * e + 0) ws (OPEN * y + SLOT) (omega arith) in
+            let m : getD (sets E (OPEN-FILE-WIDTH * e + 0) ws) (OPEN-FILE-WIDTH * y + OPEN-MODE) 0 ≡ getD E (OPEN-FILE-WIDTH * y + OPEN-MODE) 0 = getD-sets-past E (OPEN-FILE-WIDTH * e + 0) ws (OPEN-FILE-WIDTH * y + OPEN-MODE) (omega arith) in
+            let s : getD (sets E (OPEN-FILE-WIDTH * e + 0) ws) (OPEN-FILE-WIDTH * y + OPEN-SLOT) 0 ≡ getD E (OPEN-FILE-WIDTH * y + OPEN-SLOT) 0 = getD-sets-past E (OPEN-FILE-WIDTH * e + 0) ws (OPEN-FILE-WIDTH * y + OPEN-SLOT) (omega arith) in
             old y (rw m at r) (rw s at q)
         other (no ge) r q =
-            let m : getD (sets E (OPEN * e + 0) ws) (OPEN * y + MODE) 0 ≡ getD E (OPEN * y + MODE) 0 = getD-sets-before E (OPEN * e + 0) ws (OPEN * y + MODE) (omega (arith, ne)) in
-            let s : getD (sets E (OPEN * e + 0) ws) (OPEN * y + SLOT) 0 ≡ getD E (OPEN * y + SLOT) 0 = getD-sets-before E (OPEN * e + 0) ws (OPEN * y + SLOT) (omega (arith, ne)) in
+            let m : getD (sets E (OPEN-FILE-WIDTH * e + 0) ws) (OPEN-FILE-WIDTH * y + OPEN-MODE) 0 ≡ getD E (OPEN-FILE-WIDTH * y + OPEN-MODE) 0 = getD-sets-before E (OPEN-FILE-WIDTH * e + 0) ws (OPEN-FILE-WIDTH * y + OPEN-MODE) (omega (arith, ne)) in
+            let s : getD (sets E (OPEN-FILE-WIDTH * e + 0) ws) (OPEN-FILE-WIDTH * y + OPEN-SLOT) 0 ≡ getD E (OPEN-FILE-WIDTH * y + OPEN-SLOT) 0 = getD-sets-before E (OPEN-FILE-WIDTH * e + 0) ws (OPEN-FILE-WIDTH * y + OPEN-SLOT) (omega (arith, ne)) in
             old y (rw m at r) (rw s at q)
     go (yes z) (yes lt) r q =
-        let e0 : OPEN * y + SLOT ≡ OPEN * e + 0 + SLOT = omega arith in
-        let e1 : OPEN * y + MODE ≡ OPEN * e + 0 + MODE = omega arith in
-        let m : getD (sets E (OPEN * e + 0) ws) (OPEN * e + 0 + MODE) 0 ≡ getD ws MODE 0 = getD-sets-in E (OPEN * e + 0) ws MODE (omega arith) (omega arith) in
-        let s : getD (sets E (OPEN * e + 0) ws) (OPEN * e + 0 + SLOT) 0 ≡ getD ws SLOT 0 = getD-sets-in E (OPEN * e + 0) ws SLOT (omega arith) (omega arith) in
+        let e0 : OPEN-FILE-WIDTH * y + OPEN-SLOT ≡ OPEN-FILE-WIDTH * e + 0 + OPEN-SLOT = omega arith in
+        let e1 : OPEN-FILE-WIDTH * y + OPEN-MODE ≡ OPEN-FILE-WIDTH * e + 0 + OPEN-MODE = omega arith in
+        let m : getD (sets E (OPEN-FILE-WIDTH * e + 0) ws) (OPEN-FILE-WIDTH * e + 0 + OPEN-MODE) 0 ≡ getD ws OPEN-MODE 0 = getD-sets-in E (OPEN-FILE-WIDTH * e + 0) ws OPEN-MODE (omega arith) (omega arith) in
+        let s : getD (sets E (OPEN-FILE-WIDTH * e + 0) ws) (OPEN-FILE-WIDTH * e + 0 + OPEN-SLOT) 0 ≡ getD ws OPEN-SLOT 0 = getD-sets-in E (OPEN-FILE-WIDTH * e + 0) ws OPEN-SLOT (omega arith) (omega arith) in
         new (rw (e1, m) at r) (rw (e0, s) at q)
     go (yes z) (no ge) r q =
-        let m : getD (sets E (OPEN * e + 0) ws) (OPEN * y + MODE) 0 ≡ 0 = List·getD-eq-default (sets E (OPEN * e + 0) ws) 0 (rw length-sets (omega arith)) in
+        let m : getD (sets E (OPEN-FILE-WIDTH * e + 0) ws) (OPEN-FILE-WIDTH * y + OPEN-MODE) 0 ≡ 0 = List·getD-eq-default (sets E (OPEN-FILE-WIDTH * e + 0) ws) 0 (rw length-sets (omega arith)) in
         no-mode (rw m at r)
 
-pub unread-record : (f : ℕ) (E : List ℕ) (e : ℕ) (ws : List ℕ) → length ws ≡ OPEN → (reads (modeAt (getD ws MODE 0)) ≡ true → getD ws SLOT 0 ≡ f → ⊥) → Unread f E
-    → Unread f (puts OPEN E e 0 ws)
+pub unread-record : (f : ℕ) (E : List ℕ) (e : ℕ) (ws : List ℕ) → length ws ≡ OPEN-FILE-WIDTH → (reads (modeAt (getD ws OPEN-MODE 0)) ≡ true → getD ws OPEN-SLOT 0 ≡ f → ⊥) → Unread f E
+    → Unread f (puts OPEN-FILE-WIDTH E e 0 ws)
 unread-record f E e ws w new old = rw puts-sets (unread-sets f E e ws w new old)
 
-pub unread-zero : (f : ℕ) (E : List ℕ) (e : ℕ) → Unread f E → Unread f (sets E (OPEN * e + 0) (zeros OPEN))
+pub unread-zero : (f : ℕ) (E : List ℕ) (e : ℕ) → Unread f E → Unread f (sets E (OPEN-FILE-WIDTH * e + 0) (zeros OPEN-FILE-WIDTH))
 unfolding zeros
 unread-zero f E e old = unread-sets f E e (0 ∷ 0 ∷ 0 ∷ 0 ∷ []) refl (λ r _. no-mode r) old
 
 -- ---- the processes: every label in use is among those reached
 
 pub record Labels (reach : ℕ → Type 0) (P : List ℕ) : Type 0 where
-  pub room : length P ≡ PROCESSES * PROCESS
-  pub used : (p : ℕ) → p < PROCESSES → procOf P p USED ≡ 1 → reach (procOf P p PROCESS-LABEL)
+  pub room : length P ≡ PROCESSES * PROCESS-WIDTH
+  pub used : (p : ℕ) → p < PROCESSES → procOf P p PROCESS-USED ≡ 1 → reach (procOf P p PROCESS-LABEL)
 
 module _ (reach : ℕ → Type 0) (P : List ℕ) (old : Labels reach P) (p : ℕ) where
   -- a descriptor is no word of a process's own
-  desc-other : (i x q k : ℕ) → i < DESCRIPTORS → k < OWN → getD (set P (PROCESS * p + (OWN + i)) x) (PROCESS * q + k) 0 ≡ getD P (PROCESS * q + k) 0
-  desc-other i x q k hi hk = getD-set-other P (PROCESS * p + (OWN + i)) (PROCESS * q + k) x 0 (λ z. omega arith)
+  desc-other : (i x q k : ℕ) → i < DESCRIPTORS → k < PROCESS-DESCRIPTOR → getD (set P (PROCESS-WIDTH * p + (PROCESS-DESCRIPTOR + i)) x) (PROCESS-WIDTH * q + k) 0 ≡ getD P (PROCESS-WIDTH * q + k) 0
+  desc-other i x q k hi hk = getD-set-other P (PROCESS-WIDTH * p + (PROCESS-DESCRIPTOR + i)) (PROCESS-WIDTH * q + k) x 0 (λ z. omega arith)
 
-  pub labels-desc : (i x : ℕ) → i < DESCRIPTORS → Labels reach (set P (PROCESS * p + (OWN + i)) x)
+  pub labels-desc : (i x : ℕ) → i < DESCRIPTORS → Labels reach (set P (PROCESS-WIDTH * p + (PROCESS-DESCRIPTOR + i)) x)
   labels-desc i x h = record {
     room = rw length-set (old .room);
-    used = λ q b u. rw (desc-other i x q PROCESS-LABEL h (omega arith)) (old .used q b (rw (desc-other i x q USED h (omega arith)) at u));
+    used = λ q b u. rw (desc-other i x q PROCESS-LABEL h (omega arith)) (old .used q b (rw (desc-other i x q PROCESS-USED h (omega arith)) at u));
   }
 
-  pub labels-word : (l : ℕ) → reach l → Labels reach (set P (PROCESS * p + PROCESS-LABEL) l)
+  pub labels-word : (l : ℕ) → reach l → Labels reach (set P (PROCESS-WIDTH * p + PROCESS-LABEL) l)
   labels-word l r = record { room = rw length-set (old .room); used = λ q b u. go q b u (ℕ-discrete q p) }
     where
-      used-same : (q : ℕ) → getD (set P (PROCESS * p + PROCESS-LABEL) l) (PROCESS * q + USED) 0 ≡ getD P (PROCESS * q + USED) 0
-      used-same q = getD-set-other P (PROCESS * p + PROCESS-LABEL) (PROCESS * q + USED) l 0 (λ z. omega arith)
+      used-same : (q : ℕ) → getD (set P (PROCESS-WIDTH * p + PROCESS-LABEL) l) (PROCESS-WIDTH * q + PROCESS-USED) 0 ≡ getD P (PROCESS-WIDTH * q + PROCESS-USED) 0
+      used-same q = getD-set-other P (PROCESS-WIDTH * p + PROCESS-LABEL) (PROCESS-WIDTH * q + PROCESS-USED) l 0 (λ z. omega arith)
 
-      go : (q : ℕ) → q < PROCESSES → getD (set P (PROCESS * p + PROCESS-LABEL) l) (PROCESS * q + USED) 0 ≡ 1 → Dec (q ≡ p) → reach (getD (set P (PROCESS * p + PROCESS-LABEL) l) (PROCESS * q + PROCESS-LABEL) 0)
+      go : (q : ℕ) → q < PROCESSES → getD (set P (PROCESS-WIDTH * p + PROCESS-LABEL) l) (PROCESS-WIDTH * q + PROCESS-USED) 0 ≡ 1 → Dec (q ≡ p) → reach (getD (set P (PROCESS-WIDTH * p + PROCESS-LABEL) l) (PROCESS-WIDTH * q + PROCESS-LABEL) 0)
       go q b u (yes e) =
-          let m : getD (set P (PROCESS * q + PROCESS-LABEL) l) (PROCESS * q + PROCESS-LABEL) 0 ≡ l = getD-set-same P (PROCESS * q + PROCESS-LABEL) l 0 (omega (arith, old .room)) in
+          let m : getD (set P (PROCESS-WIDTH * q + PROCESS-LABEL) l) (PROCESS-WIDTH * q + PROCESS-LABEL) 0 ≡ l = getD-set-same P (PROCESS-WIDTH * q + PROCESS-LABEL) l 0 (omega (arith, old .room)) in
           rw (← e, m) r
       go q b u (no ne) =
-          let m : getD (set P (PROCESS * p + PROCESS-LABEL) l) (PROCESS * q + PROCESS-LABEL) 0 ≡ getD P (PROCESS * q + PROCESS-LABEL) 0 = getD-set-other P (PROCESS * p + PROCESS-LABEL) (PROCESS * q + PROCESS-LABEL) l 0 (λ z. ne (omega arith)) in
+          let m : getD (set P (PROCESS-WIDTH * p + PROCESS-LABEL) l) (PROCESS-WIDTH * q + PROCESS-LABEL) 0 ≡ getD P (PROCESS-WIDTH * q + PROCESS-LABEL) 0 = getD-set-other P (PROCESS-WIDTH * p + PROCESS-LABEL) (PROCESS-WIDTH * q + PROCESS-LABEL) l 0 (λ z. ne (omega arith)) in
           rw m (old .used q b (rw (used-same q) at u))
 
   -- a process's own words, or all of them
-  pub labels-sets : (ws : List ℕ) → OWN ≤ length ws → length ws ≤ PROCESS → (getD ws USED 0 ≡ 1 → reach (getD ws PROCESS-LABEL 0)) → Labels reach (sets P (PROCESS * p + 0) ws)
+  pub labels-sets : (ws : List ℕ) → PROCESS-DESCRIPTOR ≤ length ws → length ws ≤ PROCESS-WIDTH → (getD ws PROCESS-USED 0 ≡ 1 → reach (getD ws PROCESS-LABEL 0)) → Labels reach (sets P (PROCESS-WIDTH * p + 0) ws)
   labels-sets ws lo hi new = record { room = rw length-sets (old .room); used = λ q b u. go q b u (ℕ-discrete q p) (decLt p q) }
     where
-      go : (q : ℕ) → q < PROCESSES → getD (sets P (PROCESS * p + 0) ws) (PROCESS * q + USED) 0 ≡ 1 → Dec (q ≡ p) → Dec (p < q) → reach (getD (sets P (PROCESS * p + 0) ws) (PROCESS * q + PROCESS-LABEL) 0)
+      go : (q : ℕ) → q < PROCESSES → getD (sets P (PROCESS-WIDTH * p + 0) ws) (PROCESS-WIDTH * q + PROCESS-USED) 0 ≡ 1 → Dec (q ≡ p) → Dec (p < q) → reach (getD (sets P (PROCESS-WIDTH * p + 0) ws) (PROCESS-WIDTH * q + PROCESS-LABEL) 0)
       go q b u (yes e) z =
-          let e0 : PROCESS * q + USED ≡ PROCESS * p + 0 + USED = omega arith in
-          let e2 : PROCESS * q + PROCESS-LABEL ≡ PROCESS * p + 0 + PROCESS-LABEL = omega arith in
-          let m : getD (sets P (PROCESS * p + 0) ws) (PROCESS * p + 0 + PROCESS-LABEL) 0 ≡ getD ws PROCESS-LABEL 0 = getD-sets-in P (PROCESS * p + 0) ws PROCESS-LABEL (omega (arith, old .room)) (omega arith) in
-          let y : getD (sets P (PROCESS * p + 0) ws) (PROCESS * p + 0 + USED) 0 ≡ getD ws USED 0 = getD-sets-in P (PROCESS * p + 0) ws USED (omega (arith, old .room)) (omega arith) in
+          let e0 : PROCESS-WIDTH * q + PROCESS-USED ≡ PROCESS-WIDTH * p + 0 + PROCESS-USED = omega arith in
+          let e2 : PROCESS-WIDTH * q + PROCESS-LABEL ≡ PROCESS-WIDTH * p + 0 + PROCESS-LABEL = omega arith in
+          let m : getD (sets P (PROCESS-WIDTH * p + 0) ws) (PROCESS-WIDTH * p + 0 + PROCESS-LABEL) 0 ≡ getD ws PROCESS-LABEL 0 = getD-sets-in P (PROCESS-WIDTH * p + 0) ws PROCESS-LABEL (omega (arith, old .room)) (omega arith) in
+          let y : getD (sets P (PROCESS-WIDTH * p + 0) ws) (PROCESS-WIDTH * p + 0 + PROCESS-USED) 0 ≡ getD ws PROCESS-USED 0 = getD-sets-in P (PROCESS-WIDTH * p + 0) ws PROCESS-USED (omega (arith, old .room)) (omega arith) in
           rw (e2, m) (new (rw (e0, y) at u))
       go q b u (no ne) (yes lt) =
-          let m : getD (sets P (PROCESS * p + 0) ws) (PROCESS * q + PROCESS-LABEL) 0 ≡ getD P (PROCESS * q + PROCESS-LABEL) 0 = getD-sets-past P (PROCESS * p + 0) ws (PROCESS * q + PROCESS-LABEL) (omega arith) in
-          let y : getD (sets P (PROCESS * p + 0) ws) (PROCESS * q + USED) 0 ≡ getD P (PROCESS * q + USED) 0 = getD-sets-past P (PROCESS * p + 0) ws (PROCESS * q + USED) (omega arith) in
+          let m : getD (sets P (PROCESS-WIDTH * p + 0) ws) (PROCESS-WIDTH * q + PROCESS-LABEL) 0 ≡ getD P (PROCESS-WIDTH * q + PROCESS-LABEL) 0 = getD-sets-past P (PROCESS-WIDTH * p + 0) ws (PROCESS-WIDTH * q + PROCESS-LABEL) (omega arith) in
+          let y : getD (sets P (PROCESS-WIDTH * p + 0) ws) (PROCESS-WIDTH * q + PROCESS-USED) 0 ≡ getD P (PROCESS-WIDTH * q + PROCESS-USED) 0 = getD-sets-past P (PROCESS-WIDTH * p + 0) ws (PROCESS-WIDTH * q + PROCESS-USED) (omega arith) in
           rw m (old .used q b (rw y at u))
       go q b u (no ne) (no ge) =
-          let m : getD (sets P (PROCESS * p + 0) ws) (PROCESS * q + PROCESS-LABEL) 0 ≡ getD P (PROCESS * q + PROCESS-LABEL) 0 = getD-sets-before P (PROCESS * p + 0) ws (PROCESS * q + PROCESS-LABEL) (omega (arith, ne)) in
-          let y : getD (sets P (PROCESS * p + 0) ws) (PROCESS * q + USED) 0 ≡ getD P (PROCESS * q + USED) 0 = getD-sets-before P (PROCESS * p + 0) ws (PROCESS * q + USED) (omega (arith, ne)) in
+          let m : getD (sets P (PROCESS-WIDTH * p + 0) ws) (PROCESS-WIDTH * q + PROCESS-LABEL) 0 ≡ getD P (PROCESS-WIDTH * q + PROCESS-LABEL) 0 = getD-sets-before P (PROCESS-WIDTH * p + 0) ws (PROCESS-WIDTH * q + PROCESS-LABEL) (omega (arith, ne)) in
+          let y : getD (sets P (PROCESS-WIDTH * p + 0) ws) (PROCESS-WIDTH * q + PROCESS-USED) 0 ≡ getD P (PROCESS-WIDTH * q + PROCESS-USED) 0 = getD-sets-before P (PROCESS-WIDTH * p + 0) ws (PROCESS-WIDTH * q + PROCESS-USED) (omega (arith, ne)) in
           rw m (old .used q b (rw y at u))
 
-  pub labels-own : (ws : List ℕ) → length ws ≡ OWN → (getD ws USED 0 ≡ 1 → reach (getD ws PROCESS-LABEL 0)) → Labels reach (puts PROCESS P p 0 ws)
+  pub labels-own : (ws : List ℕ) → length ws ≡ PROCESS-DESCRIPTOR → (getD ws PROCESS-USED 0 ≡ 1 → reach (getD ws PROCESS-LABEL 0)) → Labels reach (puts PROCESS-WIDTH P p 0 ws)
   labels-own ws w new = rw puts-sets (labels-sets ws (omega arith) (omega arith) new)
 
-  pub labels-zero : Labels reach (sets P (PROCESS * p + 0) (zeros PROCESS))
+  pub labels-zero : Labels reach (sets P (PROCESS-WIDTH * p + 0) (zeros PROCESS-WIDTH))
   unfolding zeros
   labels-zero = labels-sets (0 ∷ 0 ∷ 0 ∷ 0 ∷ 0 ∷ 0 ∷ 0 ∷ 0 ∷ 0 ∷ 0 ∷ 0 ∷ []) (omega arith) (omega arith) (λ z. absurd (omega arith))

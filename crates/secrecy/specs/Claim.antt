@@ -7,7 +7,7 @@ use mathlib.Core.Logic.{_⊎_, _≢_}
 use mathlib.Core.List.{List, [], _∷_}
 use lib.ListN.{length, drop}
 use Rattle.rules.specs.Choice.{some}
-use Rattle.rules.specs.Layout.{OPEN-FILES, LABELS, NONE, KIND, LABEL, LENGTH, PLAIN, SLOT, MODE}
+use Rattle.rules.specs.Layout.{OPEN-FILES, LABELS, NO-TRANSITION, FILE-KIND, FILE-LABEL, FILE-LENGTH, PLAIN, OPEN-SLOT, OPEN-MODE}
 use Rattle.rules.specs.Rights.{READ, reads, covers, policyRights, transition}
 use Rattle.rules.specs.Store.{Store, view, block, modeAt, subjectOf}
 use Rattle.rules.specs.Calls.{Call}
@@ -26,13 +26,13 @@ recordField s f k = view s .tree .file f k
 -- "Two stores differ only in a file's bytes if its slot has the same plain record in both, and everything else, policy included, is equal
 -- except the slot's bytes before the record's length". `others` speaks of the other slots' bytes, `rest` of the slot's own from that length on
 pub record DifferInBytes (f : ℕ) (s s′ : Store) : Type 0 where
-  pub plain : recordField s f KIND ≡ PLAIN
+  pub plain : recordField s f FILE-KIND ≡ PLAIN
   pub files : s .files ≡ s′ .files
   pub openFiles : s .openFiles ≡ s′ .openFiles
   pub processes : s .processes ≡ s′ .processes
   pub size : length (s .contents) ≡ length (s′ .contents)
   pub others : (d : ℕ) → d ≢ f → block (s .contents) d ≡ block (s′ .contents) d
-  pub rest : drop (recordField s f LENGTH) (block (s .contents) f) ≡ drop (recordField s f LENGTH) (block (s′ .contents) f)
+  pub rest : drop (recordField s f FILE-LENGTH) (block (s .contents) f) ≡ drop (recordField s f FILE-LENGTH) (block (s′ .contents) f)
 
 -- ---- who may read it
 
@@ -46,7 +46,7 @@ pub record Held (s : Store) (l : ℕ) : Type 0 where
 -- from a label that is held or can be reached, so any number of transitions on
 pub data Reached (Q : List ℕ) (s : Store) : ℕ → Type 0 where
   held : (l : ℕ) → Held s l → Reached Q s l
-  given : (l m : ℕ) → m < LABELS → transition Q l m ≢ NONE → Reached Q s l → Reached Q s (transition Q l m)
+  given : (l m : ℕ) → m < LABELS → transition Q l m ≢ NO-TRANSITION → Reached Q s l → Reached Q s (transition Q l m)
 
 -- "It may read a file's label if the policy gives it right 4 over that"
 abbrev pub mayRead : List ℕ → (l m : ℕ) → Bool
@@ -56,8 +56,8 @@ mayRead Q l m = covers (policyRights Q l m) READ
 pub record OpenForReading (s : Store) (f : ℕ) : Type 0 where
   pub ofd : Ofd
   pub number : ofd .0 < OPEN-FILES
-  pub mode : reads (modeAt (view s .openFiles (ofd .0) MODE)) ≡ true
-  pub names : view s .openFiles (ofd .0) SLOT ≡ f
+  pub mode : reads (modeAt (view s .openFiles (ofd .0) OPEN-MODE)) ≡ true
+  pub names : view s .openFiles (ofd .0) OPEN-SLOT ≡ f
 
 -- ---- "What the demand supposes is supposed where the list starts"
 
@@ -67,7 +67,7 @@ pub record Supposed (Q : List ℕ) (f : ℕ) (s s′ : Store) : Type 0 where
   pub sound-one : sound Q s ≡ true
   pub sound-other : sound Q s′ ≡ true
   pub differ : DifferInBytes f s s′
-  pub no-reader : (l : ℕ) → Reached Q s l → mayRead Q l (recordField s f LABEL) ≡ false
+  pub no-reader : (l : ℕ) → Reached Q s l → mayRead Q l (recordField s f FILE-LABEL) ≡ false
   pub not-open : OpenForReading s f → ⊥
 
 -- ---- what is claimed of the list

@@ -11,7 +11,7 @@ use lib.ListN.{length, getD, length-append, replicate, getD-replicate, length-re
 use Rattle.rules.specs.Computing.{computing}
 use Rattle.rules.specs.Choice.{implies}
 use Rattle.rules.specs.Scan.{all}
-use Rattle.rules.specs.Layout.{SLOTS, BLOCK, FILE, OPEN-FILES, OPEN, MODE, PROCESSES, LABEL, NONE, PROCESS-LABEL}
+use Rattle.rules.specs.Layout.{SLOTS, BLOCK, FILE-WIDTH, OPEN-FILES, OPEN-FILE-WIDTH, OPEN-MODE, PROCESSES, FILE-LABEL, NO-TRANSITION, PROCESS-LABEL}
 use Rattle.rules.specs.Rights.{transition}
 use Rattle.rules.specs.Store.{view, tab, procOf, zeros, slot, pidOf}
 use Rattle.rules.specs.Directories.{dirent}
@@ -110,7 +110,7 @@ unfolding computing fewLabels
 few-labels = refl
 
 noTransition : ℕ → Bool
-noTransition i = eqb (getD consolePolicy i 0) NONE
+noTransition i = eqb (getD consolePolicy i 0) NO-TRANSITION
 
 no-transitions : all noTransition 256 512 ≡ true
 unfolding computing noTransition
@@ -144,7 +144,7 @@ no-right (suc zero) h = refl
 no-right (suc (suc zero)) h = refl
 no-right (suc (suc (suc l))) h = absurd (omega arith)
 
-key-label : (k : List ℕ) → tab FILE (consoleWith k .files) 3 LABEL ≡ 3
+key-label : (k : List ℕ) → tab FILE-WIDTH (consoleWith k .files) 3 FILE-LABEL ≡ 3
 unfolding computing
 key-label k = refl
 
@@ -162,7 +162,7 @@ getD-zeros n i = go (decLt i n)
 
 nothing-open : (k : List ℕ) → OpenForReading (consoleWith k) 3 → ⊥
 unfolding consoleWith
-nothing-open k o = no-mode (rw (getD-zeros (OPEN-FILES * OPEN) (OPEN * o .ofd .0 + MODE)) at (o .mode))
+nothing-open k o = no-mode (rw (getD-zeros (OPEN-FILES * OPEN-FILE-WIDTH) (OPEN-FILE-WIDTH * o .ofd .0 + OPEN-MODE)) at (o .mode))
 
 -- ---- all that is supposed
 

@@ -13,7 +13,7 @@ use lib.Seq.{drop-drop}
 use Rattle.rules.specs.Choice.{every, some}
 use Rattle.rules.specs.Scan.{all}
 use Rattle.rules.specs.Computing.{computing}
-use Rattle.rules.specs.Layout.{SLOTS, OPEN-FILES, PROCESSES, BLOCK, OPEN, FILE, PROCESS}
+use Rattle.rules.specs.Layout.{SLOTS, OPEN-FILES, PROCESSES, BLOCK, OPEN-FILE-WIDTH, FILE-WIDTH, PROCESS-WIDTH}
 use Rattle.rules.specs.Store.{Store, Tree, View, slot, view, block, tab, procOf, descOf, hidden, shownOf, applyAll, Table}
 use Rattle.rules.specs.Calls.{Call}
 use Rattle.rules.specs.Sound.{sound, storeSound, sizesSound, tablesSound, policySound, slotSound, kindSound, plainSound, directorySound, allZero, openSound, procSound, isOpen}
@@ -38,8 +38,8 @@ quickShown F C = let bs = cut SLOTS C in λ s. drop (hidden F s) (getD bs s [])
 
 abbrev pub quickView : Store → View
 quickView s = record {
-  tree = record { file = tab FILE (s .files); shown = quickShown (s .files) (s .contents) };
-  openFiles = tab OPEN (s .openFiles);
+  tree = record { file = tab FILE-WIDTH (s .files); shown = quickShown (s .files) (s .contents) };
+  openFiles = tab OPEN-FILE-WIDTH (s .openFiles);
   proc = procOf (s .processes);
   desc = descOf (s .processes);
 }
@@ -47,18 +47,18 @@ quickView s = record {
 -- The calls of the runs leave the files and the contents as they are. So these are tested once, as if nothing were open, and the open files and the
 -- processes at each store.
 abbrev quickTree : (F C : List ℕ) → Tree
-quickTree F C = record { file = tab FILE F; shown = quickShown F C }
+quickTree F C = record { file = tab FILE-WIDTH F; shown = quickShown F C }
 
 abbrev NOTHING-OPEN : Table
 NOTHING-OPEN _ _ = 0
 
 unfoldable pub filesSound : (F C : List ℕ) → Bool
 filesSound F C =
-    every (eqb (length F) (SLOTS * FILE) ∷ eqb (length C) (SLOTS * BLOCK) ∷ isDirectory (quickTree F C .file) (slot 0) ∷ all (slotSound (quickTree F C) NOTHING-OPEN) 0 SLOTS ∷ [])
+    every (eqb (length F) (SLOTS * FILE-WIDTH) ∷ eqb (length C) (SLOTS * BLOCK) ∷ isDirectory (quickTree F C .file) (slot 0) ∷ all (slotSound (quickTree F C) NOTHING-OPEN) 0 SLOTS ∷ [])
 
 unfoldable pub restSound : Store → Bool
 restSound s =
-    every (eqb (length (s .openFiles)) (OPEN-FILES * OPEN) ∷ eqb (length (s .processes)) (PROCESSES * PROCESS) ∷ all (openSound (tab FILE (s .files)) (tab OPEN (s .openFiles)) (descOf (s .processes))) 0 OPEN-FILES
+    every (eqb (length (s .openFiles)) (OPEN-FILES * OPEN-FILE-WIDTH) ∷ eqb (length (s .processes)) (PROCESSES * PROCESS-WIDTH) ∷ all (openSound (tab FILE-WIDTH (s .files)) (tab OPEN-FILE-WIDTH (s .openFiles)) (descOf (s .processes))) 0 OPEN-FILES
     ∷ all (procSound (procOf (s .processes)) (descOf (s .processes))) 0 PROCESSES ∷ [])
 
 -- a call that changes neither files nor contents
@@ -148,10 +148,10 @@ module _ (t : Tree) (E : Table) where
   slot-opened s h = also _ _ (test 0 _ h) (also _ _ (test 1 _ h) (also _ _ (kind-opened s (test 2 _ h)) none-left))
 
 module _ (s : Store) (h : filesSound (s .files) (s .contents) ≡ true) (g : restSound s ≡ true) where
-  slots-quick : all (slotSound (quickTree (s .files) (s .contents)) (tab OPEN (s .openFiles))) 0 SLOTS ≡ true
+  slots-quick : all (slotSound (quickTree (s .files) (s .contents)) (tab OPEN-FILE-WIDTH (s .openFiles))) 0 SLOTS ≡ true
   unfolding filesSound
   slots-quick =
-      all-of (slotSound (quickTree (s .files) (s .contents)) (tab OPEN (s .openFiles))) 0 SLOTS (λ d lo hi. slot-opened (quickTree (s .files) (s .contents)) (tab OPEN (s .openFiles)) d
+      all-of (slotSound (quickTree (s .files) (s .contents)) (tab OPEN-FILE-WIDTH (s .openFiles))) 0 SLOTS (λ d lo hi. slot-opened (quickTree (s .files) (s .contents)) (tab OPEN-FILE-WIDTH (s .openFiles)) d
       (all-at (slotSound (quickTree (s .files) (s .contents)) NOTHING-OPEN) 0 SLOTS (test 3 _ h) d lo hi))
 
   tables-quick : tablesSound (quickView s) ≡ true
@@ -168,7 +168,7 @@ module _ (s : Store) (h : filesSound (s .files) (s .contents) ≡ true) (g : res
 
   tables-sound : tablesSound (view s) ≡ true
   tables-sound = subst
-      (λ (f : ℕ → List ℕ). tablesSound (record { tree = record { file = tab FILE (s .files); shown = f }; openFiles = tab OPEN (s .openFiles); proc = procOf (s .processes); desc = descOf (s .processes) }) ≡ true)
+      (λ (f : ℕ → List ℕ). tablesSound (record { tree = record { file = tab FILE-WIDTH (s .files); shown = f }; openFiles = tab OPEN-FILE-WIDTH (s .openFiles); proc = procOf (s .processes); desc = descOf (s .processes) }) ≡ true)
       (shown-quick (s .files) (s .contents) contents-size) tables-quick
 
   pub sound-quick : (Q : List ℕ) → policySound Q ≡ true → sound Q s ≡ true

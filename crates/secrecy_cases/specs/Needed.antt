@@ -2,7 +2,7 @@
 use Prim.Native.Nat.{ℕ, _+_, _*_}
 use mathlib.Core.List.{List, [], _∷_, _++_}
 use lib.ListN.{getD, set}
-use Rattle.rules.specs.Layout.{SLASH, LABELS, RIGHTS, OPEN, OPEN-FILES, PROCESS, OWN}
+use Rattle.rules.specs.Layout.{SLASH, LABELS, RIGHTS-SIZE, OPEN-FILE-WIDTH, OPEN-FILES, PROCESS-WIDTH, PROCESS-DESCRIPTOR}
 use Rattle.rules.specs.Rights.{READ, MODE-READ}
 use Rattle.rules.specs.Store.{Store, store, pidOf, fdOf}
 use Rattle.rules.specs.Calls.{Call}
@@ -46,7 +46,7 @@ abbrev pub withRights : List ℕ → (l m rights : ℕ) → List ℕ
 withRights Q l m rights = set Q (LABELS * l + m) rights
 
 abbrev pub withTransition : List ℕ → (l m label : ℕ) → List ℕ
-withTransition Q l m label = set Q (RIGHTS + (LABELS * l + m)) label
+withTransition Q l m label = set Q (RIGHTS-SIZE + (LABELS * l + m)) label
 
 -- ---- a held label may read: label 1, of process 1, has right 4 over label 3
 
@@ -70,8 +70,8 @@ reachedCalls = executesNow 1 ∷ executesNow 1 ∷ opensKey 1 ∷ readsByte 1 �
 
 unfoldable pub opened : (mode : ℕ) → (key : List ℕ) → Store
 opened mode key =
-    store (consoleWith key .files) (consoleWith key .contents) (filled (OPEN-FILES * OPEN) (3 ∷ mode ∷ 0 ∷ 1 ∷ []))
-    (set (consoleWith key .processes) (PROCESS * 2 + OWN) 1)
+    store (consoleWith key .files) (consoleWith key .contents) (filled (OPEN-FILES * OPEN-FILE-WIDTH) (3 ∷ mode ∷ 0 ∷ 1 ∷ []))
+    (set (consoleWith key .processes) (PROCESS-WIDTH * 2 + PROCESS-DESCRIPTOR) 1)
 
 abbrev pub openedCalls : List Call
 openedCalls = readsByte 2 ∷ []

@@ -9,7 +9,7 @@ use lib.Dec.{eqb}
 use lib.ListN.{getD}
 use Rattle.rules.specs.Choice.{some}
 use Rattle.rules.specs.Scan.{all}
-use Rattle.rules.specs.Layout.{SLOTS, NAME, NAMES, OPEN-FILES, LINKS}
+use Rattle.rules.specs.Layout.{SLOTS, NAME, NAMES, OPEN-FILES, FILE-LINKS}
 use Rattle.rules.specs.Store.{Tree, Table}
 use Rattle.rules.specs.Paths.{sameAt, sameName}
 use Rattle.rules.specs.Directories.{isEmpty, isPadding}
@@ -54,7 +54,7 @@ links-by : (t : Tree) (s : ℕ) → s < SLOTS → linksSoundBy (t .file) (links 
 unfolding linksSoundBy linksSound
 links-by t s h = by (eqb s 0) refl
   where
-    by : (b : Bool) → eqb s 0 ≡ b → cond b (eqb (t .file s LINKS) 0) (eqb (t .file s LINKS) (getD (links t) s 0)) ≡ cond b (eqb (t .file s LINKS) 0) (eqb (t .file s LINKS) (linksTo t s))
+    by : (b : Bool) → eqb s 0 ≡ b → cond b (eqb (t .file s FILE-LINKS) 0) (eqb (t .file s FILE-LINKS) (getD (links t) s 0)) ≡ cond b (eqb (t .file s FILE-LINKS) 0) (eqb (t .file s FILE-LINKS) (linksTo t s))
     by true q = refl
     by false q = rw (links-at t s (eqb-false s 0 q) (omega arith))
 

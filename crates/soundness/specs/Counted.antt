@@ -5,7 +5,7 @@ use mathlib.Core.List.{List, [], _∷_}
 use lib.Dec.{eqb}
 use lib.ListN.{getD}
 use Rattle.rules.specs.Choice.{every, some}
-use Rattle.rules.specs.Layout.{NAMES, LENGTH, LINKS, REFERENCES}
+use Rattle.rules.specs.Layout.{NAMES, FILE-LENGTH, FILE-LINKS, OPEN-REFERENCES}
 use Rattle.rules.specs.Store.{Tree, Table, slot}
 use Rattle.rules.specs.Paths.{sameName}
 use Rattle.rules.specs.Directories.{direntAt, isEmpty}
@@ -22,7 +22,7 @@ unfoldable pub otherWords : List ℕ → ℕ → ℕ → ℕ → Bool
 otherWords D low high j = some (not (eqb low (lowWord (direntAt D j))) ∷ not (eqb high (highWord (direntAt D j))) ∷ isEmpty D j ∷ [])
 
 unfoldable pub linksSoundBy : Table → List ℕ → ℕ → Bool
-linksSoundBy file L s = cond (eqb s 0) (eqb (file s LINKS) 0) (eqb (file s LINKS) (getD L s 0))
+linksSoundBy file L s = cond (eqb s 0) (eqb (file s FILE-LINKS) 0) (eqb (file s FILE-LINKS) (getD L s 0))
 
 unfoldable pub climbsBy : List ℕ → ℕ → ℕ → Bool
 climbsBy P zero d = eqb d 0
@@ -30,7 +30,7 @@ climbsBy P (suc n) d = cond (eqb d 0) true (climbsBy P n (getD P d 0))
 
 unfoldable pub directorySoundBy : Tree → List ℕ → ℕ → Bool
 directorySoundBy t P d =
-    every (direntsSound (t .file) (t .shown d) (t .file d LENGTH) ∷ some (eqb d 0 ∷ eqb (t .file d LINKS) 1 ∷ []) ∷ climbsBy P NAMES d ∷ [])
+    every (direntsSound (t .file) (t .shown d) (t .file d FILE-LENGTH) ∷ some (eqb d 0 ∷ eqb (t .file d FILE-LINKS) 1 ∷ []) ∷ climbsBy P NAMES d ∷ [])
 
 unfoldable pub kindSoundBy : Tree → (openFiles : Table) → List ℕ → ℕ → Bool
 kindSoundBy t openFiles P s =
@@ -42,4 +42,4 @@ slotSoundBy t openFiles L P s = every (recordSound (t .file) s ∷ linksSoundBy 
 
 unfoldable pub openSoundBy : (file openFiles : Table) → List ℕ → ℕ → Bool
 openSoundBy file openFiles H e =
-    every (eqb (openFiles e REFERENCES) (getD H (e + 1) 0) ∷ cond (eqb (openFiles e REFERENCES) 0) (openFree openFiles e) (openUsed file openFiles e) ∷ [])
+    every (eqb (openFiles e OPEN-REFERENCES) (getD H (e + 1) 0) ∷ cond (eqb (openFiles e OPEN-REFERENCES) 0) (openFree openFiles e) (openUsed file openFiles e) ∷ [])

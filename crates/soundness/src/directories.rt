@@ -7,7 +7,7 @@ ghost use lib.ListN.{getD, drop};
 ghost use Prim.Native.Nat.{_+_, _*_};
 ghost use Rattle.rules.specs.Choice.{some, implies};
 ghost use Rattle.rules.specs.Scan.{all, count};
-ghost use Rattle.rules.specs.Layout.{FILE, DIRENTS, DIRENT, NAME, SLASH};
+ghost use Rattle.rules.specs.Layout.{FILE-WIDTH, DIRENTS, DIRENT-WIDTH, NAME, SLASH};
 ghost use Rattle.rules.specs.Store.{tab};
 ghost use Rattle.rules.specs.Directories.{direntAt, direntSlot, isEmpty, isPadding};
 ghost use Rattle.rules.specs.Sound.{allZero, nameByteSound, nameSound, usedSound, direntSound, isNew, isUsed, direntsSound};
@@ -25,7 +25,7 @@ use tables::directories::is_padding;
 use tables::directories::low_at;
 use tables::files::is_free;
 use tables::ids::is_slot;
-use tables::layout::DIRENT;
+use tables::layout::DIRENT_WIDTH;
 use tables::layout::DIRENTS;
 use tables::layout::NAME;
 use tables::name_words::high_word;
@@ -39,7 +39,7 @@ const SLASH: u8 = b'/';
 const NAME_BYTES: u32 = NAME as u32;
 
 // The bytes of all entries.
-const ENTRIES: usize = (DIRENTS as usize) * DIRENT;
+const ENTRIES: usize = (DIRENTS as usize) * DIRENT_WIDTH;
 
 // Byte k is the last of a name, or 0 follows it.
 fn ends(name: &[u8], k: u32) -> bool
@@ -106,7 +106,7 @@ fn name_sound(name: &[u8]) -> bool
 
 // A name, and a slot in use.
 fn used_sound(files: &[u32], name: &[u8], target: Slot) -> bool
-    ensures { λ r. ⌜ r ≡ usedSound (tab FILE (now (files .entry))) (now (name .entry)) (target .0) ⌝ }
+    ensures { λ r. ⌜ r ≡ usedSound (tab FILE-WIDTH (now (files .entry))) (now (name .entry)) (target .0) ⌝ }
 {
     if !name_sound(name) {
         return false;
@@ -135,14 +135,14 @@ fn padding_at(dir: &[u8], i: Dirent) -> bool
 }
 
 fn used_at(files: &[u32], dir: &[u8], i: Dirent) -> bool
-    ensures { λ r. ⌜ r ≡ usedSound (tab FILE (now (files .entry))) (direntAt (now (dir .entry)) (i .0)) (direntSlot (now (dir .entry)) (i .0)) ⌝ }
+    ensures { λ r. ⌜ r ≡ usedSound (tab FILE-WIDTH (now (files .entry))) (direntAt (now (dir .entry)) (i .0)) (direntSlot (now (dir .entry)) (i .0)) ⌝ }
 {
     used_sound(files, dirent_at(dir, i), dirent_slot(dir, i))
 }
 
 // Entry i, but for its last byte.
 fn entry_sound(files: &[u32], dir: &[u8], i: Dirent) -> bool
-    ensures { λ r. ⌜ r ≡ cond (isEmpty (now (dir .entry)) (i .0)) (all (isPadding (direntAt (now (dir .entry)) (i .0))) 0 NAME) (usedSound (tab FILE (now (files .entry))) (direntAt (now (dir .entry)) (i .0)) (direntSlot (now (dir .entry)) (i .0))) ⌝ }
+    ensures { λ r. ⌜ r ≡ cond (isEmpty (now (dir .entry)) (i .0)) (all (isPadding (direntAt (now (dir .entry)) (i .0))) 0 NAME) (usedSound (tab FILE-WIDTH (now (files .entry))) (direntAt (now (dir .entry)) (i .0)) (direntSlot (now (dir .entry)) (i .0))) ⌝ }
 {
     if is_empty(dir, i) {
         return padding_at(dir, i);
@@ -157,7 +157,7 @@ fn last_zero(dir: &[u8], i: Dirent) -> bool
 }
 
 fn dirent_sound(files: &[u32], dir: &[u8], i: Dirent) -> bool
-    ensures { λ r. ⌜ r ≡ direntSound (tab FILE (now (files .entry))) (now (dir .entry)) (i .0) ⌝ }
+    ensures { λ r. ⌜ r ≡ direntSound (tab FILE-WIDTH (now (files .entry))) (now (dir .entry)) (i .0) ⌝ }
 {
     if !last_zero(dir, i) {
         return false;
@@ -166,7 +166,7 @@ fn dirent_sound(files: &[u32], dir: &[u8], i: Dirent) -> bool
 }
 
 fn all_dirents_sound(files: &[u32], dir: &[u8]) -> bool
-    ensures { λ r. ⌜ r ≡ all (direntSound (tab FILE (now (files .entry))) (now (dir .entry))) 0 DIRENTS ⌝ }
+    ensures { λ r. ⌜ r ≡ all (direntSound (tab FILE-WIDTH (now (files .entry))) (now (dir .entry))) 0 DIRENTS ⌝ }
 {
     let mut i = 0;
     while i < DIRENTS {
@@ -272,14 +272,14 @@ fn counts_right(dir: &[u8], n: u32) -> bool
 
 // What is past the entries is 0.
 fn rest_zero(dir: &[u8]) -> bool
-    ensures { λ r. ⌜ r ≡ allZero (drop (DIRENTS * DIRENT) (now (dir .entry))) ⌝ }
+    ensures { λ r. ⌜ r ≡ allZero (drop (DIRENTS * DIRENT-WIDTH) (now (dir .entry))) ⌝ }
 {
     all_zero(after(dir, ENTRIES))
 }
 
 // n is the directory's length.
 pub fn dirents_sound(files: &[u32], dir: &[u8], n: u32) -> bool
-    ensures { λ r. ⌜ r ≡ direntsSound (tab FILE (now (files .entry))) (now (dir .entry)) n ⌝ }
+    ensures { λ r. ⌜ r ≡ direntsSound (tab FILE-WIDTH (now (files .entry))) (now (dir .entry)) n ⌝ }
 {
     if !all_dirents_sound(files, dir) {
         return false;

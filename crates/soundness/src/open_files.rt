@@ -5,7 +5,7 @@ ghost use lib.Dec.{eqb, ltb};
 ghost use lib.ListN.{getD};
 ghost use Prim.Native.Nat.{_+_};
 ghost use Rattle.rules.specs.Scan.{all};
-ghost use Rattle.rules.specs.Layout.{OPEN, OPEN-FILES, SLOT, REFERENCES, SLOTS, PLAIN, FILE, KIND, MODE};
+ghost use Rattle.rules.specs.Layout.{OPEN-FILE-WIDTH, OPEN-FILES, OPEN-SLOT, OPEN-REFERENCES, SLOTS, PLAIN, FILE-WIDTH, FILE-KIND, OPEN-MODE};
 ghost use Rattle.rules.specs.Store.{tab, descOf};
 ghost use Rattle.rules.specs.Sound.{openFree, openUsed, openSound};
 ghost use Rattle.soundness.specs.Counted.{openSoundBy};
@@ -18,12 +18,12 @@ use rules::rights::OpenMode;
 use tables::files::is_plain;
 use tables::ids::is_slot;
 use tables::layout::LENGTH_MAX;
-use tables::layout::MODE;
-use tables::layout::OFFSET;
-use tables::layout::OPEN;
+use tables::layout::OPEN_FILE_WIDTH;
 use tables::layout::OPEN_FILES;
-use tables::layout::REFERENCES;
-use tables::layout::SLOT;
+use tables::layout::OPEN_MODE;
+use tables::layout::OPEN_OFFSET;
+use tables::layout::OPEN_REFERENCES;
+use tables::layout::OPEN_SLOT;
 use tables::open_files::mode;
 use tables::open_files::slot_of;
 use tables::words::get;
@@ -32,47 +32,51 @@ use tables::words::get;
 const HELD: usize = (OPEN_FILES as usize) + 1;
 
 fn references_right(open_files: &[u32], held: &[u32], e: Ofd) -> bool
-    ensures { λ r. ⌜ r ≡ eqb (tab OPEN (now («open_files» .entry)) (e .0) REFERENCES) (getD (now (held .entry)) (e .0 + 1) 0) ⌝ }
+    ensures { λ r. ⌜ r ≡ eqb (tab OPEN-FILE-WIDTH (now («open_files» .entry)) (e .0) OPEN-REFERENCES) (getD (now (held .entry)) (e .0 + 1) 0) ⌝ }
 {
     is_word(
         open_files,
-        OPEN * (e.0 as usize) + REFERENCES,
+        OPEN_FILE_WIDTH * (e.0 as usize) + OPEN_REFERENCES,
         get(held, (e.0 as usize) + 1),
     )
 }
 
 fn open_free(open_files: &[u32], e: Ofd) -> bool
-    ensures { λ r. ⌜ r ≡ openFree (tab OPEN (now («open_files» .entry))) (e .0) ⌝ }
+    ensures { λ r. ⌜ r ≡ openFree (tab OPEN-FILE-WIDTH (now («open_files» .entry))) (e .0) ⌝ }
 {
-    if !is_word(open_files, OPEN * (e.0 as usize) + SLOT, 0) {
+    if !is_word(open_files, OPEN_FILE_WIDTH * (e.0 as usize) + OPEN_SLOT, 0) {
         return false;
     }
-    if !is_word(open_files, OPEN * (e.0 as usize) + MODE, 0) {
+    if !is_word(open_files, OPEN_FILE_WIDTH * (e.0 as usize) + OPEN_MODE, 0) {
         return false;
     }
-    is_word(open_files, OPEN * (e.0 as usize) + OFFSET, 0)
+    is_word(
+        open_files,
+        OPEN_FILE_WIDTH * (e.0 as usize) + OPEN_OFFSET,
+        0,
+    )
 }
 
 fn slot_inside(open_files: &[u32], e: Ofd) -> bool
-    ensures { λ r. ⌜ r ≡ ltb (tab OPEN (now («open_files» .entry)) (e .0) SLOT) SLOTS ⌝ }
+    ensures { λ r. ⌜ r ≡ ltb (tab OPEN-FILE-WIDTH (now («open_files» .entry)) (e .0) OPEN-SLOT) SLOTS ⌝ }
 {
     is_slot(slot_of(open_files, e))
 }
 
 fn on_plain(files: &[u32], open_files: &[u32], e: Ofd) -> bool
-    ensures { λ r. ⌜ r ≡ eqb (tab FILE (now (files .entry)) (tab OPEN (now («open_files» .entry)) (e .0) SLOT) KIND) PLAIN ⌝ }
+    ensures { λ r. ⌜ r ≡ eqb (tab FILE-WIDTH (now (files .entry)) (tab OPEN-FILE-WIDTH (now («open_files» .entry)) (e .0) OPEN-SLOT) FILE-KIND) PLAIN ⌝ }
 {
     is_plain(files, slot_of(open_files, e))
 }
 
 fn mode_sound(open_files: &[u32], e: Ofd) -> bool
-    ensures { λ r. ⌜ r ≡ modeKept (modeOf (tab OPEN (now («open_files» .entry)) (e .0) MODE)) ⌝ }
+    ensures { λ r. ⌜ r ≡ modeKept (modeOf (tab OPEN-FILE-WIDTH (now («open_files» .entry)) (e .0) OPEN-MODE)) ⌝ }
 {
     OpenMode::kept(mode(open_files, e).0)
 }
 
 fn open_used(files: &[u32], open_files: &[u32], e: Ofd) -> bool
-    ensures { λ r. ⌜ r ≡ openUsed (tab FILE (now (files .entry))) (tab OPEN (now («open_files» .entry))) (e .0) ⌝ }
+    ensures { λ r. ⌜ r ≡ openUsed (tab FILE-WIDTH (now (files .entry))) (tab OPEN-FILE-WIDTH (now («open_files» .entry))) (e .0) ⌝ }
 {
     if !slot_inside(open_files, e) {
         return false;
@@ -83,21 +87,29 @@ fn open_used(files: &[u32], open_files: &[u32], e: Ofd) -> bool
     if !mode_sound(open_files, e) {
         return false;
     }
-    at_most(open_files, OPEN * (e.0 as usize) + OFFSET, LENGTH_MAX)
+    at_most(
+        open_files,
+        OPEN_FILE_WIDTH * (e.0 as usize) + OPEN_OFFSET,
+        LENGTH_MAX,
+    )
 }
 
 // A free open file is all zero, any other is on a plain file.
 fn referred_sound(files: &[u32], open_files: &[u32], e: Ofd) -> bool
-    ensures { λ r. ⌜ r ≡ cond (eqb (tab OPEN (now («open_files» .entry)) (e .0) REFERENCES) 0) (openFree (tab OPEN (now («open_files» .entry))) (e .0)) (openUsed (tab FILE (now (files .entry))) (tab OPEN (now («open_files» .entry))) (e .0)) ⌝ }
+    ensures { λ r. ⌜ r ≡ cond (eqb (tab OPEN-FILE-WIDTH (now («open_files» .entry)) (e .0) OPEN-REFERENCES) 0) (openFree (tab OPEN-FILE-WIDTH (now («open_files» .entry))) (e .0)) (openUsed (tab FILE-WIDTH (now (files .entry))) (tab OPEN-FILE-WIDTH (now («open_files» .entry))) (e .0)) ⌝ }
 {
-    if is_word(open_files, OPEN * (e.0 as usize) + REFERENCES, 0) {
+    if is_word(
+        open_files,
+        OPEN_FILE_WIDTH * (e.0 as usize) + OPEN_REFERENCES,
+        0,
+    ) {
         return open_free(open_files, e);
     }
     open_used(files, open_files, e)
 }
 
 fn open_sound(files: &[u32], open_files: &[u32], held: &[u32], e: Ofd) -> bool
-    ensures { λ r. ⌜ r ≡ openSoundBy (tab FILE (now (files .entry))) (tab OPEN (now («open_files» .entry))) (now (held .entry)) (e .0) ⌝ }
+    ensures { λ r. ⌜ r ≡ openSoundBy (tab FILE-WIDTH (now (files .entry))) (tab OPEN-FILE-WIDTH (now («open_files» .entry))) (now (held .entry)) (e .0) ⌝ }
 {
     if !references_right(open_files, held, e) {
         return false;
@@ -106,7 +118,7 @@ fn open_sound(files: &[u32], open_files: &[u32], held: &[u32], e: Ofd) -> bool
 }
 
 fn all_open_files_sound(files: &[u32], open_files: &[u32], held: &[u32]) -> bool
-    ensures { λ r. ⌜ r ≡ all (openSoundBy (tab FILE (now (files .entry))) (tab OPEN (now («open_files» .entry))) (now (held .entry))) 0 OPEN-FILES ⌝ }
+    ensures { λ r. ⌜ r ≡ all (openSoundBy (tab FILE-WIDTH (now (files .entry))) (tab OPEN-FILE-WIDTH (now («open_files» .entry))) (now (held .entry))) 0 OPEN-FILES ⌝ }
 {
     let mut e = 0;
     while e < OPEN_FILES {
@@ -120,7 +132,7 @@ fn all_open_files_sound(files: &[u32], open_files: &[u32], held: &[u32]) -> bool
 }
 
 pub fn open_files_sound(files: &[u32], open_files: &[u32], processes: &[u32]) -> bool
-    ensures { λ r. ⌜ r ≡ all (openSound (tab FILE (now (files .entry))) (tab OPEN (now («open_files» .entry))) (descOf (now (processes .entry)))) 0 OPEN-FILES ⌝ }
+    ensures { λ r. ⌜ r ≡ all (openSound (tab FILE-WIDTH (now (files .entry))) (tab OPEN-FILE-WIDTH (now («open_files» .entry))) (descOf (now (processes .entry)))) 0 OPEN-FILES ⌝ }
 {
     let mut held = [0; HELD];
     count_held(processes, &mut held);

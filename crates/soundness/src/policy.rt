@@ -3,21 +3,21 @@ ghost use mathlib.Core.Path.{_≡_};
 ghost use mathlib.Core.Bool.{cond, false};
 ghost use Prim.Native.Nat.{_+_};
 ghost use Rattle.rules.specs.Scan.{all};
-ghost use Rattle.rules.specs.Layout.{RIGHTS};
+ghost use Rattle.rules.specs.Layout.{RIGHTS-SIZE};
 ghost use Rattle.rules.specs.Sound.{rightSound, transitionSound, policySound};
 use crate::fields::byte_at_most;
 use crate::fields::is_byte;
 use rules::rights::Rights;
 use tables::layout::LABEL_MAX;
-use tables::layout::NONE;
+use tables::layout::NO_TRANSITION;
 use tables::layout::POLICY_SIZE;
-use tables::layout::RIGHTS;
+use tables::layout::RIGHTS_SIZE;
 use tables::words::byte;
 
 // As bytes of a policy.
 const MOVE_MAX: u8 = LABEL_MAX as u8;
 
-const NO_MOVE: u8 = NONE as u8;
+const NO_MOVE: u8 = NO_TRANSITION as u8;
 
 fn right_sound(policy: &[u8], i: usize) -> bool
     ensures { λ r. ⌜ r ≡ rightSound (now (policy .entry)) i ⌝ }
@@ -42,11 +42,11 @@ fn both(a: bool, b: bool) -> bool
 }
 
 fn rights_sound(policy: &[u8]) -> bool
-    ensures { λ r. ⌜ r ≡ all (rightSound (now (policy .entry))) 0 RIGHTS ⌝ }
+    ensures { λ r. ⌜ r ≡ all (rightSound (now (policy .entry))) 0 RIGHTS-SIZE ⌝ }
 {
     let mut fine = true;
     let mut i = 0;
-    while i < RIGHTS {
+    while i < RIGHTS_SIZE {
         fine = both(fine, right_sound(policy, i));
         i += 1;
     }
@@ -54,10 +54,10 @@ fn rights_sound(policy: &[u8]) -> bool
 }
 
 fn transitions_sound(policy: &[u8]) -> bool
-    ensures { λ r. ⌜ r ≡ all (transitionSound (now (policy .entry))) RIGHTS (RIGHTS + RIGHTS) ⌝ }
+    ensures { λ r. ⌜ r ≡ all (transitionSound (now (policy .entry))) RIGHTS-SIZE (RIGHTS-SIZE + RIGHTS-SIZE) ⌝ }
 {
     let mut fine = true;
-    let mut i = RIGHTS;
+    let mut i = RIGHTS_SIZE;
     while i < POLICY_SIZE {
         fine = both(fine, transition_sound(policy, i));
         i += 1;

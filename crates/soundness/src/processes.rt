@@ -3,7 +3,7 @@ ghost use mathlib.Core.Path.{_≡_};
 ghost use lib.Dec.{eqb};
 ghost use Rattle.rules.specs.Scan.{all};
 ghost use Rattle.rules.specs.Store.{descOf, procOf};
-ghost use Rattle.rules.specs.Layout.{PROCESSES, DESCRIPTORS, USED};
+ghost use Rattle.rules.specs.Layout.{PROCESSES, DESCRIPTORS, PROCESS-USED};
 ghost use Rattle.rules.specs.Sound.{descSound, descFree, procFree, procUsed, procSound};
 use crate::fields::at_most;
 use crate::fields::is_word;
@@ -12,11 +12,11 @@ use rules::ids::Pid;
 use tables::layout::DESCRIPTORS;
 use tables::layout::LABEL_MAX;
 use tables::layout::OPEN_FILES;
-use tables::layout::PROCESS;
 use tables::layout::PROCESS_LABEL;
+use tables::layout::PROCESS_USED;
+use tables::layout::PROCESS_USER;
+use tables::layout::PROCESS_WIDTH;
 use tables::layout::PROCESSES;
-use tables::layout::USED;
-use tables::layout::USER;
 use tables::layout::USER_MAX;
 use tables::processes::descriptor;
 
@@ -63,10 +63,10 @@ fn all_desc_free(processes: &[u32], p: Pid) -> bool
 fn proc_free(processes: &[u32], p: Pid) -> bool
     ensures { λ r. ⌜ r ≡ procFree (procOf (now (processes .entry))) (descOf (now (processes .entry))) (p .0) ⌝ }
 {
-    if !is_word(processes, PROCESS * (p.0 as usize) + USER, 0) {
+    if !is_word(processes, PROCESS_WIDTH * (p.0 as usize) + PROCESS_USER, 0) {
         return false;
     }
-    if !is_word(processes, PROCESS * (p.0 as usize) + PROCESS_LABEL, 0) {
+    if !is_word(processes, PROCESS_WIDTH * (p.0 as usize) + PROCESS_LABEL, 0) {
         return false;
     }
     all_desc_free(processes, p)
@@ -75,15 +75,19 @@ fn proc_free(processes: &[u32], p: Pid) -> bool
 fn proc_used(processes: &[u32], p: Pid) -> bool
     ensures { λ r. ⌜ r ≡ procUsed (procOf (now (processes .entry))) (descOf (now (processes .entry))) (p .0) ⌝ }
 {
-    if !is_word(processes, PROCESS * (p.0 as usize) + USED, 1) {
-        return false;
-    }
-    if !at_most(processes, PROCESS * (p.0 as usize) + USER, USER_MAX) {
+    if !is_word(processes, PROCESS_WIDTH * (p.0 as usize) + PROCESS_USED, 1) {
         return false;
     }
     if !at_most(
         processes,
-        PROCESS * (p.0 as usize) + PROCESS_LABEL,
+        PROCESS_WIDTH * (p.0 as usize) + PROCESS_USER,
+        USER_MAX,
+    ) {
+        return false;
+    }
+    if !at_most(
+        processes,
+        PROCESS_WIDTH * (p.0 as usize) + PROCESS_LABEL,
         LABEL_MAX,
     ) {
         return false;
@@ -92,9 +96,9 @@ fn proc_used(processes: &[u32], p: Pid) -> bool
 }
 
 fn unused(processes: &[u32], p: Pid) -> bool
-    ensures { λ r. ⌜ r ≡ eqb (procOf (now (processes .entry)) (p .0) USED) 0 ⌝ }
+    ensures { λ r. ⌜ r ≡ eqb (procOf (now (processes .entry)) (p .0) PROCESS-USED) 0 ⌝ }
 {
-    is_word(processes, PROCESS * (p.0 as usize) + USED, 0)
+    is_word(processes, PROCESS_WIDTH * (p.0 as usize) + PROCESS_USED, 0)
 }
 
 fn proc_sound(processes: &[u32], p: Pid) -> bool

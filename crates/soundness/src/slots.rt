@@ -4,7 +4,7 @@ ghost use mathlib.Core.List.{[], _∷_};
 ghost use lib.Dec.{ltb};
 ghost use Rattle.rules.specs.Choice.{some};
 ghost use Rattle.rules.specs.Scan.{all};
-ghost use Rattle.rules.specs.Layout.{SLOTS, FILE, OPEN, LINKS};
+ghost use Rattle.rules.specs.Layout.{SLOTS, FILE-WIDTH, OPEN-FILE-WIDTH, FILE-LINKS};
 ghost use Rattle.rules.specs.Store.{tab, tree, shownOf};
 ghost use Rattle.rules.specs.Sound.{allZero, isOpen, plainSound, slotSound};
 ghost use Rattle.soundness.specs.Counted.{kindSoundBy, slotSoundBy};
@@ -20,8 +20,8 @@ use tables::files::is_directory;
 use tables::files::is_plain;
 use tables::files::links;
 use tables::files::shown;
-use tables::layout::FILE;
-use tables::layout::LENGTH;
+use tables::layout::FILE_LENGTH;
+use tables::layout::FILE_WIDTH;
 use tables::layout::LENGTH_MAX;
 use tables::layout::OPEN_FILES;
 use tables::layout::SLOTS;
@@ -37,13 +37,13 @@ fn shown_zero(files: &[u32], contents: &[u8], s: Slot) -> bool
 }
 
 fn is_named(files: &[u32], s: Slot) -> bool
-    ensures { λ r. ⌜ r ≡ ltb 0 (tab FILE (now (files .entry)) (s .0) LINKS) ⌝ }
+    ensures { λ r. ⌜ r ≡ ltb 0 (tab FILE-WIDTH (now (files .entry)) (s .0) FILE-LINKS) ⌝ }
 {
     0 < links(files, s)
 }
 
 fn named_or_open(files: &[u32], open_files: &[u32], s: Slot) -> bool
-    ensures { λ r. ⌜ r ≡ some (ltb 0 (tab FILE (now (files .entry)) (s .0) LINKS) ∷ isOpen (tab OPEN (now («open_files» .entry))) s ∷ []) ⌝ }
+    ensures { λ r. ⌜ r ≡ some (ltb 0 (tab FILE-WIDTH (now (files .entry)) (s .0) FILE-LINKS) ∷ isOpen (tab OPEN-FILE-WIDTH (now («open_files» .entry))) s ∷ []) ⌝ }
 {
     if is_named(files, s) {
         return true;
@@ -52,9 +52,9 @@ fn named_or_open(files: &[u32], open_files: &[u32], s: Slot) -> bool
 }
 
 fn plain_sound(files: &[u32], contents: &[u8], open_files: &[u32], s: Slot) -> bool
-    ensures { λ r. ⌜ r ≡ plainSound (tree (now (files .entry)) (now (contents .entry))) (tab OPEN (now («open_files» .entry))) (s .0) ⌝ }
+    ensures { λ r. ⌜ r ≡ plainSound (tree (now (files .entry)) (now (contents .entry))) (tab OPEN-FILE-WIDTH (now («open_files» .entry))) (s .0) ⌝ }
 {
-    if !at_most(files, FILE * (s.0 as usize) + LENGTH, LENGTH_MAX) {
+    if !at_most(files, FILE_WIDTH * (s.0 as usize) + FILE_LENGTH, LENGTH_MAX) {
         return false;
     }
     if !named_or_open(files, open_files, s) {
@@ -64,7 +64,7 @@ fn plain_sound(files: &[u32], contents: &[u8], open_files: &[u32], s: Slot) -> b
 }
 
 fn kind_sound(files: &[u32], contents: &[u8], open_files: &[u32], parents: &[u32], s: Slot) -> bool
-    ensures { λ r. ⌜ r ≡ kindSoundBy (tree (now (files .entry)) (now (contents .entry))) (tab OPEN (now («open_files» .entry))) (now (parents .entry)) (s .0) ⌝ }
+    ensures { λ r. ⌜ r ≡ kindSoundBy (tree (now (files .entry)) (now (contents .entry))) (tab OPEN-FILE-WIDTH (now («open_files» .entry))) (now (parents .entry)) (s .0) ⌝ }
 {
     if is_directory(files, s) {
         return directory_sound(files, contents, parents, s);
@@ -83,7 +83,7 @@ fn slot_sound(
     parents: &[u32],
     s: Slot,
 ) -> bool
-    ensures { λ r. ⌜ r ≡ slotSoundBy (tree (now (files .entry)) (now (contents .entry))) (tab OPEN (now («open_files» .entry))) (now (links .entry)) (now (parents .entry)) (s .0) ⌝ }
+    ensures { λ r. ⌜ r ≡ slotSoundBy (tree (now (files .entry)) (now (contents .entry))) (tab OPEN-FILE-WIDTH (now («open_files» .entry))) (now (links .entry)) (now (parents .entry)) (s .0) ⌝ }
 {
     if !record_sound(files, s) {
         return false;
@@ -101,7 +101,7 @@ fn all_slots_sound(
     links: &[u32],
     parents: &[u32],
 ) -> bool
-    ensures { λ r. ⌜ r ≡ all (slotSoundBy (tree (now (files .entry)) (now (contents .entry))) (tab OPEN (now («open_files» .entry))) (now (links .entry)) (now (parents .entry))) 0 SLOTS ⌝ }
+    ensures { λ r. ⌜ r ≡ all (slotSoundBy (tree (now (files .entry)) (now (contents .entry))) (tab OPEN-FILE-WIDTH (now («open_files» .entry))) (now (links .entry)) (now (parents .entry))) 0 SLOTS ⌝ }
 {
     let mut s = 0;
     while s < SLOTS {
@@ -115,7 +115,7 @@ fn all_slots_sound(
 }
 
 pub fn slots_sound(files: &[u32], contents: &[u8], open_files: &[u32]) -> bool
-    ensures { λ r. ⌜ r ≡ all (slotSound (tree (now (files .entry)) (now (contents .entry))) (tab OPEN (now («open_files» .entry)))) 0 SLOTS ⌝ }
+    ensures { λ r. ⌜ r ≡ all (slotSound (tree (now (files .entry)) (now (contents .entry))) (tab OPEN-FILE-WIDTH (now («open_files» .entry)))) 0 SLOTS ⌝ }
 {
     let mut links = [0; SLOTS_AND_NONE];
     let mut parents = [SLOTS; SLOTS_AND_NONE];

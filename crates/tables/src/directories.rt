@@ -3,7 +3,7 @@ ghost use mathlib.Core.Path.{_≡_};
 ghost use Rattle.rules.specs.Directories.{direntAt, direntSlot, isEmpty, isPadding};
 ghost use Rattle.rules.specs.Store.{slot};
 ghost use Rattle.tables.specs.NameWords.{lowWord, highWord};
-use crate::layout::DIRENT;
+use crate::layout::DIRENT_WIDTH;
 use crate::layout::NAME;
 use crate::name_words::high_word;
 use crate::name_words::low_word;
@@ -16,7 +16,7 @@ use rules::ids::Slot;
 pub fn dirent_at(dir: &[u8], i: Dirent) -> &[u8]
     ensures { λ r. ⌜ now r ≡ direntAt (now (dir .entry)) (i .0) ⌝ }
 {
-    after(dir, DIRENT * (i.0 as usize))
+    after(dir, DIRENT_WIDTH * (i.0 as usize))
 }
 
 // The slot that entry i names, 0 where it is empty.

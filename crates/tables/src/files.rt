@@ -1,20 +1,20 @@
 // The file table, a record of 7 words for each slot, and the contents, 512 bytes a slot.
 ghost use mathlib.Core.Path.{_≡_};
 ghost use lib.Dec.{eqb};
-ghost use Rattle.rules.specs.Layout.{FILE, KIND, OWNER, BITS, LABEL, LENGTH, LINKS, VERSION, FREE, PLAIN, DIRECTORY};
+ghost use Rattle.rules.specs.Layout.{FILE-WIDTH, FILE-KIND, FILE-OWNER, FILE-BITS, FILE-LABEL, FILE-LENGTH, FILE-LINKS, FILE-VERSION, FREE, PLAIN, DIRECTORY};
 ghost use Rattle.rules.specs.Store.{tab, bitsAt, block, hidden, shownOf, recordOf};
-use crate::layout::BITS;
 use crate::layout::BLOCK;
 use crate::layout::DIRECTORY;
-use crate::layout::FILE;
+use crate::layout::FILE_BITS;
+use crate::layout::FILE_KIND;
+use crate::layout::FILE_LABEL;
+use crate::layout::FILE_LENGTH;
+use crate::layout::FILE_LINKS;
+use crate::layout::FILE_OWNER;
+use crate::layout::FILE_VERSION;
+use crate::layout::FILE_WIDTH;
 use crate::layout::FREE;
-use crate::layout::KIND;
-use crate::layout::LABEL;
-use crate::layout::LENGTH;
-use crate::layout::LINKS;
-use crate::layout::OWNER;
 use crate::layout::PLAIN;
-use crate::layout::VERSION;
 use crate::parts::after;
 use crate::parts::upto;
 use crate::words::get;
@@ -23,49 +23,49 @@ use rules::ids::Slot;
 use rules::rights::Bits;
 
 pub fn kind(files: &[u32], s: Slot) -> u32
-    ensures { λ r. ⌜ r ≡ tab FILE (now (files .entry)) (s .0) KIND ⌝ }
+    ensures { λ r. ⌜ r ≡ tab FILE-WIDTH (now (files .entry)) (s .0) FILE-KIND ⌝ }
 {
-    get(files, FILE * (s.0 as usize) + KIND)
+    get(files, FILE_WIDTH * (s.0 as usize) + FILE_KIND)
 }
 
 pub fn owner(files: &[u32], s: Slot) -> u32
-    ensures { λ r. ⌜ r ≡ tab FILE (now (files .entry)) (s .0) OWNER ⌝ }
+    ensures { λ r. ⌜ r ≡ tab FILE-WIDTH (now (files .entry)) (s .0) FILE-OWNER ⌝ }
 {
-    get(files, FILE * (s.0 as usize) + OWNER)
+    get(files, FILE_WIDTH * (s.0 as usize) + FILE_OWNER)
 }
 
 pub fn bits(files: &[u32], s: Slot) -> Bits
-    ensures { λ r. ⌜ r ≡ bitsAt (tab FILE (now (files .entry)) (s .0) BITS) ⌝ }
+    ensures { λ r. ⌜ r ≡ bitsAt (tab FILE-WIDTH (now (files .entry)) (s .0) FILE-BITS) ⌝ }
 {
-    Bits(get(files, FILE * (s.0 as usize) + BITS))
+    Bits(get(files, FILE_WIDTH * (s.0 as usize) + FILE_BITS))
 }
 
 pub fn label(files: &[u32], s: Slot) -> u32
-    ensures { λ r. ⌜ r ≡ tab FILE (now (files .entry)) (s .0) LABEL ⌝ }
+    ensures { λ r. ⌜ r ≡ tab FILE-WIDTH (now (files .entry)) (s .0) FILE-LABEL ⌝ }
 {
-    get(files, FILE * (s.0 as usize) + LABEL)
+    get(files, FILE_WIDTH * (s.0 as usize) + FILE_LABEL)
 }
 
 pub fn length(files: &[u32], s: Slot) -> u32
-    ensures { λ r. ⌜ r ≡ tab FILE (now (files .entry)) (s .0) LENGTH ⌝ }
+    ensures { λ r. ⌜ r ≡ tab FILE-WIDTH (now (files .entry)) (s .0) FILE-LENGTH ⌝ }
 {
-    get(files, FILE * (s.0 as usize) + LENGTH)
+    get(files, FILE_WIDTH * (s.0 as usize) + FILE_LENGTH)
 }
 
 pub fn links(files: &[u32], s: Slot) -> u32
-    ensures { λ r. ⌜ r ≡ tab FILE (now (files .entry)) (s .0) LINKS ⌝ }
+    ensures { λ r. ⌜ r ≡ tab FILE-WIDTH (now (files .entry)) (s .0) FILE-LINKS ⌝ }
 {
-    get(files, FILE * (s.0 as usize) + LINKS)
+    get(files, FILE_WIDTH * (s.0 as usize) + FILE_LINKS)
 }
 
 pub fn version(files: &[u32], s: Slot) -> u32
-    ensures { λ r. ⌜ r ≡ tab FILE (now (files .entry)) (s .0) VERSION ⌝ }
+    ensures { λ r. ⌜ r ≡ tab FILE-WIDTH (now (files .entry)) (s .0) FILE-VERSION ⌝ }
 {
-    get(files, FILE * (s.0 as usize) + VERSION)
+    get(files, FILE_WIDTH * (s.0 as usize) + FILE_VERSION)
 }
 
 pub fn record(files: &[u32], s: Slot) -> Record
-    ensures { λ r. ⌜ r ≡ recordOf (tab FILE (now (files .entry))) s ⌝ }
+    ensures { λ r. ⌜ r ≡ recordOf (tab FILE-WIDTH (now (files .entry))) s ⌝ }
 {
     Record {
         kind: kind(files, s),
@@ -79,19 +79,19 @@ pub fn record(files: &[u32], s: Slot) -> Record
 }
 
 pub fn is_free(files: &[u32], s: Slot) -> bool
-    ensures { λ r. ⌜ r ≡ eqb (tab FILE (now (files .entry)) (s .0) KIND) FREE ⌝ }
+    ensures { λ r. ⌜ r ≡ eqb (tab FILE-WIDTH (now (files .entry)) (s .0) FILE-KIND) FREE ⌝ }
 {
     kind(files, s) == FREE
 }
 
 pub fn is_plain(files: &[u32], s: Slot) -> bool
-    ensures { λ r. ⌜ r ≡ eqb (tab FILE (now (files .entry)) (s .0) KIND) PLAIN ⌝ }
+    ensures { λ r. ⌜ r ≡ eqb (tab FILE-WIDTH (now (files .entry)) (s .0) FILE-KIND) PLAIN ⌝ }
 {
     kind(files, s) == PLAIN
 }
 
 pub fn is_directory(files: &[u32], s: Slot) -> bool
-    ensures { λ r. ⌜ r ≡ eqb (tab FILE (now (files .entry)) (s .0) KIND) DIRECTORY ⌝ }
+    ensures { λ r. ⌜ r ≡ eqb (tab FILE-WIDTH (now (files .entry)) (s .0) FILE-KIND) DIRECTORY ⌝ }
 {
     kind(files, s) == DIRECTORY
 }

@@ -9,7 +9,7 @@ pub const BLOCK: usize = 512;
 // Entries of a directory (the paper's places), and the bytes of one.
 pub const DIRENTS: u32 = 16;
 
-pub const DIRENT: usize = 16;
+pub const DIRENT_WIDTH: usize = 16;
 
 // Open files (the paper's open entries).
 pub const OPEN_FILES: u32 = 32;
@@ -21,7 +21,7 @@ pub const DESCRIPTORS: u8 = 8;
 pub const LABELS: usize = 16;
 
 // Of a policy's two parts: the rights, then as many transitions.
-pub const RIGHTS: usize = LABELS * LABELS;
+pub const RIGHTS_SIZE: usize = LABELS * LABELS;
 
 // Bytes of a name, names and bytes of a path.
 pub const NAME: usize = 14;
@@ -31,23 +31,23 @@ pub const NAMES: u8 = 8;
 pub const PATH: usize = 64;
 
 // A file's record: how many words it has, and their columns.
-pub const FILE: usize = 7;
+pub const FILE_WIDTH: usize = 7;
 
-pub const KIND: usize = 0;
+pub const FILE_KIND: usize = 0;
 
-pub const OWNER: usize = 1;
+pub const FILE_OWNER: usize = 1;
 
-pub const BITS: usize = 2;
+pub const FILE_BITS: usize = 2;
 
-pub const LABEL: usize = 3;
+pub const FILE_LABEL: usize = 3;
 
-pub const LENGTH: usize = 4;
+pub const FILE_LENGTH: usize = 4;
 
 // How many directory entries name it (the paper's names).
-pub const LINKS: usize = 5;
+pub const FILE_LINKS: usize = 5;
 
 // The paper's stamp.
-pub const VERSION: usize = 6;
+pub const FILE_VERSION: usize = 6;
 
 // Kinds.
 pub const FREE: u32 = 0;
@@ -57,31 +57,31 @@ pub const PLAIN: u32 = 1;
 pub const DIRECTORY: u32 = 2;
 
 // An open file: how many words it has, and their columns.
-pub const OPEN: usize = 4;
+pub const OPEN_FILE_WIDTH: usize = 4;
 
-pub const SLOT: usize = 0;
+pub const OPEN_SLOT: usize = 0;
 
-pub const MODE: usize = 1;
+pub const OPEN_MODE: usize = 1;
 
 // The paper's position.
-pub const OFFSET: usize = 2;
+pub const OPEN_OFFSET: usize = 2;
 
-pub const REFERENCES: usize = 3;
+pub const OPEN_REFERENCES: usize = 3;
 
 // A process: how many words it has, how many of them are its own, and their columns. Its descriptors follow.
-pub const PROCESS: usize = 11;
+pub const PROCESS_WIDTH: usize = 11;
 
-pub const OWN: usize = 3;
+pub const PROCESS_DESCRIPTOR: usize = 3;
 
-pub const USED: usize = 0;
+pub const PROCESS_USED: usize = 0;
 
-pub const USER: usize = 1;
+pub const PROCESS_USER: usize = 1;
 
 // A process's label.
 pub const PROCESS_LABEL: usize = 2;
 
 // No transition.
-pub const NONE: u32 = 255;
+pub const NO_TRANSITION: u32 = 255;
 
 // Largest values.
 pub const KIND_MAX: u32 = 2;
@@ -96,12 +96,12 @@ pub const WORD_MAX: u32 = 4294967295;
 pub const LENGTH_MAX: u32 = BLOCK as u32;
 
 // The sizes of the lent tables.
-pub const FILES_SIZE: usize = (SLOTS as usize) * FILE;
+pub const FILES_SIZE: usize = (SLOTS as usize) * FILE_WIDTH;
 
 pub const CONTENTS_SIZE: usize = (SLOTS as usize) * BLOCK;
 
-pub const OPEN_FILES_SIZE: usize = (OPEN_FILES as usize) * OPEN;
+pub const OPEN_FILES_SIZE: usize = (OPEN_FILES as usize) * OPEN_FILE_WIDTH;
 
-pub const PROCESSES_SIZE: usize = (PROCESSES as usize) * PROCESS;
+pub const PROCESSES_SIZE: usize = (PROCESSES as usize) * PROCESS_WIDTH;
 
-pub const POLICY_SIZE: usize = RIGHTS + RIGHTS;
+pub const POLICY_SIZE: usize = RIGHTS_SIZE + RIGHTS_SIZE;

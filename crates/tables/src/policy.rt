@@ -2,7 +2,7 @@
 ghost use mathlib.Core.Path.{_≡_};
 ghost use Rattle.rules.specs.Rights.{policyRights, transition};
 use crate::layout::LABELS;
-use crate::layout::RIGHTS;
+use crate::layout::RIGHTS_SIZE;
 use crate::words::byte;
 use rules::rights::Rights;
 
@@ -17,5 +17,5 @@ pub fn rights(policy: &[u8], l: u32, m: u32) -> Rights
 pub fn transition_of(policy: &[u8], l: u32, m: u32) -> u32
     ensures { λ r. ⌜ r ≡ transition (now (policy .entry)) l m ⌝ }
 {
-    byte(policy, RIGHTS + (LABELS * (l as usize) + (m as usize))) as u32
+    byte(policy, RIGHTS_SIZE + (LABELS * (l as usize) + (m as usize))) as u32
 }

@@ -1,34 +1,34 @@
 // The processes, 8 records of 11 words: in use, user, label, 8 descriptors.
 ghost use mathlib.Core.Path.{_≡_};
-ghost use Rattle.rules.specs.Layout.{USED, USER, PROCESS-LABEL};
+ghost use Rattle.rules.specs.Layout.{PROCESS-USED, PROCESS-USER, PROCESS-LABEL};
 ghost use Rattle.rules.specs.Store.{procOf, descOf, subjectOf};
 use crate::layout::DESCRIPTORS;
-use crate::layout::OWN;
-use crate::layout::PROCESS;
+use crate::layout::PROCESS_DESCRIPTOR;
 use crate::layout::PROCESS_LABEL;
-use crate::layout::USED;
-use crate::layout::USER;
+use crate::layout::PROCESS_USED;
+use crate::layout::PROCESS_USER;
+use crate::layout::PROCESS_WIDTH;
 use crate::words::get;
 use rules::ids::Fd;
 use rules::ids::Pid;
 use rules::request::Subject;
 
 pub fn used(processes: &[u32], p: Pid) -> u32
-    ensures { λ r. ⌜ r ≡ procOf (now (processes .entry)) (p .0) USED ⌝ }
+    ensures { λ r. ⌜ r ≡ procOf (now (processes .entry)) (p .0) PROCESS-USED ⌝ }
 {
-    get(processes, PROCESS * (p.0 as usize) + USED)
+    get(processes, PROCESS_WIDTH * (p.0 as usize) + PROCESS_USED)
 }
 
 pub fn user(processes: &[u32], p: Pid) -> u32
-    ensures { λ r. ⌜ r ≡ procOf (now (processes .entry)) (p .0) USER ⌝ }
+    ensures { λ r. ⌜ r ≡ procOf (now (processes .entry)) (p .0) PROCESS-USER ⌝ }
 {
-    get(processes, PROCESS * (p.0 as usize) + USER)
+    get(processes, PROCESS_WIDTH * (p.0 as usize) + PROCESS_USER)
 }
 
 pub fn label(processes: &[u32], p: Pid) -> u32
     ensures { λ r. ⌜ r ≡ procOf (now (processes .entry)) (p .0) PROCESS-LABEL ⌝ }
 {
-    get(processes, PROCESS * (p.0 as usize) + PROCESS_LABEL)
+    get(processes, PROCESS_WIDTH * (p.0 as usize) + PROCESS_LABEL)
 }
 
 // Who asks.
@@ -47,7 +47,10 @@ pub fn descriptor(processes: &[u32], p: Pid, i: Fd) -> u32
 {
     let known = i.0 < DESCRIPTORS;
     if known {
-        return get(processes, PROCESS * (p.0 as usize) + (OWN + (i.0 as usize)));
+        return get(
+            processes,
+            PROCESS_WIDTH * (p.0 as usize) + (PROCESS_DESCRIPTOR + (i.0 as usize)),
+        );
     }
     0
 }

@@ -1,6 +1,6 @@
 // What an open file is open for, and its file's length.
 ghost use mathlib.Core.Path.{_≡_};
-ghost use Rattle.rules.specs.Layout.{FILE, OPEN, LENGTH, SLOT, MODE};
+ghost use Rattle.rules.specs.Layout.{FILE-WIDTH, OPEN-FILE-WIDTH, FILE-LENGTH, OPEN-SLOT, OPEN-MODE};
 ghost use Rattle.rules.specs.Store.{tab, modeAt};
 ghost use Rattle.rules.specs.Rights.{reads, writes, appends};
 use rules::ids::Ofd;
@@ -35,25 +35,25 @@ fn mode_appends(m: OpenMode) -> bool
 }
 
 pub fn open_reads(open_files: &[u32], e: Ofd) -> bool
-    ensures { λ r. ⌜ r ≡ reads (modeAt (tab OPEN (now («open_files» .entry)) (e .0) MODE)) ⌝ }
+    ensures { λ r. ⌜ r ≡ reads (modeAt (tab OPEN-FILE-WIDTH (now («open_files» .entry)) (e .0) OPEN-MODE)) ⌝ }
 {
     mode_reads(mode(open_files, e))
 }
 
 pub fn open_writes(open_files: &[u32], e: Ofd) -> bool
-    ensures { λ r. ⌜ r ≡ writes (modeAt (tab OPEN (now («open_files» .entry)) (e .0) MODE)) ⌝ }
+    ensures { λ r. ⌜ r ≡ writes (modeAt (tab OPEN-FILE-WIDTH (now («open_files» .entry)) (e .0) OPEN-MODE)) ⌝ }
 {
     mode_writes(mode(open_files, e))
 }
 
 pub fn open_appends(open_files: &[u32], e: Ofd) -> bool
-    ensures { λ r. ⌜ r ≡ appends (modeAt (tab OPEN (now («open_files» .entry)) (e .0) MODE)) ⌝ }
+    ensures { λ r. ⌜ r ≡ appends (modeAt (tab OPEN-FILE-WIDTH (now («open_files» .entry)) (e .0) OPEN-MODE)) ⌝ }
 {
     mode_appends(mode(open_files, e))
 }
 
 pub fn open_length(files: &[u32], open_files: &[u32], e: Ofd) -> u32
-    ensures { λ r. ⌜ r ≡ tab FILE (now (files .entry)) (tab OPEN (now («open_files» .entry)) (e .0) SLOT) LENGTH ⌝ }
+    ensures { λ r. ⌜ r ≡ tab FILE-WIDTH (now (files .entry)) (tab OPEN-FILE-WIDTH (now («open_files» .entry)) (e .0) OPEN-SLOT) FILE-LENGTH ⌝ }
 {
     tables::files::length(files, slot_of(open_files, e))
 }

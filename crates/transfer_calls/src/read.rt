@@ -1,7 +1,7 @@
 // 11. Read.
 ghost use mathlib.Core.Path.{_≡_};
 ghost use Prim.Native.Nat.{min};
-ghost use Rattle.rules.specs.Layout.{FILE, OPEN};
+ghost use Rattle.rules.specs.Layout.{FILE-WIDTH, OPEN-FILE-WIDTH};
 ghost use Rattle.rules.specs.Store.{tab, descOf};
 ghost use Rattle.rules.specs.Checks.{ofdHeld};
 ghost use Rattle.rules.specs.Decide.{remaining, fetching, readOpen, decideRead};
@@ -24,13 +24,13 @@ use tables::open_files::slot_of;
 
 // How many bytes the file of open file e has from its offset on.
 fn bytes_left(files: &[u32], open_files: &[u32], e: Ofd) -> u32
-    ensures { λ r. ⌜ r ≡ remaining (tab FILE (now (files .entry))) (tab OPEN (now («open_files» .entry))) e ⌝ }
+    ensures { λ r. ⌜ r ≡ remaining (tab FILE-WIDTH (now (files .entry))) (tab OPEN-FILE-WIDTH (now («open_files» .entry))) e ⌝ }
 {
     subtract(open_length(files, open_files, e), offset(open_files, e))
 }
 
 fn fetched(open_files: &[u32], e: Ofd, n: u32) -> Decision
-    ensures { λ r. ⌜ r ≡ fetching (tab OPEN (now («open_files» .entry))) e n ⌝ }
+    ensures { λ r. ⌜ r ≡ fetching (tab OPEN-FILE-WIDTH (now («open_files» .entry))) e n ⌝ }
 {
     Decision::Granted(
         n,
@@ -40,7 +40,7 @@ fn fetched(open_files: &[u32], e: Ofd, n: u32) -> Decision
 }
 
 fn fetch_some(files: &[u32], open_files: &[u32], e: Ofd, size: usize) -> Decision
-    ensures { λ r. ⌜ r ≡ fetching (tab OPEN (now («open_files» .entry))) e (min size (remaining (tab FILE (now (files .entry))) (tab OPEN (now («open_files» .entry))) e)) ⌝ }
+    ensures { λ r. ⌜ r ≡ fetching (tab OPEN-FILE-WIDTH (now («open_files» .entry))) e (min size (remaining (tab FILE-WIDTH (now (files .entry))) (tab OPEN-FILE-WIDTH (now («open_files» .entry))) e)) ⌝ }
 {
     fetched(
         open_files,
@@ -50,7 +50,7 @@ fn fetch_some(files: &[u32], open_files: &[u32], e: Ofd, size: usize) -> Decisio
 }
 
 fn read_open(files: &[u32], open_files: &[u32], e: Ofd, size: usize) -> Decision
-    ensures { λ r. ⌜ r ≡ readOpen (tab FILE (now (files .entry))) (tab OPEN (now («open_files» .entry))) e size ⌝ }
+    ensures { λ r. ⌜ r ≡ readOpen (tab FILE-WIDTH (now (files .entry))) (tab OPEN-FILE-WIDTH (now («open_files» .entry))) e size ⌝ }
 {
     if !open_reads(open_files, e) {
         return Decision::Refused(Refusal::WrongDirection, 0);
@@ -66,7 +66,7 @@ fn read_held(
     i: Fd,
     size: usize,
 ) -> Decision
-    ensures { λ r. ⌜ r ≡ readOpen (tab FILE (now (files .entry))) (tab OPEN (now («open_files» .entry))) (ofdHeld (descOf (now (processes .entry))) p i) size ⌝ }
+    ensures { λ r. ⌜ r ≡ readOpen (tab FILE-WIDTH (now (files .entry))) (tab OPEN-FILE-WIDTH (now («open_files» .entry))) (ofdHeld (descOf (now (processes .entry))) p i) size ⌝ }
 {
     read_open(files, open_files, ofd_held(processes, p, i), size)
 }
@@ -79,7 +79,7 @@ pub fn decide_read(
     i: Fd,
     size: usize,
 ) -> Decision
-    ensures { λ r. ⌜ r ≡ decideRead (tab FILE (now (files .entry))) (tab OPEN (now («open_files» .entry))) (descOf (now (processes .entry))) p i size ⌝ }
+    ensures { λ r. ⌜ r ≡ decideRead (tab FILE-WIDTH (now (files .entry))) (tab OPEN-FILE-WIDTH (now («open_files» .entry))) (descOf (now (processes .entry))) p i size ⌝ }
 {
     if !is_held(processes, p, i) {
         return Decision::Refused(Refusal::NotHeld, 0);

@@ -1,7 +1,7 @@
 use mathlib.Core.Path.{_≡_, refl, ap}
 use Prim.Native.Nat.{_-_}
 use borrow.Author.Needs.{needs}
-use Rattle.rules.specs.Layout.{SLOTS, FILE}
+use Rattle.rules.specs.Layout.{SLOTS, FILE-WIDTH}
 use Rattle.rules.specs.Scan.{first}
 use Rattle.rules.proofs.Scans.{first-yes, first-no, first-done}
 use Rattle.rules.specs.Checks.{slotFree}
@@ -10,7 +10,7 @@ use Rattle.allocation.proofs.free.first_free_slot.Statement.{statement}
 use Rattle.allocation.proofs.free.first_free_slot.Tie as tie
 
 abbrev Inv-loop : tie.InvT-loop
-Inv-loop files s₀ s = first (slotFree (tab FILE files)) s SLOTS ≡ first (slotFree (tab FILE files)) 0 SLOTS
+Inv-loop files s₀ s = first (slotFree (tab FILE-WIDTH files)) s SLOTS ≡ first (slotFree (tab FILE-WIDTH files)) 0 SLOTS
 
 abbrev μ-loop : tie.MeasureT-loop
 μ-loop files s₀ s = SLOTS - s

@@ -1,7 +1,7 @@
 use mathlib.Core.Path.{_≡_, refl}
 use Prim.Native.Nat.{_-_}
 use borrow.Author.Needs.{needs}
-use Rattle.rules.specs.Layout.{DIRENTS, FILE}
+use Rattle.rules.specs.Layout.{DIRENTS, FILE-WIDTH}
 use Rattle.rules.specs.Scan.{all}
 use Rattle.rules.proofs.Scans.{all-yes, all-no, all-done}
 use Rattle.rules.specs.Store.{tab}
@@ -10,7 +10,7 @@ use Rattle.soundness.proofs.directories.all_dirents_sound.Statement.{st
 use Rattle.soundness.proofs.directories.all_dirents_sound.Tie as tie
 
 abbrev Inv-loop : tie.InvT-loop
-Inv-loop files dir i₀ i = all (direntSound (tab FILE files) dir) i DIRENTS ≡ all (direntSound (tab FILE files) dir) 0 DIRENTS
+Inv-loop files dir i₀ i = all (direntSound (tab FILE-WIDTH files) dir) i DIRENTS ≡ all (direntSound (tab FILE-WIDTH files) dir) 0 DIRENTS
 
 abbrev μ-loop : tie.MeasureT-loop
 μ-loop files dir i₀ i = DIRENTS - i

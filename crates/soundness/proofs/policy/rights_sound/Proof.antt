@@ -2,7 +2,7 @@ use mathlib.Core.Path.{_≡_, refl}
 use mathlib.Core.Bool.{false, cond}
 use Prim.Native.Nat.{_-_}
 use borrow.Author.Needs.{needs}
-use Rattle.rules.specs.Layout.{RIGHTS}
+use Rattle.rules.specs.Layout.{RIGHTS-SIZE}
 use Rattle.rules.specs.Scan.{all}
 use Rattle.rules.specs.Sound.{rightSound}
 use Rattle.soundness.proofs.Flags.{flag-next, flag-done}
@@ -10,10 +10,10 @@ use Rattle.soundness.proofs.policy.rights_sound.Statement.{statement}
 use Rattle.soundness.proofs.policy.rights_sound.Tie as tie
 
 abbrev Inv-loop : tie.InvT-loop
-Inv-loop policy fine₀ i₀ fine i = cond fine (all (rightSound policy) i RIGHTS) false ≡ all (rightSound policy) 0 RIGHTS
+Inv-loop policy fine₀ i₀ fine i = cond fine (all (rightSound policy) i RIGHTS-SIZE) false ≡ all (rightSound policy) 0 RIGHTS-SIZE
 
 abbrev μ-loop : tie.MeasureT-loop
-μ-loop policy fine₀ i₀ fine i = RIGHTS - i
+μ-loop policy fine₀ i₀ fine i = RIGHTS-SIZE - i
 
 pub rights-sound-spec : {M : Type 1} → statement M
 rights-sound-spec =

@@ -2,7 +2,7 @@ use mathlib.Core.Path.{_≡_, refl}
 use mathlib.Core.Bool.{false, cond}
 use Prim.Native.Nat.{_+_, _-_}
 use borrow.Author.Needs.{needs}
-use Rattle.rules.specs.Layout.{RIGHTS}
+use Rattle.rules.specs.Layout.{RIGHTS-SIZE}
 use Rattle.rules.specs.Scan.{all}
 use Rattle.rules.specs.Sound.{transitionSound}
 use Rattle.soundness.proofs.Flags.{flag-next, flag-done}
@@ -10,10 +10,10 @@ use Rattle.soundness.proofs.policy.transitions_sound.Statement.{stateme
 use Rattle.soundness.proofs.policy.transitions_sound.Tie as tie
 
 abbrev Inv-loop : tie.InvT-loop
-Inv-loop policy fine₀ i₀ fine i = cond fine (all (transitionSound policy) i (RIGHTS + RIGHTS)) false ≡ all (transitionSound policy) RIGHTS (RIGHTS + RIGHTS)
+Inv-loop policy fine₀ i₀ fine i = cond fine (all (transitionSound policy) i (RIGHTS-SIZE + RIGHTS-SIZE)) false ≡ all (transitionSound policy) RIGHTS-SIZE (RIGHTS-SIZE + RIGHTS-SIZE)
 
 abbrev μ-loop : tie.MeasureT-loop
-μ-loop policy fine₀ i₀ fine i = (RIGHTS + RIGHTS) - i
+μ-loop policy fine₀ i₀ fine i = (RIGHTS-SIZE + RIGHTS-SIZE) - i
 
 pub transitions-sound-spec : {M : Type 1} → statement M
 transitions-sound-spec =

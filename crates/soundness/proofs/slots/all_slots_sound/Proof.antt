@@ -1,7 +1,7 @@
 use mathlib.Core.Path.{_≡_, refl}
 use Prim.Native.Nat.{_-_}
 use borrow.Author.Needs.{needs}
-use Rattle.rules.specs.Layout.{SLOTS, OPEN}
+use Rattle.rules.specs.Layout.{SLOTS, OPEN-FILE-WIDTH}
 use Rattle.rules.specs.Scan.{all}
 use Rattle.rules.proofs.Scans.{all-yes, all-no, all-done}
 use Rattle.rules.specs.Store.{tab, tree}
@@ -10,7 +10,7 @@ use Rattle.soundness.proofs.slots.all_slots_sound.Statement.{statement}
 use Rattle.soundness.proofs.slots.all_slots_sound.Tie as tie
 
 abbrev Inv-loop : tie.InvT-loop
-Inv-loop files contents openFiles links parents s₀ s = all (slotSoundBy (tree files contents) (tab OPEN openFiles) links parents) s SLOTS ≡ all (slotSoundBy (tree files contents) (tab OPEN openFiles) links parents) 0 SLOTS
+Inv-loop files contents openFiles links parents s₀ s = all (slotSoundBy (tree files contents) (tab OPEN-FILE-WIDTH openFiles) links parents) s SLOTS ≡ all (slotSoundBy (tree files contents) (tab OPEN-FILE-WIDTH openFiles) links parents) 0 SLOTS
 
 abbrev μ-loop : tie.MeasureT-loop
 μ-loop files contents openFiles links parents s₀ s = SLOTS - s
