@@ -50,19 +50,19 @@ pub const NO_TRANSITION: u8 = 255;
 // Columns of a file's record, and of stat's fields.
 
 /// [`FREE`], [`PLAIN`] or [`DIRECTORY`].
-pub const KIND: usize = 0;
+pub const FILE_KIND: usize = 0;
 /// A user, 0 to 65,535.
-pub const OWNER: usize = 1;
+pub const FILE_OWNER: usize = 1;
 /// Rights, 0 to 7.
-pub const BITS: usize = 2;
+pub const FILE_BITS: usize = 2;
 /// 0 to 15.
-pub const LABEL: usize = 3;
+pub const FILE_LABEL: usize = 3;
 /// Bytes; of a directory, names in it.
-pub const LENGTH: usize = 4;
+pub const FILE_LENGTH: usize = 4;
 /// How many directory entries name the file.
-pub const LINKS: usize = 5;
+pub const FILE_LINKS: usize = 5;
 /// Goes up with each change, and wraps.
-pub const VERSION: usize = 6;
+pub const FILE_VERSION: usize = 6;
 
 /// The kind of a slot that is not in use.
 pub const FREE: u32 = 0;
@@ -74,20 +74,20 @@ pub const DIRECTORY: u32 = 2;
 // Columns of an open file. One with no references is free and all 0.
 
 /// The open file's slot.
-pub const SLOT: usize = 0;
+pub const OPEN_SLOT: usize = 0;
 /// How it was opened: one of [`modes`](crate::modes), without truncating.
-pub const MODE: usize = 1;
+pub const OPEN_MODE: usize = 1;
 /// Where the next read or write begins, 0 to 512.
-pub const OFFSET: usize = 2;
+pub const OPEN_OFFSET: usize = 2;
 /// Descriptors that hold it.
-pub const REFERENCES: usize = 3;
+pub const OPEN_REFERENCES: usize = 3;
 
 // Columns of a process. One that is not in use is all 0.
 
 /// 1 in use, else 0.
-pub const USED: usize = 0;
+pub const PROCESS_USED: usize = 0;
 /// 0 to 65,535.
-pub const USER: usize = 1;
+pub const PROCESS_USER: usize = 1;
 /// 0 to 15.
 pub const PROCESS_LABEL: usize = 2;
 /// Descriptor 0, and after it the others: 0 holds nothing, e + 1 open file e.

@@ -52,7 +52,7 @@ impl Tables {
             processes: vec![0; PROCESSES_SIZE],
             policy: vec![0; POLICY_SIZE],
         };
-        tables.file_mut(ROOT)[KIND] = DIRECTORY;
+        tables.file_mut(ROOT)[FILE_KIND] = DIRECTORY;
         tables.policy[RIGHTS_SIZE..].fill(NO_TRANSITION);
         tables
     }
@@ -69,7 +69,7 @@ impl Tables {
 
     /// Whether a slot is of a kind.
     pub fn is_kind(&self, slot: usize, kind: u32) -> bool {
-        self.file(slot)[KIND] == kind
+        self.file(slot)[FILE_KIND] == kind
     }
 
     /// The slots that hold a directory, in order.
@@ -128,13 +128,13 @@ impl Tables {
 
     /// The plain files without a name, in order.
     pub fn unnamed_files(&self) -> impl Iterator<Item = usize> + '_ {
-        (0..SLOTS).filter(|&slot| self.is_kind(slot, PLAIN) && self.file(slot)[LINKS] == 0)
+        (0..SLOTS).filter(|&slot| self.is_kind(slot, PLAIN) && self.file(slot)[FILE_LINKS] == 0)
     }
 
     /// Whether some open file is a slot's.
     pub fn is_open(&self, slot: usize) -> bool {
         let mut open_files = self.open_files_in_use();
-        open_files.any(|open_file| self.open_file(open_file)[SLOT] as usize == slot)
+        open_files.any(|open_file| self.open_file(open_file)[OPEN_SLOT] as usize == slot)
     }
 
     /// An open file's record.
@@ -164,7 +164,7 @@ impl Tables {
 
     /// The processes that are in use, in order.
     pub fn processes_in_use(&self) -> impl Iterator<Item = usize> + '_ {
-        (0..PROCESSES).filter(|&process| self.process(process)[USED] != 0)
+        (0..PROCESSES).filter(|&process| self.process(process)[PROCESS_USED] != 0)
     }
 
     /// A process's descriptors: 0 for nothing, `e + 1` for open file `e`.

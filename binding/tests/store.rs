@@ -8,7 +8,7 @@ const SCRIPT: &[u8] = b"proc=0\ncall=15\nfd=0\narg=0\npath=\ndata=\n";
 /// An empty store with one process, of user 0, that may do everything.
 fn small_store() -> Tables {
     let mut tables = Tables::empty();
-    tables.process_mut(0)[USED] = 1;
+    tables.process_mut(0)[PROCESS_USED] = 1;
     tables.set_rights(0, 0, 7);
     tables
 }
@@ -66,7 +66,7 @@ fn a_call_with_and_without_the_test_is_the_same() {
     assert_eq!(tested.dirent_name(ROOT, 0), b"a");
     assert_eq!(&tested.block(tested.dirent_slot(ROOT, 0))[..5], b"2.40\0");
     assert_eq!(tested.descriptors(0)[0], 1);
-    assert_eq!(tested.open_file(0)[OFFSET], 4);
+    assert_eq!(tested.open_file(0)[OPEN_OFFSET], 4);
 }
 
 #[test]

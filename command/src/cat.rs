@@ -7,7 +7,7 @@ use crate::held;
 use crate::output;
 use crate::path;
 use crate::text;
-use mritvelja::layout::{DIRECTORY, LENGTH};
+use mritvelja::layout::{DIRECTORY, FILE_LENGTH};
 use std::ffi::OsStr;
 use std::os::unix::ffi::OsStrExt;
 
@@ -25,6 +25,6 @@ pub fn cat(store: &Store, file: &OsStr) -> Result<(), Failure> {
     if tables.is_kind(slot, DIRECTORY) {
         return Err(refused("is a directory"));
     }
-    let length = tables.file(slot)[LENGTH] as usize;
+    let length = tables.file(slot)[FILE_LENGTH] as usize;
     output::print(&tables.block(slot)[..length])
 }

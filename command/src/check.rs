@@ -62,12 +62,12 @@ fn agreed(is_sound: bool, defect: Option<Defect>) -> Result<Option<Defect>, Fail
 #[cfg(test)]
 mod tests {
     use super::*;
-    use mritvelja::layout::{FREE, KIND, ROOT};
+    use mritvelja::layout::{FILE_KIND, FREE, ROOT};
 
     #[test]
     fn a_diagnosis_that_contradicts_the_verdict_is_an_internal_error() {
         let mut tables = Tables::empty();
-        tables.file_mut(ROOT)[KIND] = FREE;
+        tables.file_mut(ROOT)[FILE_KIND] = FREE;
         let some_defect = || diagnosis::first_defect(&tables);
         assert_eq!(agreed(true, None).unwrap(), None);
         assert_eq!(agreed(false, some_defect()).unwrap(), some_defect());

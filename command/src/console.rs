@@ -31,8 +31,8 @@ fn set_files(tables: &mut Tables) {
 fn set_processes(tables: &mut Tables) {
     for (process, user) in [0, 10, 20].into_iter().enumerate() {
         let record = tables.process_mut(process);
-        record[USED] = 1;
-        record[USER] = user;
+        record[PROCESS_USED] = 1;
+        record[PROCESS_USER] = user;
         record[PROCESS_LABEL] = process as u32;
     }
 }

@@ -58,13 +58,13 @@ fn answer_words(call: u16, answers: &[u8]) -> Option<(String, usize)> {
 /// Stat's fields, which are 1, 2, 1, 1, 2, 2 and 4 bytes, little end first.
 fn stat_record(data: &[u8]) -> Option<[u32; FILE_WIDTH]> {
     let sizes = [
-        (KIND, 1),
-        (OWNER, 2),
-        (BITS, 1),
-        (LABEL, 1),
-        (LENGTH, 2),
-        (LINKS, 2),
-        (VERSION, 4),
+        (FILE_KIND, 1),
+        (FILE_OWNER, 2),
+        (FILE_BITS, 1),
+        (FILE_LABEL, 1),
+        (FILE_LENGTH, 2),
+        (FILE_LINKS, 2),
+        (FILE_VERSION, 4),
     ];
     let mut record = [0; FILE_WIDTH];
     let mut rest = data;

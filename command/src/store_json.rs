@@ -51,17 +51,17 @@ fn file(tables: &Tables, slot: usize, paths: Json, detail: Detail) -> Json {
             "kind",
             if is_directory { "directory" } else { "file" }.into(),
         ),
-        ("owner", record[OWNER].into()),
-        ("bits", rights_list(record[BITS])),
-        ("label", record[LABEL].into()),
-        ("length", record[LENGTH].into()),
-        ("links", record[LINKS].into()),
-        ("version", record[VERSION].into()),
+        ("owner", record[FILE_OWNER].into()),
+        ("bits", rights_list(record[FILE_BITS])),
+        ("label", record[FILE_LABEL].into()),
+        ("length", record[FILE_LENGTH].into()),
+        ("links", record[FILE_LINKS].into()),
+        ("version", record[FILE_VERSION].into()),
     ];
     if is_directory {
         fields.push(("entries", entries(tables, slot)));
     } else if detail == Detail::Whole {
-        let data = &tables.block(slot)[..record[LENGTH] as usize];
+        let data = &tables.block(slot)[..record[FILE_LENGTH] as usize];
         fields.push(("data", text::hex(data).into()));
     }
     Json::Object(fields)
@@ -91,13 +91,13 @@ fn rights_list(rights: u32) -> Json {
 fn open_files(tables: &Tables) -> Json {
     let open_files = tables.open_files_in_use().map(|number| {
         let record = tables.open_file(number);
-        let mode = text::mode(record[MODE]).expect("a sound store's mode has a word");
+        let mode = text::mode(record[OPEN_MODE]).expect("a sound store's mode has a word");
         Json::Object(vec![
             ("open_file", number.into()),
-            ("slot", record[SLOT].into()),
+            ("slot", record[OPEN_SLOT].into()),
             ("mode", mode.into()),
-            ("offset", record[OFFSET].into()),
-            ("references", record[REFERENCES].into()),
+            ("offset", record[OPEN_OFFSET].into()),
+            ("references", record[OPEN_REFERENCES].into()),
         ])
     });
     open_files.collect()
@@ -117,7 +117,7 @@ fn processes(tables: &Tables) -> Json {
             });
         Json::Object(vec![
             ("process", process.into()),
-            ("user", record[USER].into()),
+            ("user", record[PROCESS_USER].into()),
             ("label", record[PROCESS_LABEL].into()),
             ("descriptors", held.collect()),
         ])
@@ -155,12 +155,12 @@ fn transitions(tables: &Tables) -> Json {
 
 /// The slots not in use whose version is not 0.
 fn free(tables: &Tables) -> Json {
-    let free =
-        (0..SLOTS).filter(|&slot| tables.is_kind(slot, FREE) && tables.file(slot)[VERSION] != 0);
+    let free = (0..SLOTS)
+        .filter(|&slot| tables.is_kind(slot, FREE) && tables.file(slot)[FILE_VERSION] != 0);
     let free = free.map(|slot| {
         Json::Object(vec![
             ("slot", slot.into()),
-            ("version", tables.file(slot)[VERSION].into()),
+            ("version", tables.file(slot)[FILE_VERSION].into()),
         ])
     });
     free.collect()

@@ -46,7 +46,7 @@ impl Building {
     /// The store, once every line is read, or the line that leaves it unsound and why.
     pub fn finish(self) -> Result<Tables, (usize, &'static str)> {
         let tables = &self.tables;
-        let is_idle = |&number: &usize| tables.open_file(number)[REFERENCES] == 0;
+        let is_idle = |&number: &usize| tables.open_file(number)[OPEN_REFERENCES] == 0;
         if let Some(idle) = tables.open_files_in_use().find(is_idle) {
             let line = self.given[&open_name(idle)];
             return Err((line, "no descriptor holds this open file"));

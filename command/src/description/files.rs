@@ -15,9 +15,9 @@ pub fn directory(building: &mut Building, line: &mut Line) -> Result<(), String>
     let record = record(line, DIRECTORY)?;
     if line.operand == b"/" {
         building.give("directory /".into(), line.number)?;
-        let length = building.tables.file(ROOT)[LENGTH];
+        let length = building.tables.file(ROOT)[FILE_LENGTH];
         *building.tables.file_mut(ROOT) = record;
-        building.tables.file_mut(ROOT)[LENGTH] = length;
+        building.tables.file_mut(ROOT)[FILE_LENGTH] = length;
         return Ok(());
     }
     if line.operand.iter().filter(|&&byte| byte == b'/').count() > NAMES {
@@ -52,7 +52,7 @@ pub fn unnamed(building: &mut Building, line: &mut Line) -> Result<(), String> {
 pub fn free(building: &mut Building, line: &mut Line) -> Result<(), String> {
     let slot = line.operand_number(SLOTS as u32 - 1)?;
     let slot = building.give_slot(Some(slot), line.number)?;
-    building.tables.file_mut(slot)[VERSION] = line.require_number("version", u32::MAX)?;
+    building.tables.file_mut(slot)[FILE_VERSION] = line.require_number("version", u32::MAX)?;
     Ok(())
 }
 
@@ -66,11 +66,11 @@ pub fn plain_file(tables: &Tables, path: &[u8]) -> Result<usize, String> {
 /// A file's record, its length and links still 0.
 fn record(line: &mut Line, kind: u32) -> Result<[u32; FILE_WIDTH], String> {
     let mut record = [0; FILE_WIDTH];
-    record[KIND] = kind;
-    record[OWNER] = line.take_number("owner", LAST_USER)?.unwrap_or(0);
-    record[BITS] = line.take_rights("bits")?;
-    record[LABEL] = line.take_number("label", LAST_LABEL)?.unwrap_or(0);
-    record[VERSION] = line.take_number("version", u32::MAX)?.unwrap_or(0);
+    record[FILE_KIND] = kind;
+    record[FILE_OWNER] = line.take_number("owner", LAST_USER)?.unwrap_or(0);
+    record[FILE_BITS] = line.take_rights("bits")?;
+    record[FILE_LABEL] = line.take_number("label", LAST_LABEL)?.unwrap_or(0);
+    record[FILE_VERSION] = line.take_number("version", u32::MAX)?.unwrap_or(0);
     Ok(record)
 }
 
@@ -93,7 +93,7 @@ fn set_data(building: &mut Building, line: &mut Line, slot: usize) -> Result<(),
         return Err(format!("data has {} bytes, more than {BLOCK}", data.len()));
     }
     building.tables.block_mut(slot)[..data.len()].copy_from_slice(&data);
-    building.tables.file_mut(slot)[LENGTH] = data.len() as u32;
+    building.tables.file_mut(slot)[FILE_LENGTH] = data.len() as u32;
     Ok(())
 }
 
@@ -122,8 +122,8 @@ fn add_name(tables: &mut Tables, line: &mut Line, slot: usize) -> Result<(), Str
             .ok_or_else(|| format!("the directory has {DIRENTS} names already"))?,
     };
     tables.set_dirent(directory, entry, &name, slot);
-    tables.file_mut(directory)[LENGTH] += 1;
-    tables.file_mut(slot)[LINKS] += 1;
+    tables.file_mut(directory)[FILE_LENGTH] += 1;
+    tables.file_mut(slot)[FILE_LINKS] += 1;
     Ok(())
 }
 

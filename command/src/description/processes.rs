@@ -15,8 +15,8 @@ pub fn process(building: &mut Building, line: &mut Line) -> Result<(), String> {
     let process = line.operand_number(LAST_PROCESS)?;
     building.give(format!("process {process}"), line.number)?;
     let record = building.tables.process_mut(process as usize);
-    record[USED] = 1;
-    record[USER] = line.take_number("user", LAST_USER)?.unwrap_or(0);
+    record[PROCESS_USED] = 1;
+    record[PROCESS_USER] = line.take_number("user", LAST_USER)?.unwrap_or(0);
     record[PROCESS_LABEL] = line.take_number("label", LAST_LABEL)?.unwrap_or(0);
     Ok(())
 }
@@ -43,9 +43,9 @@ pub fn open(building: &mut Building, line: &mut Line) -> Result<(), String> {
         )
     })?;
     let record = tables.open_file_mut(number);
-    record[SLOT] = slot as u32;
-    record[MODE] = u32::from(mode);
-    record[OFFSET] = line.take_number("offset", BLOCK as u32)?.unwrap_or(0);
+    record[OPEN_SLOT] = slot as u32;
+    record[OPEN_MODE] = u32::from(mode);
+    record[OPEN_OFFSET] = line.take_number("offset", BLOCK as u32)?.unwrap_or(0);
     Ok(())
 }
 
@@ -59,13 +59,13 @@ pub fn descriptor(building: &mut Building, line: &mut Line) -> Result<(), String
         line.number,
     )?;
     let tables = &mut building.tables;
-    if tables.process(process as usize)[USED] == 0 {
+    if tables.process(process as usize)[PROCESS_USED] == 0 {
         return Err(format!("process {process} stands in no line before"));
     }
-    if tables.open_file(number as usize)[MODE] == 0 {
+    if tables.open_file(number as usize)[OPEN_MODE] == 0 {
         return Err(format!("open {number} stands in no line before"));
     }
     tables.descriptors_mut(process as usize)[descriptor as usize] = number + 1;
-    tables.open_file_mut(number as usize)[REFERENCES] += 1;
+    tables.open_file_mut(number as usize)[OPEN_REFERENCES] += 1;
     Ok(())
 }

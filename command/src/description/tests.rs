@@ -45,8 +45,8 @@ fn store(chance: &mut Chance, number_of_calls: u64) -> Tables {
     *tables.file_mut(ROOT) = [DIRECTORY, 0, 7, chance.below(3) as u32, 0, 0, 0];
     for process in 0..5 {
         let record = tables.process_mut(process);
-        record[USED] = 1;
-        record[USER] = chance.below(3) as u32 * 10;
+        record[PROCESS_USED] = 1;
+        record[PROCESS_USER] = chance.below(3) as u32 * 10;
         record[PROCESS_LABEL] = chance.below(3) as u32;
     }
     for (process, file) in label_pairs() {
@@ -141,14 +141,14 @@ fn stores_that_no_call_makes_are_made_again_too() {
     // Eight directories one in the other, with a file in the last: a path of nine names.
     let mut deep = Tables::empty();
     for slot in 0..9 {
-        deep.file_mut(slot)[KIND] = DIRECTORY;
-        deep.file_mut(slot)[LENGTH] = 1;
-        deep.file_mut(slot)[LINKS] = u32::from(slot != ROOT);
+        deep.file_mut(slot)[FILE_KIND] = DIRECTORY;
+        deep.file_mut(slot)[FILE_LENGTH] = 1;
+        deep.file_mut(slot)[FILE_LINKS] = u32::from(slot != ROOT);
         deep.set_dirent(slot, slot, b"fourteen bytes", slot + 1);
     }
     *deep.file_mut(9) = [PLAIN, 65_535, 7, 15, 512, 1, u32::MAX];
     deep.block_mut(9).fill(0xab);
-    deep.file_mut(100)[VERSION] = 7;
+    deep.file_mut(100)[FILE_VERSION] = 7;
     assert_same_again(&deep);
 }
 
@@ -166,7 +166,7 @@ fn comments_order_and_defaults_are_the_writers() {
     assert_eq!(tables.dirent_name(ROOT, 1), b"b ");
     assert_eq!(tables.dirent_slot(ROOT, 7), 90);
     assert_eq!(tables.file(2), &[PLAIN, 1, 0, 0, 0, 1, 0]);
-    assert_eq!(tables.process(3)[USED], 1);
+    assert_eq!(tables.process(3)[PROCESS_USED], 1);
 }
 
 /// The description of lines after the first, refused: why.

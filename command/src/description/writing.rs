@@ -29,7 +29,7 @@ pub fn write(tables: &Tables) -> String {
 fn processes(tables: &Tables) -> impl Iterator<Item = String> + '_ {
     tables.processes_in_use().map(|process| {
         let record = tables.process(process);
-        let (user, label) = (record[USER], record[PROCESS_LABEL]);
+        let (user, label) = (record[PROCESS_USER], record[PROCESS_LABEL]);
         format!("process {process} user {user} label {label}")
     })
 }
@@ -68,8 +68,8 @@ impl Files<'_> {
             if self.tables.is_kind(slot, PLAIN) {
                 let line = format!("unnamed {slot} {}{}", self.record(slot), self.data(slot));
                 self.lines.push(line);
-            } else if self.tables.file(slot)[VERSION] != 0 {
-                let version = self.tables.file(slot)[VERSION];
+            } else if self.tables.file(slot)[FILE_VERSION] != 0 {
+                let version = self.tables.file(slot)[FILE_VERSION];
                 self.lines.push(format!("free {slot} version {version}"));
             }
         }
@@ -117,11 +117,11 @@ impl Files<'_> {
     fn record(&self, slot: usize) -> String {
         let record = self.tables.file(slot);
         let (owner, bits, label) = (
-            record[OWNER],
-            text::rights(record[BITS], ","),
-            record[LABEL],
+            record[FILE_OWNER],
+            text::rights(record[FILE_BITS], ","),
+            record[FILE_LABEL],
         );
-        let version = match record[VERSION] {
+        let version = match record[FILE_VERSION] {
             0 => String::new(),
             version => format!(" version {version}"),
         };
@@ -129,7 +129,7 @@ impl Files<'_> {
     }
 
     fn data(&self, slot: usize) -> String {
-        let length = self.tables.file(slot)[LENGTH] as usize;
+        let length = self.tables.file(slot)[FILE_LENGTH] as usize;
         format!(" data {}", text::quote(&self.tables.block(slot)[..length]))
     }
 }
@@ -140,16 +140,16 @@ fn open_files<'a>(
 ) -> impl Iterator<Item = String> + 'a {
     tables.open_files_in_use().map(|number| {
         let record = tables.open_file(number);
-        let slot = record[SLOT] as usize;
+        let slot = record[OPEN_SLOT] as usize;
         let file = match &paths[slot] {
             Some(path) => format!("path {}", words::path(path)),
             None => format!("slot {slot}"),
         };
-        let offset = match record[OFFSET] {
+        let offset = match record[OPEN_OFFSET] {
             0 => String::new(),
             offset => format!(" offset {offset}"),
         };
-        let mode = text::mode(record[MODE]).expect("a sound store's mode has a word");
+        let mode = text::mode(record[OPEN_MODE]).expect("a sound store's mode has a word");
         format!("open {number} {file} mode {mode}{offset}")
     })
 }

@@ -30,10 +30,10 @@ fn outside(owner: String, field: &str, value: u32, first: u32, last: u32) -> Opt
 fn file(tables: &Tables, slot: usize) -> Option<String> {
     let record = tables.file(slot);
     let ranges = [
-        (KIND, "kind", DIRECTORY),
-        (OWNER, "owner", LAST_USER),
-        (BITS, "bits", ALL_RIGHTS),
-        (LABEL, "label", LAST_LABEL),
+        (FILE_KIND, "kind", DIRECTORY),
+        (FILE_OWNER, "owner", LAST_USER),
+        (FILE_BITS, "bits", ALL_RIGHTS),
+        (FILE_LABEL, "label", LAST_LABEL),
     ];
     ranges.into_iter().find_map(|(column, field, last)| {
         outside(format!("slot {slot}"), field, record[column], 0, last)
@@ -44,9 +44,9 @@ fn file(tables: &Tables, slot: usize) -> Option<String> {
 fn open_file(tables: &Tables, number: usize) -> Option<String> {
     let record = tables.open_file(number);
     let ranges = [
-        (SLOT, "slot", 0, SLOTS as u32 - 1),
-        (MODE, "mode", FIRST_MODE, LAST_MODE),
-        (OFFSET, "offset", 0, BLOCK as u32),
+        (OPEN_SLOT, "slot", 0, SLOTS as u32 - 1),
+        (OPEN_MODE, "mode", FIRST_MODE, LAST_MODE),
+        (OPEN_OFFSET, "offset", 0, BLOCK as u32),
     ];
     ranges.into_iter().find_map(|(column, field, first, last)| {
         outside(
@@ -63,9 +63,9 @@ fn open_file(tables: &Tables, number: usize) -> Option<String> {
 fn in_process(tables: &Tables, process: usize) -> Option<String> {
     let record = tables.process(process);
     let owner = || format!("process {process}");
-    match record[USED] {
+    match record[PROCESS_USED] {
         0 => None,
-        1 => outside(owner(), "user", record[USER], 0, LAST_USER)
+        1 => outside(owner(), "user", record[PROCESS_USER], 0, LAST_USER)
             .or_else(|| outside(owner(), "label", record[PROCESS_LABEL], 0, LAST_LABEL))
             .or_else(|| descriptors(tables, process)),
         mark => outside(owner(), "in-use mark", mark, 0, 1),

@@ -6,8 +6,8 @@ use mritvelja::Tables;
 pub fn wrong_length(tables: &Tables) -> Option<String> {
     (0..SLOTS).find_map(|slot| {
         let record = tables.file(slot);
-        let length = record[LENGTH] as usize;
-        match record[KIND] {
+        let length = record[FILE_LENGTH] as usize;
+        match record[FILE_KIND] {
             PLAIN if length > BLOCK => {
                 Some(format!("slot {slot}: a plain file of length {length}"))
             }

@@ -66,7 +66,7 @@ pub fn of_no_slot_in_use(tables: &Tables) -> Option<String> {
 
 pub fn not_as_counted(tables: &Tables) -> Option<String> {
     (0..SLOTS).filter(|&slot| slot != ROOT).find_map(|slot| {
-        let links = tables.file(slot)[LINKS];
+        let links = tables.file(slot)[FILE_LINKS];
         let entries = dirents_of(tables, slot).count();
         (links as usize != entries).then(|| {
             format!(

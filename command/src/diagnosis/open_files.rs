@@ -5,7 +5,7 @@ use mritvelja::Tables;
 
 pub fn not_on_a_plain_file(tables: &Tables) -> Option<String> {
     tables.open_files_in_use().find_map(|open_file| {
-        let slot = tables.open_file(open_file)[SLOT] as usize;
+        let slot = tables.open_file(open_file)[OPEN_SLOT] as usize;
         (!tables.is_kind(slot, PLAIN))
             .then(|| format!("open file {open_file}: slot {slot} is no plain file"))
     })
@@ -13,7 +13,7 @@ pub fn not_on_a_plain_file(tables: &Tables) -> Option<String> {
 
 pub fn references_not_as_counted(tables: &Tables) -> Option<String> {
     let miscounted = (0..OPEN_FILES).find_map(|open_file| {
-        let references = tables.open_file(open_file)[REFERENCES];
+        let references = tables.open_file(open_file)[OPEN_REFERENCES];
         let held = holders(tables, open_file);
         (references as usize != held).then(|| {
             format!(
@@ -25,7 +25,7 @@ pub fn references_not_as_counted(tables: &Tables) -> Option<String> {
     miscounted.or_else(|| {
         tables
             .open_files_in_use()
-            .find(|&open_file| tables.open_file(open_file)[REFERENCES] == 0)
+            .find(|&open_file| tables.open_file(open_file)[OPEN_REFERENCES] == 0)
             .map(|open_file| format!("open file {open_file}: it is not free, and references is 0"))
     })
 }

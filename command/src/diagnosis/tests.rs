@@ -21,7 +21,7 @@ fn dig(tables: &mut Tables, depth: usize) {
         *tables.file_mut(slot) = [DIRECTORY, 0, 5, 0, 0, 1, 0];
         let entry = if level == 0 { 2 } else { 0 };
         tables.set_dirent(parent, entry, b"d", slot);
-        tables.file_mut(parent)[LENGTH] += 1;
+        tables.file_mut(parent)[FILE_LENGTH] += 1;
     }
 }
 
@@ -52,21 +52,21 @@ fn assert_defects(defects: &[(usize, &str, Spoil)]) {
 fn fields_of_files_out_of_range() {
     assert_defects(&[
         (1, "slot 9: kind is 3, not 0 to 2", |t| {
-            t.file_mut(9)[KIND] = 3
+            t.file_mut(9)[FILE_KIND] = 3
         }),
         (1, "slot 1: owner is 65536", |t| {
-            t.file_mut(1)[OWNER] = 65_536
+            t.file_mut(1)[FILE_OWNER] = 65_536
         }),
-        (1, "slot 2: bits is 8", |t| t.file_mut(2)[BITS] = 8),
-        (1, "slot 3: label is 16", |t| t.file_mut(3)[LABEL] = 16),
+        (1, "slot 2: bits is 8", |t| t.file_mut(2)[FILE_BITS] = 8),
+        (1, "slot 3: label is 16", |t| t.file_mut(3)[FILE_LABEL] = 16),
         (1, "open file 0: slot is 128", |t| {
-            t.open_file_mut(0)[SLOT] = SLOTS as u32
+            t.open_file_mut(0)[OPEN_SLOT] = SLOTS as u32
         }),
         (1, "open file 0: mode is 5, not 1 to 4", |t| {
-            t.open_file_mut(0)[MODE] = 5
+            t.open_file_mut(0)[OPEN_MODE] = 5
         }),
         (1, "open file 0: offset is 513", |t| {
-            t.open_file_mut(0)[OFFSET] = 513
+            t.open_file_mut(0)[OPEN_OFFSET] = 513
         }),
     ]);
 }
@@ -75,10 +75,10 @@ fn fields_of_files_out_of_range() {
 fn fields_of_processes_and_policy_out_of_range() {
     assert_defects(&[
         (1, "process 5: in-use mark is 2", |t| {
-            t.process_mut(5)[USED] = 2
+            t.process_mut(5)[PROCESS_USED] = 2
         }),
         (1, "process 1: user is 65536", |t| {
-            t.process_mut(1)[USER] = 65_536
+            t.process_mut(1)[PROCESS_USER] = 65_536
         }),
         (1, "process 1: label is 16", |t| {
             t.process_mut(1)[PROCESS_LABEL] = 16
@@ -102,8 +102,8 @@ fn fields_of_processes_and_policy_out_of_range() {
 #[test]
 fn the_root_and_the_tree() {
     assert_defects(&[
-        (2, "slot 0: kind is 1", |t| t.file_mut(0)[KIND] = PLAIN),
-        (2, "slot 0: links is 1", |t| t.file_mut(0)[LINKS] = 1),
+        (2, "slot 0: kind is 1", |t| t.file_mut(0)[FILE_KIND] = PLAIN),
+        (2, "slot 0: links is 1", |t| t.file_mut(0)[FILE_LINKS] = 1),
         (
             3,
             "slot 1: a directory; the directory entries that name it are 2",
@@ -112,7 +112,7 @@ fn the_root_and_the_tree() {
         (
             3,
             "slot 9: a directory; the directory entries that name it are 0",
-            |t| t.file_mut(9)[KIND] = DIRECTORY,
+            |t| t.file_mut(9)[FILE_KIND] = DIRECTORY,
         ),
         (3, "slot 18: a directory 9 names deep", |t| dig(t, 9)),
         (4, "slot 8: a directory from which no way", |t| {
@@ -149,12 +149,12 @@ fn the_places() {
         (
             7,
             "slot 2: links is 2, but the directory entries counted are 1",
-            |t| t.file_mut(2)[LINKS] = 2,
+            |t| t.file_mut(2)[FILE_LINKS] = 2,
         ),
         (
             7,
             "slot 4: links is 1, but the directory entries counted are 0",
-            |t| t.file_mut(4)[LINKS] = 1,
+            |t| t.file_mut(4)[FILE_LINKS] = 1,
         ),
     ]);
 }
@@ -163,25 +163,25 @@ fn the_places() {
 fn files_and_open_files() {
     assert_defects(&[
         (8, "slot 3: a plain file of length 513", |t| {
-            t.file_mut(3)[LENGTH] = 513
+            t.file_mut(3)[FILE_LENGTH] = 513
         }),
         (
             8,
             "slot 1: a directory of length 2, but its names counted are 1",
-            |t| t.file_mut(1)[LENGTH] = 2,
+            |t| t.file_mut(1)[FILE_LENGTH] = 2,
         ),
         (
             9,
             "slot 7: a plain file that no directory entry names",
-            |t| t.file_mut(7)[KIND] = PLAIN,
+            |t| t.file_mut(7)[FILE_KIND] = PLAIN,
         ),
         (10, "open file 0: slot 1 is no plain file", |t| {
-            t.open_file_mut(0)[SLOT] = 1
+            t.open_file_mut(0)[OPEN_SLOT] = 1
         }),
         (
             11,
             "references is 2, but the descriptors counted are 1",
-            |t| t.open_file_mut(0)[REFERENCES] = 2,
+            |t| t.open_file_mut(0)[OPEN_REFERENCES] = 2,
         ),
         (
             11,
@@ -199,7 +199,9 @@ fn files_and_open_files() {
 #[test]
 fn the_zero_bytes() {
     assert_defects(&[
-        (12, "slot 4: a free record", |t| t.file_mut(4)[LENGTH] = 1),
+        (12, "slot 4: a free record", |t| {
+            t.file_mut(4)[FILE_LENGTH] = 1
+        }),
         (12, "slot 4: a free slot whose byte 511", |t| {
             t.block_mut(4)[511] = 1
         }),
@@ -219,7 +221,7 @@ fn the_zero_bytes() {
             t.block_mut(1)[256] = 1
         }),
         (12, "process 7: not in use, and not all 0", |t| {
-            t.process_mut(7)[USER] = 1
+            t.process_mut(7)[PROCESS_USER] = 1
         }),
     ]);
 }

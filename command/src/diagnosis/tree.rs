@@ -6,13 +6,13 @@ use mritvelja::Tables;
 
 pub fn root(tables: &Tables) -> Option<String> {
     let record = tables.file(ROOT);
-    if record[KIND] != DIRECTORY {
+    if record[FILE_KIND] != DIRECTORY {
         return Some(format!(
             "slot 0: kind is {}, not {DIRECTORY}, a directory",
-            record[KIND]
+            record[FILE_KIND]
         ));
     }
-    (record[LINKS] != 0).then(|| format!("slot 0: links is {}, not 0", record[LINKS]))
+    (record[FILE_LINKS] != 0).then(|| format!("slot 0: links is {}, not 0", record[FILE_LINKS]))
 }
 
 pub fn named_once_and_not_too_deep(tables: &Tables) -> Option<String> {

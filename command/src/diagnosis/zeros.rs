@@ -7,7 +7,7 @@ use mritvelja::Tables;
 
 pub fn not_zero(tables: &Tables) -> Option<String> {
     (0..SLOTS)
-        .find_map(|slot| match tables.file(slot)[KIND] {
+        .find_map(|slot| match tables.file(slot)[FILE_KIND] {
             FREE => in_free_record(tables, slot).or_else(|| in_free_slot(tables, slot)),
             PLAIN => past_length(tables, slot),
             _ => in_directory(tables, slot),
@@ -21,7 +21,7 @@ fn first_byte(bytes: &[u8], start: usize) -> Option<usize> {
 }
 
 fn in_free_record(tables: &Tables, slot: usize) -> Option<String> {
-    let record = &tables.file(slot)[..VERSION];
+    let record = &tables.file(slot)[..FILE_VERSION];
     record
         .iter()
         .any(|&word| word != 0)
@@ -34,7 +34,7 @@ fn in_free_slot(tables: &Tables, slot: usize) -> Option<String> {
 }
 
 fn past_length(tables: &Tables, slot: usize) -> Option<String> {
-    let length = tables.file(slot)[LENGTH];
+    let length = tables.file(slot)[FILE_LENGTH];
     let at = first_byte(tables.block(slot), length as usize)?;
     Some(format!(
         "slot {slot}: a plain file of length {length} whose byte {at} is not 0"
@@ -66,7 +66,7 @@ fn in_dirent(tables: &Tables, directory: usize, entry: usize) -> Option<String> 
 
 fn in_free_process(tables: &Tables) -> Option<String> {
     let is_spoilt = |&process: &usize| {
-        tables.process(process)[USED] == 0 && *tables.process(process) != [0; PROCESS_WIDTH]
+        tables.process(process)[PROCESS_USED] == 0 && *tables.process(process) != [0; PROCESS_WIDTH]
     };
     let process = (0..PROCESSES).find(is_spoilt)?;
     Some(format!("process {process}: not in use, and not all 0"))

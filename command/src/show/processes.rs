@@ -8,15 +8,15 @@ use mritvelja::Tables;
 pub fn open_file_lines(tables: &Tables, paths: &[(String, usize)]) -> Vec<String> {
     let lines = tables.open_files_in_use().map(|number| {
         let record = tables.open_file(number);
-        let slot = record[SLOT] as usize;
+        let slot = record[OPEN_SLOT] as usize;
         let path = paths.iter().find(|(_, named)| *named == slot);
         format!(
             "Open file {number}: slot {slot}, {}; mode {} ({}), offset {}, references {}",
             path.map_or("which has no name", |(path, _)| path),
-            record[MODE],
-            text::mode(record[MODE]).expect("a sound store's mode has a word"),
-            record[OFFSET],
-            record[REFERENCES]
+            record[OPEN_MODE],
+            text::mode(record[OPEN_MODE]).expect("a sound store's mode has a word"),
+            record[OPEN_OFFSET],
+            record[OPEN_REFERENCES]
         )
     });
     part("Open files", lines.collect())
@@ -27,7 +27,7 @@ pub fn lines(tables: &Tables) -> Vec<String> {
         let record = tables.process(process);
         format!(
             "Process {process}: user {}, label {}; {}",
-            record[USER],
+            record[PROCESS_USER],
             record[PROCESS_LABEL],
             descriptors_line(tables, process)
         )

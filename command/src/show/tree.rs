@@ -49,7 +49,7 @@ pub fn unnamed_lines(tables: &Tables) -> Vec<String> {
 }
 
 pub fn kind(record: &[u32; FILE_WIDTH]) -> &'static str {
-    match record[KIND] {
+    match record[FILE_KIND] {
         DIRECTORY => "directory",
         _ => "plain file",
     }
@@ -58,12 +58,12 @@ pub fn kind(record: &[u32; FILE_WIDTH]) -> &'static str {
 pub fn fields(record: &[u32; FILE_WIDTH]) -> String {
     format!(
         "owner {}, bits {} ({}), label {}, length {}, links {}, version {}",
-        record[OWNER],
-        record[BITS],
-        text::rights(record[BITS], " "),
-        record[LABEL],
-        record[LENGTH],
-        record[LINKS],
-        record[VERSION]
+        record[FILE_OWNER],
+        record[FILE_BITS],
+        text::rights(record[FILE_BITS], " "),
+        record[FILE_LABEL],
+        record[FILE_LENGTH],
+        record[FILE_LINKS],
+        record[FILE_VERSION]
     )
 }

@@ -6,7 +6,7 @@ use mritvelja::Tables;
 /// An empty store whose root everyone may read and search.
 pub fn blank() -> Tables {
     let mut tables = Tables::empty();
-    tables.file_mut(ROOT)[BITS] = READ | EXECUTE;
+    tables.file_mut(ROOT)[FILE_BITS] = READ | EXECUTE;
     tables
 }
 
@@ -19,8 +19,8 @@ pub fn add_to_file(tables: &mut Tables, slot: usize, column: usize, change: i32)
 /// Gives a slot one more name, both counts included.
 pub fn add_name(tables: &mut Tables, directory: usize, dirent: usize, name: &[u8], slot: usize) {
     tables.set_dirent(directory, dirent, name, slot);
-    add_to_file(tables, directory, LENGTH, 1);
-    add_to_file(tables, slot, LINKS, 1);
+    add_to_file(tables, directory, FILE_LENGTH, 1);
+    add_to_file(tables, slot, FILE_LINKS, 1);
 }
 
 pub fn has_name(tables: &Tables, directory: usize, name: &[u8]) -> bool {

@@ -43,8 +43,9 @@ fn eight_deep(tables: &Tables) -> bool {
 }
 
 fn full_directory(tables: &Tables) -> bool {
-    (0..SLOTS)
-        .any(|slot| tables.is_kind(slot, DIRECTORY) && tables.file(slot)[LENGTH] == DIRENTS as u32)
+    (0..SLOTS).any(|slot| {
+        tables.is_kind(slot, DIRECTORY) && tables.file(slot)[FILE_LENGTH] == DIRENTS as u32
+    })
 }
 
 fn no_free_slot(tables: &Tables) -> bool {
@@ -52,23 +53,23 @@ fn no_free_slot(tables: &Tables) -> bool {
 }
 
 fn no_free_open_file(tables: &Tables) -> bool {
-    (0..OPEN_FILES).all(|open_file| tables.open_file(open_file)[REFERENCES] > 0)
+    (0..OPEN_FILES).all(|open_file| tables.open_file(open_file)[OPEN_REFERENCES] > 0)
 }
 
 fn no_free_process(tables: &Tables) -> bool {
-    (0..PROCESSES).all(|process| tables.process(process)[USED] == 1)
+    (0..PROCESSES).all(|process| tables.process(process)[PROCESS_USED] == 1)
 }
 
 fn shared_open_file(tables: &Tables) -> bool {
-    (0..OPEN_FILES).any(|open_file| tables.open_file(open_file)[REFERENCES] > 1)
+    (0..OPEN_FILES).any(|open_file| tables.open_file(open_file)[OPEN_REFERENCES] > 1)
 }
 
 fn unnamed(tables: &Tables) -> bool {
-    (0..SLOTS).any(|slot| tables.is_kind(slot, PLAIN) && tables.file(slot)[LINKS] == 0)
+    (0..SLOTS).any(|slot| tables.is_kind(slot, PLAIN) && tables.file(slot)[FILE_LINKS] == 0)
 }
 
 fn at_wrap(tables: &Tables) -> bool {
-    (0..SLOTS).any(|slot| tables.file(slot)[VERSION] == u32::MAX)
+    (0..SLOTS).any(|slot| tables.file(slot)[FILE_VERSION] == u32::MAX)
 }
 
 fn has_transition(tables: &Tables) -> bool {

@@ -22,11 +22,11 @@ impl Pair {
     pub fn random(chance: &mut Chance) -> Option<Pair> {
         let mut one = random_store(chance);
         let slot = chance.pick_where(SLOTS, |slot| {
-            one.is_kind(slot, PLAIN) && one.file(slot)[LENGTH] > 0
+            one.is_kind(slot, PLAIN) && one.file(slot)[FILE_LENGTH] > 0
         })?;
         hide(&mut one, slot, chance);
         let mut other = one.clone();
-        let length = one.file(slot)[LENGTH] as usize;
+        let length = one.file(slot)[FILE_LENGTH] as usize;
         let bytes = chance.bytes(length);
         other.block_mut(slot)[..length].copy_from_slice(&bytes);
         let mut maker = CallMaker::new(&one);
@@ -70,7 +70,7 @@ impl Pair {
             0..0
         } else {
             let start = BLOCK * self.slot;
-            start..start + self.one.file(self.slot)[LENGTH] as usize
+            start..start + self.one.file(self.slot)[FILE_LENGTH] as usize
         };
         let (one, other) = (&self.one, &self.other);
         one.files == other.files
@@ -86,19 +86,19 @@ impl Pair {
 /// reached, and has nobody hold it open for reading.
 fn hide(tables: &mut Tables, slot: usize, chance: &mut Chance) {
     if chance.one_in(2) {
-        tables.file_mut(slot)[LABEL] = LABELS as u32 - 1;
+        tables.file_mut(slot)[FILE_LABEL] = LABELS as u32 - 1;
     }
-    let file_label = tables.file(slot)[LABEL] as usize;
+    let file_label = tables.file(slot)[FILE_LABEL] as usize;
     for (label, reached) in reachable(tables).into_iter().enumerate() {
         if reached {
             tables.policy[LABELS * label + file_label] &= !(READ as u8);
         }
     }
     for open_file in 0..OPEN_FILES {
-        let on_slot = tables.open_file(open_file)[REFERENCES] > 0
-            && tables.open_file(open_file)[SLOT] as usize == slot;
-        if on_slot && matches!(tables.open_file(open_file)[MODE], 1 | 3) {
-            tables.open_file_mut(open_file)[MODE] = chance.pick(&[2, 4]);
+        let on_slot = tables.open_file(open_file)[OPEN_REFERENCES] > 0
+            && tables.open_file(open_file)[OPEN_SLOT] as usize == slot;
+        if on_slot && matches!(tables.open_file(open_file)[OPEN_MODE], 1 | 3) {
+            tables.open_file_mut(open_file)[OPEN_MODE] = chance.pick(&[2, 4]);
         }
     }
 }
@@ -107,7 +107,7 @@ fn hide(tables: &mut Tables, slot: usize, chance: &mut Chance) {
 pub fn reachable(tables: &Tables) -> [bool; LABELS] {
     let mut reached = [false; LABELS];
     let mut found: Vec<usize> = (0..PROCESSES)
-        .filter(|&process| tables.process(process)[USED] == 1)
+        .filter(|&process| tables.process(process)[PROCESS_USED] == 1)
         .map(|process| tables.process(process)[PROCESS_LABEL] as usize)
         .collect();
     while let Some(label) = found.pop() {

@@ -14,7 +14,7 @@ pub const CALL_BYTES: usize = 64;
 fn open_store() -> Tables {
     let mut tables = blank();
     tables.policy[..RIGHTS_SIZE].fill(7);
-    tables.process_mut(0)[USED] = 1;
+    tables.process_mut(0)[PROCESS_USED] = 1;
     tables
 }
 

@@ -41,7 +41,7 @@ pub const DEFECTS: &[(&str, &str, Break)] = &[
 fn kind(tables: &mut Tables, chance: &mut Chance) -> Option<()> {
     let slot = chance.below(SLOTS);
     let word = over(chance, DIRECTORY);
-    tables.file_mut(slot)[KIND] = word;
+    tables.file_mut(slot)[FILE_KIND] = word;
     Some(())
 }
 
@@ -53,15 +53,15 @@ fn file_field(tables: &mut Tables, chance: &mut Chance, column: usize, highest: 
 }
 
 fn owner(tables: &mut Tables, chance: &mut Chance) -> Option<()> {
-    file_field(tables, chance, OWNER, 65_535)
+    file_field(tables, chance, FILE_OWNER, 65_535)
 }
 
 fn bits(tables: &mut Tables, chance: &mut Chance) -> Option<()> {
-    file_field(tables, chance, BITS, 7)
+    file_field(tables, chance, FILE_BITS, 7)
 }
 
 fn file_label(tables: &mut Tables, chance: &mut Chance) -> Option<()> {
-    file_field(tables, chance, LABEL, 15)
+    file_field(tables, chance, FILE_LABEL, 15)
 }
 
 fn open_field(tables: &mut Tables, chance: &mut Chance, column: usize, highest: u32) -> Option<()> {
@@ -75,22 +75,22 @@ fn open_field(tables: &mut Tables, chance: &mut Chance, column: usize, highest: 
 fn open_slot(tables: &mut Tables, chance: &mut Chance) -> Option<()> {
     let open_file = open_by_someone(tables, chance, 0)?;
     let word = over(chance, SLOTS as u32 - 1);
-    tables.open_file_mut(open_file)[SLOT] = word;
+    tables.open_file_mut(open_file)[OPEN_SLOT] = word;
     Some(())
 }
 
 fn mode_zero(tables: &mut Tables, chance: &mut Chance) -> Option<()> {
     let open_file = open_file(tables, chance, true)?;
-    tables.open_file_mut(open_file)[MODE] = 0;
+    tables.open_file_mut(open_file)[OPEN_MODE] = 0;
     Some(())
 }
 
 fn mode_over(tables: &mut Tables, chance: &mut Chance) -> Option<()> {
-    open_field(tables, chance, MODE, 4)
+    open_field(tables, chance, OPEN_MODE, 4)
 }
 
 fn offset(tables: &mut Tables, chance: &mut Chance) -> Option<()> {
-    open_field(tables, chance, OFFSET, BLOCK as u32)
+    open_field(tables, chance, OPEN_OFFSET, BLOCK as u32)
 }
 
 fn process_field(
@@ -106,11 +106,11 @@ fn process_field(
 }
 
 fn used_mark(tables: &mut Tables, chance: &mut Chance) -> Option<()> {
-    process_field(tables, chance, USED, 1)
+    process_field(tables, chance, PROCESS_USED, 1)
 }
 
 fn user(tables: &mut Tables, chance: &mut Chance) -> Option<()> {
-    process_field(tables, chance, USER, 65_535)
+    process_field(tables, chance, PROCESS_USER, 65_535)
 }
 
 fn process_label(tables: &mut Tables, chance: &mut Chance) -> Option<()> {
@@ -136,14 +136,14 @@ fn policy_transition(tables: &mut Tables, chance: &mut Chance) -> Option<()> {
 
 fn free_record(tables: &mut Tables, chance: &mut Chance) -> Option<()> {
     let slot = slot_of(tables, chance, FREE)?;
-    let column = chance.pick(&[OWNER, BITS, LABEL, LENGTH, LINKS]);
+    let column = chance.pick(&[FILE_OWNER, FILE_BITS, FILE_LABEL, FILE_LENGTH, FILE_LINKS]);
     tables.file_mut(slot)[column] = 1;
     Some(())
 }
 
 fn free_open_file(tables: &mut Tables, chance: &mut Chance) -> Option<()> {
     let open_file = open_file(tables, chance, false)?;
-    let column = chance.pick(&[SLOT, MODE, OFFSET]);
+    let column = chance.pick(&[OPEN_SLOT, OPEN_MODE, OPEN_OFFSET]);
     let word = chance.pick(&[1, 2, SLOTS as u32 - 1, 512, u32::MAX]);
     tables.open_file_mut(open_file)[column] = word;
     Some(())
@@ -151,7 +151,7 @@ fn free_open_file(tables: &mut Tables, chance: &mut Chance) -> Option<()> {
 
 fn free_process(tables: &mut Tables, chance: &mut Chance) -> Option<()> {
     let process = process(tables, chance, false)?;
-    let column = chance.pick(&[USER, PROCESS_LABEL]);
+    let column = chance.pick(&[PROCESS_USER, PROCESS_LABEL]);
     tables.process_mut(process)[column] = 1;
     Some(())
 }
@@ -160,8 +160,8 @@ fn free_process(tables: &mut Tables, chance: &mut Chance) -> Option<()> {
 fn free_process_holds(tables: &mut Tables, chance: &mut Chance) -> Option<()> {
     let process = process(tables, chance, false)?;
     let open_file = open_file(tables, chance, true)?;
-    let references = tables.open_file(open_file)[REFERENCES];
+    let references = tables.open_file(open_file)[OPEN_REFERENCES];
     tables.descriptors_mut(process)[chance.below(DESCRIPTORS)] = open_file as u32 + 1;
-    tables.open_file_mut(open_file)[REFERENCES] = references + 1;
+    tables.open_file_mut(open_file)[OPEN_REFERENCES] = references + 1;
     Some(())
 }

@@ -53,8 +53,8 @@ pub const DEFECTS: &[(&str, &str, Break)] = &[
 fn root_plain(tables: &mut Tables, chance: &mut Chance) -> Option<()> {
     let policy = std::mem::take(&mut tables.policy);
     *tables = Tables { policy, ..blank() };
-    tables.file_mut(0)[KIND] = PLAIN;
-    tables.process_mut(chance.below(PROCESSES))[USED] = 1;
+    tables.file_mut(0)[FILE_KIND] = PLAIN;
+    tables.process_mut(chance.below(PROCESSES))[PROCESS_USED] = 1;
     open_by_someone(tables, chance, 0)?;
     Some(())
 }
@@ -67,7 +67,7 @@ fn root_free(tables: &mut Tables, _: &mut Chance) -> Option<()> {
 }
 
 fn root_named(tables: &mut Tables, _: &mut Chance) -> Option<()> {
-    tables.file_mut(0)[LINKS] = 1;
+    tables.file_mut(0)[FILE_LINKS] = 1;
     Some(())
 }
 
@@ -81,7 +81,7 @@ fn named_twice(tables: &mut Tables, chance: &mut Chance) -> Option<()> {
 
 fn not_named(tables: &mut Tables, chance: &mut Chance) -> Option<()> {
     let slot = slot_of(tables, chance, FREE)?;
-    tables.file_mut(slot)[KIND] = DIRECTORY;
+    tables.file_mut(slot)[FILE_KIND] = DIRECTORY;
     Some(())
 }
 
@@ -90,7 +90,7 @@ fn nine_deep(tables: &mut Tables, chance: &mut Chance) -> Option<()> {
     let directories = nodes
         .iter()
         .filter(|node| tables.is_kind(node.slot, DIRECTORY));
-    let roomy = directories.filter(|node| tables.file(node.slot)[LENGTH] < DIRENTS as u32);
+    let roomy = directories.filter(|node| tables.file(node.slot)[FILE_LENGTH] < DIRENTS as u32);
     let deepest = roomy.max_by_key(|node| node.depth)?;
     let (mut parent, mut depth) = (deepest.slot, deepest.depth);
     while depth <= NAMES {
@@ -98,7 +98,7 @@ fn nine_deep(tables: &mut Tables, chance: &mut Chance) -> Option<()> {
         let empty = |dirent| tables.dirent_slot(parent, dirent) == 0;
         let dirent = chance.pick_where(DIRENTS, empty)?;
         let name = fresh_name(tables, parent);
-        tables.file_mut(slot)[KIND] = DIRECTORY;
+        tables.file_mut(slot)[FILE_KIND] = DIRECTORY;
         add_name(tables, parent, dirent, &name, slot);
         (parent, depth) = (slot, depth + 1);
     }
@@ -107,16 +107,16 @@ fn nine_deep(tables: &mut Tables, chance: &mut Chance) -> Option<()> {
 
 fn names_itself(tables: &mut Tables, chance: &mut Chance) -> Option<()> {
     let slot = slot_of(tables, chance, FREE)?;
-    tables.file_mut(slot)[KIND] = DIRECTORY;
+    tables.file_mut(slot)[FILE_KIND] = DIRECTORY;
     add_name(tables, slot, chance.below(DIRENTS), b"me", slot);
     Some(())
 }
 
 fn names_each_other(tables: &mut Tables, chance: &mut Chance) -> Option<()> {
     let one = slot_of(tables, chance, FREE)?;
-    tables.file_mut(one)[KIND] = DIRECTORY;
+    tables.file_mut(one)[FILE_KIND] = DIRECTORY;
     let other = slot_of(tables, chance, FREE)?;
-    tables.file_mut(other)[KIND] = DIRECTORY;
+    tables.file_mut(other)[FILE_KIND] = DIRECTORY;
     add_name(tables, one, chance.below(DIRENTS), b"you", other);
     add_name(tables, other, chance.below(DIRENTS), b"you", one);
     Some(())
@@ -154,7 +154,7 @@ fn byte_after_end(tables: &mut Tables, chance: &mut Chance) -> Option<()> {
 }
 
 fn same_name(tables: &mut Tables, chance: &mut Chance) -> Option<()> {
-    let two_names = |slot| tables.is_kind(slot, DIRECTORY) && tables.file(slot)[LENGTH] > 1;
+    let two_names = |slot| tables.is_kind(slot, DIRECTORY) && tables.file(slot)[FILE_LENGTH] > 1;
     let directory = chance.pick_where(SLOTS, two_names)?;
     let named = |dirent| tables.dirent_slot(directory, dirent) != 0;
     let one = chance.pick_where(DIRENTS, named)?;
@@ -170,7 +170,7 @@ fn name_number(tables: &mut Tables, chance: &mut Chance, number: usize) -> Optio
     let (directory, dirent) = dirent(tables, chance, false)?;
     let name = fresh_name(tables, directory);
     tables.set_dirent(directory, dirent, &name, number);
-    add_to_file(tables, directory, LENGTH, 1);
+    add_to_file(tables, directory, FILE_LENGTH, 1);
     Some(())
 }
 
@@ -188,7 +188,7 @@ fn names_outside(tables: &mut Tables, chance: &mut Chance) -> Option<()> {
 fn names_root(tables: &mut Tables, chance: &mut Chance) -> Option<()> {
     name_number(tables, chance, 0)?;
     if chance.one_in(2) {
-        tables.file_mut(0)[LINKS] = 1;
+        tables.file_mut(0)[FILE_LINKS] = 1;
     }
     Some(())
 }
@@ -196,29 +196,29 @@ fn names_root(tables: &mut Tables, chance: &mut Chance) -> Option<()> {
 fn links_high(tables: &mut Tables, chance: &mut Chance) -> Option<()> {
     let slot = slot_of(tables, chance, PLAIN)?;
     let change = chance.pick(&[1, 2, 256, 65_536]);
-    add_to_file(tables, slot, LINKS, change);
+    add_to_file(tables, slot, FILE_LINKS, change);
     Some(())
 }
 
 /// Of a file with at least two names, so that it still has one.
 fn links_low(tables: &mut Tables, chance: &mut Chance) -> Option<()> {
     let slot = chance.pick_where(SLOTS, |slot| {
-        tables.is_kind(slot, PLAIN) && tables.file(slot)[LINKS] > 1
+        tables.is_kind(slot, PLAIN) && tables.file(slot)[FILE_LINKS] > 1
     })?;
-    add_to_file(tables, slot, LINKS, -1);
+    add_to_file(tables, slot, FILE_LINKS, -1);
     Some(())
 }
 
 fn plain_length(tables: &mut Tables, chance: &mut Chance) -> Option<()> {
     let slot = slot_of(tables, chance, PLAIN)?;
     let word = over(chance, BLOCK as u32);
-    tables.file_mut(slot)[LENGTH] = word;
+    tables.file_mut(slot)[FILE_LENGTH] = word;
     Some(())
 }
 
 fn directory_length(tables: &mut Tables, chance: &mut Chance) -> Option<()> {
     let slot = slot_of(tables, chance, DIRECTORY)?;
     let change = chance.pick(&[-1, 1, 16, 256, 65_536]);
-    add_to_file(tables, slot, LENGTH, change);
+    add_to_file(tables, slot, FILE_LENGTH, change);
     Some(())
 }

@@ -22,7 +22,7 @@ pub const DEFECTS: &[(&str, &str, Break)] = &[
 
 fn kept_by_nothing(tables: &mut Tables, chance: &mut Chance) -> Option<()> {
     let slot = slot_of(tables, chance, FREE)?;
-    tables.file_mut(slot)[KIND] = PLAIN;
+    tables.file_mut(slot)[FILE_KIND] = PLAIN;
     Some(())
 }
 
@@ -40,26 +40,26 @@ fn open_free(tables: &mut Tables, chance: &mut Chance) -> Option<()> {
 
 fn one_more(tables: &mut Tables, chance: &mut Chance) -> Option<()> {
     let open_file = open_file(tables, chance, true)?;
-    let references = tables.open_file(open_file)[REFERENCES];
+    let references = tables.open_file(open_file)[OPEN_REFERENCES];
     let change = chance.pick(&[1, 2, 256, 65_536]);
-    tables.open_file_mut(open_file)[REFERENCES] = references + change;
+    tables.open_file_mut(open_file)[OPEN_REFERENCES] = references + change;
     Some(())
 }
 
 fn one_less(tables: &mut Tables, chance: &mut Chance) -> Option<()> {
     let open_file = open_file(tables, chance, true)?;
-    let references = tables.open_file(open_file)[REFERENCES];
-    tables.open_file_mut(open_file)[REFERENCES] = references - 1;
+    let references = tables.open_file(open_file)[OPEN_REFERENCES];
+    tables.open_file_mut(open_file)[OPEN_REFERENCES] = references - 1;
     Some(())
 }
 
 fn nobody_holds(tables: &mut Tables, chance: &mut Chance) -> Option<()> {
     let slot = slot_of(tables, chance, PLAIN)?;
     let open_file = open_file(tables, chance, false)?;
-    tables.open_file_mut(open_file)[SLOT] = slot as u32;
-    tables.open_file_mut(open_file)[MODE] = 1;
+    tables.open_file_mut(open_file)[OPEN_SLOT] = slot as u32;
+    tables.open_file_mut(open_file)[OPEN_MODE] = 1;
     let references = chance.pick(&[0, 1]);
-    tables.open_file_mut(open_file)[REFERENCES] = references;
+    tables.open_file_mut(open_file)[OPEN_REFERENCES] = references;
     Some(())
 }
 

@@ -39,13 +39,13 @@ pub fn fresh_name(tables: &Tables, directory: usize) -> Vec<u8> {
 
 pub fn open_file(tables: &Tables, chance: &mut Chance, used: bool) -> Option<usize> {
     chance.pick_where(OPEN_FILES, |open_file| {
-        (tables.open_file(open_file)[REFERENCES] > 0) == used
+        (tables.open_file(open_file)[OPEN_REFERENCES] > 0) == used
     })
 }
 
 pub fn process(tables: &Tables, chance: &mut Chance, used: bool) -> Option<usize> {
     chance.pick_where(PROCESSES, |process| {
-        (tables.process(process)[USED] == 1) == used
+        (tables.process(process)[PROCESS_USED] == 1) == used
     })
 }
 
@@ -53,7 +53,7 @@ pub fn process(tables: &Tables, chance: &mut Chance, used: bool) -> Option<usize
 pub fn free_descriptor(tables: &Tables, chance: &mut Chance) -> Option<(usize, usize)> {
     let free = |process: usize, descriptor: usize| tables.descriptors(process)[descriptor] == 0;
     let fit = |process: usize| {
-        tables.process(process)[USED] == 1
+        tables.process(process)[PROCESS_USED] == 1
             && (0..DESCRIPTORS).any(|descriptor| free(process, descriptor))
     };
     let process = chance.pick_where(PROCESSES, fit)?;
@@ -66,9 +66,9 @@ pub fn open_by_someone(tables: &mut Tables, chance: &mut Chance, slot: usize) ->
     let open_file = open_file(tables, chance, false)?;
     let (process, descriptor) = free_descriptor(tables, chance)?;
     tables.descriptors_mut(process)[descriptor] = open_file as u32 + 1;
-    tables.open_file_mut(open_file)[SLOT] = slot as u32;
-    tables.open_file_mut(open_file)[MODE] = 1;
-    tables.open_file_mut(open_file)[REFERENCES] = 1;
+    tables.open_file_mut(open_file)[OPEN_SLOT] = slot as u32;
+    tables.open_file_mut(open_file)[OPEN_MODE] = 1;
+    tables.open_file_mut(open_file)[OPEN_REFERENCES] = 1;
     Some(open_file)
 }
 

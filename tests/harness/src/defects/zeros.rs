@@ -28,9 +28,9 @@ fn spoil(bytes: &mut [u8], start: usize, chance: &mut Chance) -> Option<()> {
 
 fn past_length(tables: &mut Tables, chance: &mut Chance) -> Option<()> {
     let slot = chance.pick_where(SLOTS, |slot| {
-        tables.is_kind(slot, PLAIN) && tables.file(slot)[LENGTH] < BLOCK as u32
+        tables.is_kind(slot, PLAIN) && tables.file(slot)[FILE_LENGTH] < BLOCK as u32
     })?;
-    let length = tables.file(slot)[LENGTH] as usize;
+    let length = tables.file(slot)[FILE_LENGTH] as usize;
     spoil(tables.block_mut(slot), length, chance)
 }
 

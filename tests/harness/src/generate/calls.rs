@@ -82,7 +82,7 @@ fn kind_of_call(chance: &mut Chance) -> u8 {
 
 /// Mostly a process in use. The last ones seldom exit, else nobody is left.
 fn caller(chance: &mut Chance, tables: &Tables, call: u8) -> usize {
-    let used = |process: &usize| tables.process(*process)[USED] == 1;
+    let used = |process: &usize| tables.process(*process)[PROCESS_USED] == 1;
     let in_use: Vec<usize> = (0..PROCESSES).filter(used).collect();
     let spared = call == 16 && in_use.len() < 3 && !chance.one_in(20);
     if in_use.is_empty() || spared || chance.one_in(60) {
@@ -107,7 +107,7 @@ impl Scene<'_> {
         let (tables, process) = (self.tables, self.process);
         let fits = |descriptor: usize| match tables.descriptors(process)[descriptor] {
             0 => false,
-            word => fits_direction(call, tables.open_file(word as usize - 1)[MODE]),
+            word => fits_direction(call, tables.open_file(word as usize - 1)[OPEN_MODE]),
         };
         let held = |descriptor: usize| tables.descriptors(process)[descriptor] != 0;
         let fitting = if self.chance.percent(88) {
@@ -142,7 +142,7 @@ impl Scene<'_> {
                 self.existing(
                     |tables, slot| {
                         tables.is_kind(slot, DIRECTORY)
-                            && (empty_too || tables.file(slot)[LENGTH] == 0)
+                            && (empty_too || tables.file(slot)[FILE_LENGTH] == 0)
                     },
                     Some(WRITE),
                 )
@@ -189,10 +189,10 @@ impl Scene<'_> {
     }
 
     fn write_start(&self, open_file: usize) -> usize {
-        let slot = self.tables.open_file(open_file)[SLOT] as usize;
-        match self.tables.open_file(open_file)[MODE] {
-            4 => self.tables.file(slot)[LENGTH] as usize,
-            _ => self.tables.open_file(open_file)[OFFSET] as usize,
+        let slot = self.tables.open_file(open_file)[OPEN_SLOT] as usize;
+        match self.tables.open_file(open_file)[OPEN_MODE] {
+            4 => self.tables.file(slot)[FILE_LENGTH] as usize,
+            _ => self.tables.open_file(open_file)[OPEN_OFFSET] as usize,
         }
     }
 
@@ -235,7 +235,7 @@ impl Scene<'_> {
         let node = self.node(|scene, node| {
             scene.tables.is_kind(node.slot, DIRECTORY)
                 && node.depth < NAMES
-                && (full_too || scene.tables.file(node.slot)[LENGTH] < DIRENTS as u32)
+                && (full_too || scene.tables.file(node.slot)[FILE_LENGTH] < DIRENTS as u32)
                 && scene.may(node.slot, WRITE | EXECUTE)
         });
         let short = self.chance.one_in(2);
@@ -264,11 +264,12 @@ impl Scene<'_> {
 
     /// Whether the caller likely has these rights: a guess that only shapes the calls.
     fn may(&self, slot: usize, rights: u32) -> bool {
-        let user = self.tables.process(self.process)[USER];
+        let user = self.tables.process(self.process)[PROCESS_USER];
         let label = self.tables.process(self.process)[PROCESS_LABEL] as usize;
-        let bits = self.tables.file(slot)[BITS];
-        let by_bits = user == 0 || user == self.tables.file(slot)[OWNER] || bits & rights == rights;
-        let over = self.tables.file(slot)[LABEL] as usize;
+        let bits = self.tables.file(slot)[FILE_BITS];
+        let by_bits =
+            user == 0 || user == self.tables.file(slot)[FILE_OWNER] || bits & rights == rights;
+        let over = self.tables.file(slot)[FILE_LABEL] as usize;
         by_bits && u32::from(self.tables.rights(label, over)) & rights == rights
     }
 }

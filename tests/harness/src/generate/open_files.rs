@@ -54,7 +54,7 @@ fn sharers(chance: &mut Chance, free: usize, to_come: usize) -> Option<usize> {
 /// All descriptors of the processes in use.
 fn free_descriptors(tables: &Tables) -> Vec<(usize, usize)> {
     (0..PROCESSES)
-        .filter(|&process| tables.process(process)[USED] == 1)
+        .filter(|&process| tables.process(process)[PROCESS_USED] == 1)
         .flat_map(|process| (0..DESCRIPTORS).map(move |descriptor| (process, descriptor)))
         .collect()
 }
@@ -62,7 +62,7 @@ fn free_descriptors(tables: &Tables) -> Vec<(usize, usize)> {
 /// A plain file that only its open files keep.
 fn make_unnamed(chance: &mut Chance, tables: &mut Tables, slot: usize) -> usize {
     let length = chance.below(BLOCK + 1);
-    let version = tables.file(slot)[VERSION];
+    let version = tables.file(slot)[FILE_VERSION];
     let label = chance.below(LABELS) as u32;
     *tables.file_mut(slot) = [PLAIN, 10, 7, label, length as u32, 0, version];
     let bytes = chance.bytes(length);
@@ -71,7 +71,7 @@ fn make_unnamed(chance: &mut Chance, tables: &mut Tables, slot: usize) -> usize 
 }
 
 fn open(chance: &mut Chance, tables: &mut Tables, open_file: usize, slot: usize, sharers: usize) {
-    let length = tables.file(slot)[LENGTH];
+    let length = tables.file(slot)[FILE_LENGTH];
     let offset = match chance.below(6) {
         0 => length,
         1 => BLOCK as u32,
@@ -79,8 +79,8 @@ fn open(chance: &mut Chance, tables: &mut Tables, open_file: usize, slot: usize,
         3 => chance.below(length as usize + 1) as u32,
         _ => 0,
     };
-    tables.open_file_mut(open_file)[SLOT] = slot as u32;
-    tables.open_file_mut(open_file)[MODE] = chance.pick(&[1, 2, 3, 3, 4]);
-    tables.open_file_mut(open_file)[OFFSET] = offset;
-    tables.open_file_mut(open_file)[REFERENCES] = sharers as u32;
+    tables.open_file_mut(open_file)[OPEN_SLOT] = slot as u32;
+    tables.open_file_mut(open_file)[OPEN_MODE] = chance.pick(&[1, 2, 3, 3, 4]);
+    tables.open_file_mut(open_file)[OPEN_OFFSET] = offset;
+    tables.open_file_mut(open_file)[OPEN_REFERENCES] = sharers as u32;
 }

@@ -80,15 +80,15 @@ impl Maker<'_> {
             } else {
                 self.chance.word() as u32 >> self.chance.below(32)
             };
-            self.tables.file_mut(slot)[VERSION] = version;
+            self.tables.file_mut(slot)[FILE_VERSION] = version;
         }
     }
 
     fn set_root(&mut self) {
         let (owner, bits, label) = (self.user(), self.bits(), self.label());
-        self.tables.file_mut(0)[OWNER] = owner;
-        self.tables.file_mut(0)[BITS] = bits | EXECUTE;
-        self.tables.file_mut(0)[LABEL] = label;
+        self.tables.file_mut(0)[FILE_OWNER] = owner;
+        self.tables.file_mut(0)[FILE_BITS] = bits | EXECUTE;
+        self.tables.file_mut(0)[FILE_LABEL] = label;
     }
 
     fn grow(&mut self) {
@@ -111,7 +111,7 @@ impl Maker<'_> {
     /// A directory with an empty entry, and its depth.
     fn parent(&mut self) -> Option<(usize, usize)> {
         let tables = &self.tables;
-        let roomy = |&(slot, _): &(usize, usize)| tables.file(slot)[LENGTH] < DIRENTS as u32;
+        let roomy = |&(slot, _): &(usize, usize)| tables.file(slot)[FILE_LENGTH] < DIRENTS as u32;
         let fit: Vec<(usize, usize)> = self.directories.iter().copied().filter(roomy).collect();
         if fit.is_empty() {
             return None;
@@ -125,7 +125,7 @@ impl Maker<'_> {
 
     fn set_file(&mut self, slot: usize, kind: u32) {
         let (owner, bits, label) = (self.user(), self.bits(), self.label());
-        let version = self.tables.file(slot)[VERSION];
+        let version = self.tables.file(slot)[FILE_VERSION];
         let length = if kind == PLAIN { self.length() } else { 0 };
         let record = [kind, owner, bits, label, length as u32, 0, version];
         *self.tables.file_mut(slot) = record;
@@ -176,8 +176,8 @@ impl Maker<'_> {
         self.chance.shuffle(&mut numbers);
         for &process in &numbers[..self.shape.processes] {
             let (user, label) = (self.user(), self.label());
-            self.tables.process_mut(process)[USED] = 1;
-            self.tables.process_mut(process)[USER] = user;
+            self.tables.process_mut(process)[PROCESS_USED] = 1;
+            self.tables.process_mut(process)[PROCESS_USER] = user;
             self.tables.process_mut(process)[PROCESS_LABEL] = label;
         }
     }
