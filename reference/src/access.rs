@@ -28,7 +28,7 @@ impl Store<'_> {
     pub fn caller(&self, number: u8) -> Option<Caller> {
         let number = ProcessNumber::new(number)?;
         let process = self.process(number);
-        (process.in_use != 0).then_some(Caller {
+        (process.used != 0).then_some(Caller {
             process: number,
             user: process.user,
             label: process.label,

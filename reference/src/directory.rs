@@ -1,13 +1,13 @@
 //! The entries of a directory, as they lie in its 512 bytes.
 
 use crate::numbers::Slot;
-use crate::path::LONGEST_NAME;
+use crate::path::NAME;
 
 pub const BLOCK: usize = 512;
 const DIRENTS: usize = 16;
 const DIRENT_WIDTH: usize = 16;
 const DIRENTS_END: usize = DIRENTS * DIRENT_WIDTH;
-const SLOT_AT: usize = LONGEST_NAME;
+const SLOT_AT: usize = NAME;
 
 /// The bytes of one slot.
 pub type Block = [u8; BLOCK];
@@ -34,9 +34,9 @@ pub fn is_empty(dirent: &Dirent) -> bool {
 
 /// The name in an entry, without its padding.
 pub fn name(dirent: &Dirent) -> &[u8] {
-    let padded = &dirent[..LONGEST_NAME];
+    let padded = &dirent[..NAME];
     let length = padded.iter().position(|&byte| byte == 0);
-    &padded[..length.unwrap_or(LONGEST_NAME)]
+    &padded[..length.unwrap_or(NAME)]
 }
 
 pub fn slot(dirent: &Dirent) -> Slot {
@@ -56,7 +56,7 @@ pub fn find(block: &Block, name: &[u8]) -> Option<usize> {
     let wanted = dirent(name, Slot::ROOT);
     dirents(block)
         .iter()
-        .position(|dirent| dirent[..LONGEST_NAME] == wanted[..LONGEST_NAME])
+        .position(|dirent| dirent[..NAME] == wanted[..NAME])
 }
 
 /// The lowest empty entry.

@@ -1,24 +1,24 @@
 //! Paths and the names in them.
 
-const LONGEST_PATH: usize = 64;
-pub const MOST_NAMES: usize = 8;
-pub const LONGEST_NAME: usize = 14;
+const PATH: usize = 64;
+pub const NAMES: usize = 8;
+pub const NAME: usize = 14;
 
 /// A well-formed path: the names in it, none of them for the root.
 #[derive(Clone, Copy, Debug)]
 pub struct Path<'a> {
-    names: [&'a [u8]; MOST_NAMES],
+    names: [&'a [u8]; NAMES],
     count: usize,
 }
 
 impl<'a> Path<'a> {
     /// The path written in these bytes, if it is well formed.
     pub fn parse(bytes: &'a [u8]) -> Option<Path<'a>> {
-        if bytes.len() > LONGEST_PATH || !bytes.starts_with(b"/") {
+        if bytes.len() > PATH || !bytes.starts_with(b"/") {
             return None;
         }
         let mut path = Path {
-            names: [&[]; MOST_NAMES],
+            names: [&[]; NAMES],
             count: 0,
         };
         for name in bytes.split(|&byte| byte == b'/') {
@@ -77,7 +77,7 @@ impl<'a> Target<'a> {
 
 /// Whether these bytes are a valid name.
 pub fn is_name(bytes: &[u8]) -> bool {
-    (1..=LONGEST_NAME).contains(&bytes.len())
+    (1..=NAME).contains(&bytes.len())
         && bytes.iter().all(|&byte| byte != 0 && byte != b'/')
         && bytes != b"."
         && bytes != b".."

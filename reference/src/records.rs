@@ -101,7 +101,7 @@ impl OpenFile {
 
 #[derive(Clone, Copy, Debug, PartialEq, Eq)]
 pub struct Process {
-    pub in_use: u32,
+    pub used: u32,
     pub user: u32,
     pub label: u32,
     pub descriptors: [u32; DESCRIPTORS],
@@ -111,9 +111,9 @@ impl Process {
     pub const FREE_WORDS: [u32; PROCESS_WIDTH] = [0; PROCESS_WIDTH];
 
     pub fn from_words(words: [u32; PROCESS_WIDTH]) -> Process {
-        let [in_use, user, label, descriptors @ ..] = words;
+        let [used, user, label, descriptors @ ..] = words;
         Process {
-            in_use,
+            used,
             user,
             label,
             descriptors,

@@ -12,7 +12,7 @@ pub const LARGEST_READ: u16 = BLOCK as u16;
 pub const LONGEST_ANSWER: usize = "answer=00\nvalue=512\ndata=\n".len() + 2 * BLOCK;
 
 const UNKNOWN: u8 = 0;
-const READ: u16 = 11;
+const CALL_READ: u16 = 11;
 const LAST_CALL: u16 = 17;
 
 /// A call as its block gives it. The numbers may be higher than those of any
@@ -49,7 +49,7 @@ impl<'a> Scripted<'a> {
     fn leaves_unused_empty(&self) -> bool {
         let known = (1..=LAST_CALL).contains(&self.call);
         let uses_descriptor = matches!(self.call, 10..=14);
-        let uses_number = matches!(self.call, 1..=3 | 7 | 8 | READ | 13);
+        let uses_number = matches!(self.call, 1..=3 | 7 | 8 | CALL_READ | 13);
         let uses_path = matches!(self.call, 1..=9 | 17);
         let uses_data = matches!(self.call, 6 | 12);
         !known
@@ -62,7 +62,7 @@ impl<'a> Scripted<'a> {
     /// The numbers of the call. A read of too much is malformed as an unknown
     /// call is, and refused at the same point, so it is asked as one.
     pub fn request(&self) -> Request {
-        let too_much = self.call == READ && self.number > LARGEST_READ;
+        let too_much = self.call == CALL_READ && self.number > LARGEST_READ;
         Request {
             process: byte(self.process),
             call: if too_much { UNKNOWN } else { byte(self.call) },
@@ -74,7 +74,7 @@ impl<'a> Scripted<'a> {
     /// The size of the buffer to lend.
     pub fn read_size(&self) -> usize {
         match self.call {
-            READ => usize::from(self.number.min(LARGEST_READ)),
+            CALL_READ => usize::from(self.number.min(LARGEST_READ)),
             _ => 0,
         }
     }
@@ -83,7 +83,7 @@ impl<'a> Scripted<'a> {
     pub fn answer_lines(&self, answer: &Answer, buffer: &[u8]) -> String {
         let data = match answer.fields {
             Some(fields) => to_hex(&stat_bytes(fields)),
-            None if self.call == READ => to_hex(&buffer[..answer.value as usize]),
+            None if self.call == CALL_READ => to_hex(&buffer[..answer.value as usize]),
             None => to_hex(&answer.name),
         };
         let (refusal, value) = (answer.refusal, answer.value);

@@ -5,9 +5,9 @@
 use crate::command::LAST_OFFSET;
 use crate::directory::{self, Block, Dirent, BLOCK};
 use crate::numbers::{OpenFileNumber, Slot, OPEN_FILES, SLOTS};
-use crate::path::{is_name, MOST_NAMES};
+use crate::path::{is_name, NAMES};
 use crate::records::{File, Kind, OpenFile, Process};
-use crate::tables::{Policy, Tables, LABELS, NO_TRANSITION, RIGHTS};
+use crate::tables::{Policy, Tables, LABELS, NO_TRANSITION, RIGHTS_SIZE};
 
 const LAST_USER: u32 = 65_535;
 
@@ -20,7 +20,7 @@ pub fn is_sound(tables: &Tables) -> bool {
 }
 
 fn policy_is_sound(policy: &Policy) -> bool {
-    let (rights, transitions) = policy.split_at(RIGHTS);
+    let (rights, transitions) = policy.split_at(RIGHTS_SIZE);
     rights.iter().all(|&rights| rights <= 7)
         && transitions
             .iter()
@@ -34,7 +34,7 @@ fn processes_are_sound(tables: &Tables) -> bool {
 }
 
 fn process_is_in_range(process: &Process) -> bool {
-    process.in_use == 1
+    process.used == 1
         && process.user <= LAST_USER
         && process.label < LABELS as u32
         && process
@@ -176,7 +176,7 @@ impl Naming {
     /// Whether the root is met going up from a directory, within 8 names.
     fn is_reached(&self, directory: Slot) -> bool {
         let mut at = directory;
-        for _ in 0..MOST_NAMES {
+        for _ in 0..NAMES {
             match self.parent[at.index()] {
                 Some(Slot::ROOT) => return true,
                 Some(parent) => at = parent,

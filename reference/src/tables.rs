@@ -9,14 +9,14 @@ use crate::records::{File, OpenFile, Process, FILE_WIDTH, OPEN_FILE_WIDTH, PROCE
 use crate::rights::Rights;
 
 pub const LABELS: usize = 16;
-pub const RIGHTS: usize = LABELS * LABELS;
+pub const RIGHTS_SIZE: usize = LABELS * LABELS;
 pub const NO_TRANSITION: u8 = 255;
 
 pub type FileTable = [[u32; FILE_WIDTH]; SLOTS];
 pub type ContentsTable = [Block; SLOTS];
 pub type OpenFileTable = [[u32; OPEN_FILE_WIDTH]; OPEN_FILES];
 pub type ProcessTable = [[u32; PROCESS_WIDTH]; PROCESSES];
-pub type Policy = [u8; 2 * RIGHTS];
+pub type Policy = [u8; 2 * RIGHTS_SIZE];
 
 /// The tables, lent for reading.
 #[derive(Clone, Copy)]
@@ -144,7 +144,7 @@ impl<'a> Store<'a> {
 
     /// The label to which a program's label moves a process's.
     pub fn transition(&self, label: u32, program_label: u32) -> Option<u32> {
-        match self.policy[RIGHTS + cell(label, program_label)] {
+        match self.policy[RIGHTS_SIZE + cell(label, program_label)] {
             NO_TRANSITION => None,
             next => Some(u32::from(next)),
         }

@@ -16,7 +16,7 @@ impl Store<'_> {
     }
 
     pub fn lowest_free_process(&self) -> Option<ProcessNumber> {
-        ProcessNumber::all().find(|&number| self.process(number).in_use == 0)
+        ProcessNumber::all().find(|&number| self.process(number).used == 0)
     }
 
     pub fn lowest_free_descriptor(&self, process: ProcessNumber) -> Option<Descriptor> {
