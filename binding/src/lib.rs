@@ -25,6 +25,7 @@ mod numbers;
 mod replayed;
 mod request;
 mod tables;
+mod test_console;
 
 pub use answer::Answer;
 #[cfg(feature = "library")]
@@ -33,6 +34,7 @@ pub use numbers::{calls, modes, reasons, refusals};
 pub use replayed::Replayed;
 pub use request::Request;
 pub use tables::Tables;
+pub use test_console::test_console;
 
 /// The examples of that page are tests of this package.
 #[cfg(all(doctest, feature = "library"))]

@@ -1,7 +1,9 @@
 //! The functions over a small store: what they take, answer and leave.
 
 use mritvelja::layout::*;
-use mritvelja::{act, call, calls, modes, reasons, refusals, replay, sound, Request, Tables};
+use mritvelja::{
+    act, call, calls, modes, reasons, refusals, replay, sound, test_console, Request, Tables,
+};
 
 const SCRIPT: &[u8] = b"proc=0\ncall=15\nfd=0\narg=0\npath=\ndata=\n";
 
@@ -20,6 +22,11 @@ fn create(path: &[u8]) -> Request<'_> {
         path,
         ..Request::default()
     }
+}
+
+#[test]
+fn the_test_console_is_sound() {
+    assert!(sound(&test_console()));
 }
 
 #[test]

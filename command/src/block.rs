@@ -137,8 +137,7 @@ fn unused_but_given(block: &Block) -> Option<Break> {
 #[cfg(test)]
 mod tests {
     use super::*;
-    use crate::console::test_console;
-    use mritvelja::reasons;
+    use mritvelja::{reasons, test_console};
     use std::ffi::OsString;
 
     fn block(call: u32, descriptor: &str, number: &str, path: &str, data: &str) -> String {

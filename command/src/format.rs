@@ -142,7 +142,7 @@ fn to_words(bytes: &[u8]) -> Vec<u32> {
 #[cfg(test)]
 mod tests {
     use super::*;
-    use crate::console::test_console;
+    use mritvelja::test_console;
 
     const FORMER_SIZE: usize = size(FORMER_SLOTS);
 

@@ -10,7 +10,6 @@ mod call;
 mod calls;
 mod cat;
 mod check;
-mod console;
 mod convert;
 mod describe;
 mod description;

@@ -2,17 +2,16 @@
 
 use crate::arguments::{Contents, Input};
 use crate::check;
-use crate::console;
 use crate::description;
 use crate::failure::Failure;
 use crate::held::{self, Warning};
 use crate::input;
-use mritvelja::Tables;
+use mritvelja::{test_console, Tables};
 use std::path::Path;
 
 pub fn new(store: &Path, contents: &Contents) -> Result<Warning, Failure> {
     let tables = match contents {
-        Contents::TestConsole => console::test_console(),
+        Contents::TestConsole => test_console(),
         Contents::Empty => Tables::empty(),
         Contents::Description(input) => described(input)?,
     };

@@ -91,7 +91,7 @@ fn run_within(
 #[cfg(test)]
 mod tests {
     use super::*;
-    use crate::console::test_console;
+    use mritvelja::test_console;
 
     const DAY: &[u8] = include_bytes!("../../examples/day.script");
     /// Room for the longest answer of the example day, and not for two.

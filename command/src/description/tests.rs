@@ -1,10 +1,9 @@
 //! Descriptions written and read again, and each wrong line by its number.
 
 use super::{read, write, FIRST_LINE};
-use crate::console::test_console;
 use crate::ranges::label_pairs;
 use mritvelja::layout::*;
-use mritvelja::{call, calls, sound, Request, Tables};
+use mritvelja::{call, calls, sound, test_console, Request, Tables};
 
 /// Numbers by chance, the same at every run.
 struct Chance(u64);

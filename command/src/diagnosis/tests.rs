@@ -1,8 +1,8 @@
 //! A defect for each clause, and the diagnosis beside the proved test on spoilt stores.
 
 use super::*;
-use crate::console::test_console;
 use mritvelja::layout::*;
+use mritvelja::test_console;
 
 type Spoil = fn(&mut Tables);
 

@@ -57,8 +57,8 @@ fn part(heading: &str, lines: Vec<String>) -> Vec<String> {
 #[cfg(test)]
 mod tests {
     use super::*;
-    use crate::console::test_console;
     use mritvelja::layout::*;
+    use mritvelja::test_console;
 
     #[test]
     fn the_test_console_is_shown() {

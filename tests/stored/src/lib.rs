@@ -3,4 +3,3 @@
 pub mod answers;
 pub mod records;
 pub mod tables;
-pub mod test_console;

@@ -3,7 +3,7 @@
 
 use std::io::{Read, Write};
 
-use stored::test_console::test_console;
+use mritvelja::test_console;
 
 /// As much as `crates/day` has.
 const ROOM: usize = 65_536;

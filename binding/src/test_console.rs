@@ -1,13 +1,14 @@
-//! The papers' test console, the store that `new` writes.
+//! The papers' test console.
 
-use mritvelja::layout::*;
-use mritvelja::Tables;
+use crate::layout::*;
+use crate::Tables;
 
 const FARES: usize = 1;
 const NOW: usize = 2;
 const KEY: usize = 3;
 const KEY_LABEL: usize = 3;
 
+/// The papers' test console, fresh: a small store to begin or to test with.
 pub fn test_console() -> Tables {
     let mut tables = Tables::empty();
     set_files(&mut tables);
@@ -42,14 +43,4 @@ fn set_policy(tables: &mut Tables) {
         tables.set_rights(label, 0, rights);
     }
     tables.set_rights(1, KEY_LABEL, 2);
-}
-
-#[cfg(test)]
-mod tests {
-    use super::*;
-
-    #[test]
-    fn the_test_console_is_sound() {
-        assert!(mritvelja::sound(&test_console()));
-    }
 }
