@@ -20,6 +20,7 @@
 mod answer;
 #[cfg(feature = "library")]
 mod boundary;
+pub mod calls;
 pub mod layout;
 mod numbers;
 mod replayed;
@@ -30,7 +31,7 @@ mod test_console;
 pub use answer::Answer;
 #[cfg(feature = "library")]
 pub use boundary::{act, call, replay, sound};
-pub use numbers::{calls, modes, reasons, refusals};
+pub use numbers::{modes, reasons, refusals};
 pub use replayed::Replayed;
 pub use request::Request;
 pub use tables::Tables;

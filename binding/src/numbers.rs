@@ -1,42 +1,4 @@
-//! The numbers of calls, modes, refusals and reasons, as `include/mritvelja.h` has them.
-
-/// Calls. After each: the parts it uses, then the value it answers if granted.
-pub mod calls {
-    /// Path, number: mode; the descriptor.
-    pub const OPEN: u8 = 1;
-    /// Path, number: bits; the slot.
-    pub const CREATE: u8 = 2;
-    /// Path, number: bits; the slot.
-    pub const MAKE_DIRECTORY: u8 = 3;
-    /// Path; 0.
-    pub const UNLINK: u8 = 4;
-    /// Path; 0.
-    pub const REMOVE_DIRECTORY: u8 = 5;
-    /// Path: old, data: new path; 0.
-    pub const LINK: u8 = 6;
-    /// Path, number: index; 1, or 0 past the end.
-    pub const LIST: u8 = 7;
-    /// Path, number: bits; 0.
-    pub const CHANGE_BITS: u8 = 8;
-    /// Path; 0, and fields.
-    pub const STAT: u8 = 9;
-    /// Descriptor; 0.
-    pub const CLOSE: u8 = 10;
-    /// Descriptor, buffer; bytes read.
-    pub const READ: u8 = 11;
-    /// Descriptor, data; bytes written.
-    pub const WRITE: u8 = 12;
-    /// Descriptor, number: position; the position.
-    pub const SEEK: u8 = 13;
-    /// Descriptor; the new descriptor.
-    pub const DUPLICATE: u8 = 14;
-    /// Nothing; the child.
-    pub const FORK: u8 = 15;
-    /// Nothing; 0.
-    pub const EXIT: u8 = 16;
-    /// Path; 0.
-    pub const EXECUTE: u8 = 17;
-}
+//! The numbers of modes, refusals and reasons, as `include/mritvelja.h` has them.
 
 /// Modes of an open. Truncating is added to any mode but reading.
 pub mod modes {

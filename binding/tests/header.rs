@@ -1,6 +1,7 @@
 //! The constants of this package are those of the C header, all of them.
 
-use mritvelja::{calls, layout, modes, reasons, refusals};
+use mritvelja::calls::{self, Part};
+use mritvelja::{layout, modes, reasons, refusals};
 use std::collections::BTreeMap;
 
 const HEADER: &str = include_str!("../../include/mritvelja.h");
@@ -83,4 +84,54 @@ fn the_refusals_are_said_in_the_headers_words() {
 #[test]
 fn the_constants_are_those_of_the_header() {
     assert_eq!(in_package(), in_header());
+}
+
+/// What the header calls a part; link's path has more words, which do not name another part.
+fn phrase(part: &Part) -> &'static str {
+    match part {
+        Part::Descriptor => "descriptor",
+        Part::Path => "path",
+        Part::Mode => "number: mode",
+        Part::Bits => "number: bits",
+        Part::Index => "number: index",
+        Part::Position => "number: position",
+        Part::Data => "data",
+        Part::NewPath => "data: new path",
+        Part::Buffer => "buffer",
+    }
+}
+
+/// The parts that the header names behind each call's number.
+fn parts_in_header() -> BTreeMap<u16, String> {
+    let lines = HEADER
+        .lines()
+        .filter_map(|line| line.trim().strip_prefix("MRITVELJA_CALL_"));
+    let numbered = lines.filter_map(|line| {
+        let (number, comment) = line.split_once(" = ")?.1.split_once("/*")?;
+        let number = number.trim().trim_end_matches(',').parse().unwrap();
+        let parts = comment
+            .split(';')
+            .next()?
+            .trim()
+            .replace("path: old", "path");
+        Some((number, parts))
+    });
+    numbered.collect()
+}
+
+#[test]
+fn the_parts_of_a_call_are_those_of_the_header() {
+    let said = (0..=u16::MAX).filter_map(|call| {
+        let parts: Vec<&str> = calls::parts(call)?.iter().map(phrase).collect();
+        let parts = parts.join(", ");
+        Some((
+            call,
+            if parts.is_empty() {
+                "nothing".into()
+            } else {
+                parts
+            },
+        ))
+    });
+    assert_eq!(said.collect::<BTreeMap<_, _>>(), parts_in_header());
 }

@@ -1,6 +1,7 @@
 //! A block of a script (`docs/scripts.md`): the call that it asks for, or the line at which it breaks and how.
 
-use crate::calls::{self, Asked, Part};
+use crate::calls::{self, Asked};
+use mritvelja::calls::{uses, Field};
 use mritvelja::layout::{BLOCK, PATH};
 
 const KEYS: [&str; 6] = ["proc=", "call=", "fd=", "arg=", "path=", "data="];
@@ -26,7 +27,7 @@ impl Block<'_> {
     pub fn words(&self) -> String {
         let (path_size, data_size) = (self.path.len(), self.data.len() / 2);
         if path_size > PATH || data_size > BLOCK {
-            let name = calls::parts(self.call).map_or("call", |(name, _)| name);
+            let name = calls::name(self.call).unwrap_or("call");
             return format!("{name} of {} bytes", path_size + data_size);
         }
         let asked = Asked {
@@ -113,21 +114,17 @@ pub fn from_hex(text: &[u8]) -> Option<Vec<u8>> {
 
 /// The first part that stands in the block though its call does not use it.
 fn unused_but_given(block: &Block) -> Option<Break> {
-    use Part::*;
-    // An unknown call may have all of them.
-    let (_, parts) = calls::parts(block.call)?;
-    let uses = |some: &[Part]| parts.iter().any(|part| some.contains(part));
-    let unused = [
-        (block.descriptor != 0 && !uses(&[Descriptor]), "0"),
-        (
-            block.number != 0 && !uses(&[Mode, Bits, Index, Size, Position]),
-            "0",
-        ),
-        (!block.path.is_empty() && !uses(&[Path]), "empty"),
-        (!block.data.is_empty() && !uses(&[Data, NewPath]), "empty"),
+    let call = block.call;
+    let given = [
+        (Field::Descriptor, block.descriptor != 0, "0"),
+        (Field::Number, block.number != 0, "0"),
+        (Field::Path, !block.path.is_empty(), "empty"),
+        (Field::Data, !block.data.is_empty(), "empty"),
     ];
-    let at = unused.iter().position(|&(is_given, _)| is_given)?;
-    let (call, key, must_be) = (block.call, KEYS[at + 2], unused[at].1);
+    let at = given
+        .iter()
+        .position(|&(field, is_given, _)| is_given && !uses(call, field))?;
+    let (key, must_be) = (KEYS[at + 2], given[at].2);
     Some((
         at + 2,
         format!("call {call} does not use {key}, which must be {must_be}"),

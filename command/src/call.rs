@@ -55,7 +55,7 @@ fn request<'a>(asked: &'a Asked, data: Option<&'a [u8]>) -> Request<'a> {
 /// The bytes of a read go to standard output, and the words beside them; else the words go there.
 fn print(asked: &Asked, answer: &Answer, buffer: &[u8], is_hex: bool) -> Result<(), Failure> {
     let words = answers::words(asked.call, &Told::from(answer));
-    if asked.call != calls::READ.into() {
+    if !calls::reads(asked.call) {
         return output::print_line(words);
     }
     let bytes = &buffer[..answer.value as usize];

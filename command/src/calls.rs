@@ -1,54 +1,38 @@
-//! The calls by their names, and the parts that each takes.
+//! The calls by their names, with their parts in words.
 
 use crate::text;
+use mritvelja::calls::{self, Part};
 use mritvelja::layout::BLOCK;
-use mritvelja::{calls, modes};
+use mritvelja::modes;
 use std::ffi::{OsStr, OsString};
 use std::os::unix::ffi::OsStrExt;
 
-/// A part of a call, as its words give it.
-#[derive(Clone, Copy, PartialEq, Eq)]
-pub enum Part {
-    Path,
-    NewPath,
-    Mode,
-    Bits,
-    Index,
-    Descriptor,
-    Size,
-    Position,
-    Data,
-}
-
 use Part::*;
 
-/// Each call's name, its number, and its parts in the order of its words.
-pub const CALLS: [(&str, u8, &[Part]); 17] = [
-    ("open", calls::OPEN, &[Path, Mode]),
-    ("create", calls::CREATE, &[Path, Bits]),
-    ("make-directory", calls::MAKE_DIRECTORY, &[Path, Bits]),
-    ("unlink", calls::UNLINK, &[Path]),
-    ("remove-directory", calls::REMOVE_DIRECTORY, &[Path]),
-    ("link", calls::LINK, &[Path, NewPath]),
-    ("list", calls::LIST, &[Path, Index]),
-    ("change-bits", calls::CHANGE_BITS, &[Path, Bits]),
-    ("stat", calls::STAT, &[Path]),
-    ("close", calls::CLOSE, &[Descriptor]),
-    ("read", calls::READ, &[Descriptor, Size]),
-    ("write", calls::WRITE, &[Descriptor, Data]),
-    ("seek", calls::SEEK, &[Descriptor, Position]),
-    ("duplicate", calls::DUPLICATE, &[Descriptor]),
-    ("fork", calls::FORK, &[]),
-    ("exit", calls::EXIT, &[]),
-    ("execute", calls::EXECUTE, &[Path]),
+const NAMES: [(&str, u8); 17] = [
+    ("open", calls::OPEN),
+    ("create", calls::CREATE),
+    ("make-directory", calls::MAKE_DIRECTORY),
+    ("unlink", calls::UNLINK),
+    ("remove-directory", calls::REMOVE_DIRECTORY),
+    ("link", calls::LINK),
+    ("list", calls::LIST),
+    ("change-bits", calls::CHANGE_BITS),
+    ("stat", calls::STAT),
+    ("close", calls::CLOSE),
+    ("read", calls::READ),
+    ("write", calls::WRITE),
+    ("seek", calls::SEEK),
+    ("duplicate", calls::DUPLICATE),
+    ("fork", calls::FORK),
+    ("exit", calls::EXIT),
+    ("execute", calls::EXECUTE),
 ];
 
-/// The name and the parts of a call; nothing if there is no such call.
-pub fn parts(call: u16) -> Option<(&'static str, &'static [Part])> {
-    let known = CALLS
-        .iter()
-        .find(|&&(_, number, _)| u16::from(number) == call);
-    known.map(|&(name, _, parts)| (name, parts))
+/// A call's name; nothing if there is no such call.
+pub fn name(call: u16) -> Option<&'static str> {
+    let known = NAMES.iter().find(|&&(_, number)| u16::from(number) == call);
+    known.map(|&(name, _)| name)
 }
 
 /// A call as a script may have it: its numbers need not be of any process or call.
@@ -66,10 +50,11 @@ pub struct Asked {
 impl Asked {
     /// The call of a name with its operands, as many as it has parts; a read without a size is of a whole file.
     pub fn parse(process: &OsStr, name: &OsStr, operands: &[OsString]) -> Result<Asked, String> {
-        let &(name, call, parts) = CALLS
+        let &(name, call) = NAMES
             .iter()
-            .find(|(known, ..)| name == *known)
+            .find(|(known, _)| name == *known)
             .ok_or_else(|| format!("unknown call: {}", text::printable(name)))?;
+        let parts = calls::parts(call.into()).expect("a call with a name is known");
         if let Some(more) = operands.get(parts.len()) {
             let more = text::printable(more);
             return Err(format!("one argument too many for {name}: {more}"));
@@ -82,7 +67,7 @@ impl Asked {
         for (at, &part) in parts.iter().enumerate() {
             match operands.get(at) {
                 Some(operand) => asked.set(part, operand)?,
-                None if part == Size => asked.number = BLOCK as u16,
+                None if part == Buffer => asked.number = BLOCK as u16,
                 None => return Err(format!("{name} needs {}", what(part))),
             }
         }
@@ -95,7 +80,7 @@ impl Asked {
             Path => self.path = word.as_bytes().to_vec(),
             NewPath | Data => self.data = word.as_bytes().to_vec(),
             Descriptor => self.descriptor = number(what(part), word, u8::MAX.into())?,
-            Index | Size | Position => self.number = number(what(part), word, u16::MAX)?,
+            Index | Buffer | Position => self.number = number(what(part), word, u16::MAX)?,
             Mode => {
                 self.number = parse_mode(word.as_bytes()).ok_or_else(|| {
                     not() + ", not read, write, both or append, and perhaps ,truncate"
@@ -114,7 +99,7 @@ impl Asked {
 
     /// The call in the words that [`Asked::parse`] takes.
     pub fn words(&self) -> String {
-        let Some((name, parts)) = parts(self.call) else {
+        let (Some(name), Some(parts)) = (name(self.call), calls::parts(self.call)) else {
             return format!("unknown call {}", self.call);
         };
         let parts = parts.iter().map(|&part| self.word(part));
@@ -131,7 +116,7 @@ impl Asked {
             NewPath => text::readable(&self.data),
             Data => text::quote(&self.data),
             Descriptor => self.descriptor.to_string(),
-            Index | Size | Position => self.number.to_string(),
+            Index | Buffer | Position => self.number.to_string(),
             Mode => mode_words(self.number).unwrap_or_else(|| self.number.to_string()),
             Bits if self.number > 7 => self.number.to_string(),
             Bits => text::rights(self.number.into(), ","),
@@ -147,7 +132,7 @@ fn what(part: Part) -> &'static str {
         Bits => "BITS",
         Index => "an INDEX",
         Descriptor => "a DESCRIPTOR",
-        Size => "a SIZE",
+        Buffer => "a SIZE",
         Position => "a POSITION",
         Data => "DATA",
     }

@@ -1,9 +1,8 @@
 //! A call as a script's block writes it. Its numbers may be higher than those
 //! of any process, call or descriptor.
 
-use crate::call::{Call, CALLS};
-
-pub const READ: u16 = 11;
+use crate::call::Call;
+use mritvelja::calls::{reads, uses, Field};
 
 const KEYS: [&str; 6] = ["proc=", "call=", "fd=", "arg=", "path=", "data="];
 
@@ -17,44 +16,25 @@ pub struct Block {
     pub data: Vec<u8>,
 }
 
-/// The parts that a call uses. An unknown one leaves nothing unused.
-#[derive(Clone, Copy, Debug)]
-pub struct Uses {
-    pub descriptor: bool,
-    pub number: bool,
-    pub path: bool,
-    pub data: bool,
-}
-
-impl Uses {
-    pub fn of(call: u16) -> Uses {
-        let unknown = !(1..=CALLS as u16).contains(&call);
-        Uses {
-            descriptor: unknown || (10..=14).contains(&call),
-            number: unknown || [1, 2, 3, 7, 8, READ, 13].contains(&call),
-            path: unknown || call < 10 || call == 17,
-            data: unknown || call == 6 || call == 12,
-        }
-    }
-}
-
 impl Block {
     /// The call without what it does not use. A read asks for its buffer's size.
     pub fn of(call: &Call) -> Block {
         let number = u16::from(call.call);
-        let size = call.buffer.len() as u16;
-        let uses = Uses::of(number);
-        let bytes = |used: bool, bytes: &[u8]| if used { bytes.to_vec() } else { Vec::new() };
+        let word = |field, word| if uses(number, field) { word } else { 0 };
+        let bytes = |field, bytes: &[u8]| match uses(number, field) {
+            true => bytes.to_vec(),
+            false => Vec::new(),
+        };
         Block {
             process: call.process.into(),
             call: number,
-            descriptor: u16::from(uses.descriptor) * u16::from(call.descriptor),
-            number: match number {
-                READ => size,
-                _ => u16::from(uses.number) * call.number,
+            descriptor: word(Field::Descriptor, call.descriptor.into()),
+            number: match reads(number) {
+                true => call.buffer.len() as u16,
+                false => word(Field::Number, call.number),
             },
-            path: bytes(uses.path, &call.path),
-            data: bytes(uses.data, &call.data),
+            path: bytes(Field::Path, &call.path),
+            data: bytes(Field::Data, &call.data),
         }
     }
 

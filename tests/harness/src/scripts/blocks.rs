@@ -1,9 +1,11 @@
 //! Blocks by chance: calls that fit the store at hand, and some at the limits
 //! of what a script can write.
 
-use super::block::{Block, Uses, READ};
+use super::block::Block;
+use crate::call::CALLS;
 use crate::chance::Chance;
 use crate::generate::CallMaker;
+use mritvelja::calls::{self, reads, uses, Field};
 use mritvelja::Tables;
 
 /// Numbers about those that fit a byte, a read and a script.
@@ -24,9 +26,17 @@ pub fn block(chance: &mut Chance, maker: &CallMaker, tables: &Tables) -> Block {
     block
 }
 
-/// A block of one of these calls, 0 being an unknown one.
-pub fn block_of(chance: &mut Chance, maker: &CallMaker, tables: &Tables, calls: &[u8]) -> Block {
-    let call = chance.pick(calls);
+/// A block of a call that passes, 0 being an unknown one.
+pub fn block_of(
+    chance: &mut Chance,
+    maker: &CallMaker,
+    tables: &Tables,
+    pass: fn(u16) -> bool,
+) -> Block {
+    let calls: Vec<u8> = (0..=CALLS as u8)
+        .filter(|&call| pass(call.into()))
+        .collect();
+    let call = chance.pick(&calls);
     let mut block = Block::of(&maker.call_of(chance, tables, call));
     without_line_end(&mut block, chance);
     block
@@ -34,16 +44,16 @@ pub fn block_of(chance: &mut Chance, maker: &CallMaker, tables: &Tables, calls: 
 
 /// Brings a part that the call uses to a limit.
 fn vary(block: &mut Block, chance: &mut Chance) {
-    let uses = Uses::of(block.call);
+    let call = block.call;
     match chance.below(8) {
         0 | 1 => raise(block, chance),
         2 => block.process = chance.pick(&EDGES),
-        3 if uses.descriptor => block.descriptor = chance.pick(&EDGES),
-        4 if block.call == READ => block.number = chance.pick(&READ_SIZES),
-        4 if uses.number => block.number = chance.pick(&EDGES),
-        5 if uses.path => block.path = long_path(&block.path, chance),
-        6 if block.call == 6 => block.data = long_path(&block.data, chance),
-        6 if uses.data => {
+        3 if uses(call, Field::Descriptor) => block.descriptor = chance.pick(&EDGES),
+        4 if reads(call) => block.number = chance.pick(&READ_SIZES),
+        4 if uses(call, Field::Number) => block.number = chance.pick(&EDGES),
+        5 if uses(call, Field::Path) => block.path = long_path(&block.path, chance),
+        6 if call == calls::LINK.into() => block.data = long_path(&block.data, chance),
+        6 if uses(call, Field::Data) => {
             let length = chance.pick(&DATA_LENGTHS);
             block.data = chance.bytes(length);
         }
@@ -57,7 +67,7 @@ fn raise(block: &mut Block, chance: &mut Chance) {
     match chance.below(3) {
         0 => block.process += more,
         1 => block.call += more,
-        _ if Uses::of(block.call).descriptor => block.descriptor += more,
+        _ if uses(block.call, Field::Descriptor) => block.descriptor += more,
         _ => block.process += more,
     }
 }

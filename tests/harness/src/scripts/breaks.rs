@@ -2,25 +2,28 @@
 
 use super::lines::{key_length, Lines, DATA, DESCRIPTOR, NUMBER, NUMBERS, PATH};
 use crate::chance::Chance;
+use mritvelja::calls::{uses, Field};
 
-/// A way to break a block: its name, the calls in whose blocks it shows (0
-/// being an unknown one), and what it does to the lines.
+/// Whether a way shows in the block of a call, 0 being an unknown one.
+type Shows = fn(u16) -> bool;
+
+/// A way to break a block: its name, the calls in whose blocks it shows, and
+/// what it does to the lines.
 pub struct Way {
     pub name: &'static str,
-    pub calls: &'static [u8],
+    pub shows: Shows,
     pub make: fn(&mut Lines, &mut Chance),
 }
 
-const ANY: &[u8] = &[0, 1, 2, 3, 4, 5, 6, 7, 8, 9, 10, 11, 12, 13, 14, 15, 16, 17];
-/// Calls that use the data line, and those that leave a line unused.
-const WITH_DATA: &[u8] = &[0, 6, 12];
-const NO_DESCRIPTOR: &[u8] = &[1, 2, 3, 4, 5, 6, 7, 8, 9, 15, 16, 17];
-const NO_NUMBER: &[u8] = &[4, 5, 6, 9, 10, 12, 14, 15, 16, 17];
-const NO_PATH: &[u8] = &[10, 11, 12, 13, 14, 15, 16];
-const NO_DATA: &[u8] = &[1, 2, 3, 4, 5, 7, 8, 9, 10, 11, 13, 14, 15, 16, 17];
+const ANY: Shows = |_| true;
+const WITH_DATA: Shows = |call| uses(call, Field::Data);
+const NO_DESCRIPTOR: Shows = |call| !uses(call, Field::Descriptor);
+const NO_NUMBER: Shows = |call| !uses(call, Field::Number);
+const NO_PATH: Shows = |call| !uses(call, Field::Path);
+const NO_DATA: Shows = |call| !uses(call, Field::Data);
 
-const fn way(name: &'static str, calls: &'static [u8], make: fn(&mut Lines, &mut Chance)) -> Way {
-    Way { name, calls, make }
+const fn way(name: &'static str, shows: Shows, make: fn(&mut Lines, &mut Chance)) -> Way {
+    Way { name, shows, make }
 }
 
 pub const WAYS: [Way; 22] = [

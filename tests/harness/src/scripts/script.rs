@@ -70,7 +70,7 @@ impl Author<'_> {
     fn add_broken(&mut self) -> usize {
         let number = self.chance.below(WAYS.len());
         let way = &WAYS[number];
-        let block = block_of(self.chance, &self.maker, &self.tables, way.calls);
+        let block = block_of(self.chance, &self.maker, &self.tables, way.shows);
         let mut lines = Lines::of(&block);
         (way.make)(&mut lines, self.chance);
         self.text.extend(lines.text());

@@ -29,14 +29,13 @@ use std::io::Write;
 use call::Call;
 use chance::Chance;
 use generate::{random_store, CallMaker};
+use mritvelja::calls::{parts, Field};
 use mritvelja::Tables;
 use reference::Request;
 use stored::records::{self, BUFFER, ROOM};
 use stored::tables::{self, zero, SIZES};
 
 const SEED: u64 = 20_261;
-const LINK: u8 = 6;
-const WRITE: u8 = 12;
 const STORES: usize = 60;
 const CALLS: usize = 89;
 /// How many bytes but 0 the contents of a short store have.
@@ -153,9 +152,9 @@ fn make(tables: &mut Tables, call: &Call) -> u32 {
 
 /// The call with less of what it does not look at.
 fn short(mut call: Call) -> Call {
-    match call.call {
-        LINK | WRITE => {}
-        _ => call.data.truncate(4),
+    let parts = parts(call.call.into()).unwrap_or_default();
+    if !parts.iter().any(|part| part.field() == Field::Data) {
+        call.data.truncate(4);
     }
     call
 }

@@ -2,6 +2,7 @@
 
 use std::io::{Read, Write};
 
+use mritvelja::calls::{parts, reads, Field};
 use reference::Request;
 use stored::answers;
 use stored::tables::{
@@ -10,27 +11,11 @@ use stored::tables::{
 
 const LONGEST: usize = 512;
 
-/// Each call's name and the parts that follow it: descriptor, number, path, data.
-const CALLS: [(&str, &str); 17] = [
-    ("open", "np"),
-    ("create", "np"),
-    ("mkdir", "np"),
-    ("unlink", "p"),
-    ("rmdir", "p"),
-    ("link", "pd"),
-    ("list", "np"),
-    ("chmod", "np"),
-    ("stat", "p"),
-    ("close", "f"),
-    ("read", "fn"),
-    ("write", "fd"),
-    ("seek", "fn"),
-    ("dup", "f"),
-    ("fork", ""),
-    ("exit", ""),
-    ("exec", "p"),
+/// Each call's name, in the order of their numbers.
+const NAMES: [&str; 17] = [
+    "open", "create", "mkdir", "unlink", "rmdir", "link", "list", "chmod", "stat", "close", "read",
+    "write", "seek", "dup", "fork", "exit", "exec",
 ];
-const READ: u8 = 11;
 
 /// A line that is not understood.
 struct Broken;
@@ -142,11 +127,8 @@ impl Console<'_> {
         let mut words = words.iter().copied();
         let process = small(words.next())?;
         let name = words.next();
-        let known = CALLS.iter().position(|call| Some(call.0) == name);
-        let call = known.map_or_else(|| small(name), |at| Ok(at as u8 + 1))?;
-        let parts = CALLS
-            .get(usize::from(call).wrapping_sub(1))
-            .map_or("", |call| call.1);
+        let known = NAMES.iter().position(|call| Some(*call) == name);
+        let call: u8 = known.map_or_else(|| small(name), |at| Ok(at as u8 + 1))?;
         let mut request = Request {
             process,
             call,
@@ -154,25 +136,22 @@ impl Console<'_> {
             number: 0,
         };
         let (mut path, mut data) = (Vec::new(), Vec::new());
-        for part in parts.chars() {
-            match part {
-                'f' => request.descriptor = small(words.next())?,
-                'n' => request.number = small(words.next())?,
-                'p' => path = text(words.next())?,
-                _ => data = text(words.next())?,
+        for field in fields(call) {
+            match field {
+                Field::Descriptor => request.descriptor = small(words.next())?,
+                Field::Number => request.number = small(words.next())?,
+                Field::Path => path = text(words.next())?,
+                Field::Data => data = text(words.next())?,
             }
         }
-        let size = if call == READ {
-            usize::from(request.number)
-        } else {
-            0
-        };
+        let is_read = reads(call.into());
+        let size = usize::from(if is_read { request.number } else { 0 });
         if words.next().is_some() || size > LONGEST {
             return Err(Broken);
         }
         let mut buffer = vec![0; size];
         let answer = tables::call(&mut self.tables, request, &path, &data, &mut buffer);
-        let read = if call == READ { answer.value } else { 0 };
+        let read = if is_read { answer.value } else { 0 };
         let bytes = &buffer[..read as usize];
         Ok(format!(": {}", answers::answer(&answer, bytes)))
     }
@@ -187,6 +166,14 @@ impl Console<'_> {
             _ => self.call(&words),
         }
     }
+}
+
+/// What follows a call's name, in the order of a line; nothing behind an unknown call.
+fn fields(call: u8) -> Vec<Field> {
+    let parts = parts(call.into()).unwrap_or_default();
+    let mut fields: Vec<Field> = parts.iter().map(|part| part.field()).collect();
+    fields.sort();
+    fields
 }
 
 fn put<T: Copy>(table: &mut [T], at: usize, values: &[T]) {

@@ -2,11 +2,10 @@
 
 use std::io::{Read, Write};
 
+use mritvelja::calls::reads;
 use reference::{Answer, Request};
 use stored::records::{BUFFER, BUFFER_BYTE, ROOM};
 use stored::tables::{zero, Tables, SIZES};
-
-const READ: u8 = 11;
 
 struct Recorded {
     tables: Tables,
@@ -113,7 +112,7 @@ impl Recorded {
         };
         let mut buffer = vec![BUFFER_BYTE; short(bytes, 0).min(BUFFER)];
         let answer = self.answer(request, path, data, &mut buffer);
-        let read = if *call == READ {
+        let read = if reads((*call).into()) {
             &buffer[..answer.value as usize]
         } else {
             &[]
