@@ -77,15 +77,18 @@ fn run_within(
                 progress.tell(run.calls, run.next, script.len());
                 continue;
             }
-            reason => {
-                return Err(Lost::Unexpected(format!(
-                    "the run stopped for reason {reason} after {} calls, at byte {}",
-                    run.calls, run.next
-                )))
-            }
+            reason => return Err(unexpected(reason, &run)),
         };
         return Ok(run);
     }
+}
+
+/// A stop that the library does not make where there is room for an answer.
+fn unexpected(reason: u32, run: &Replayed) -> Lost {
+    let Replayed { calls, next, .. } = run;
+    Lost::Unexpected(format!(
+        "the run stopped for reason {reason} after {calls} calls, at byte {next}"
+    ))
 }
 
 #[cfg(test)]
