@@ -1,6 +1,7 @@
--- Laws of lines, numbers and texts as they are read, and of the lines that set tables.
+-- Laws of lines, numbers and texts as they are read, of the lines that set tables, and of those that make calls.
 pub mod LineLaws
 pub mod NumberLaws
 pub mod HexLaws
 pub mod TextLaws
 pub mod SettingLaws
+pub mod CallLaws

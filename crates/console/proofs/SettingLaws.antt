@@ -45,7 +45,7 @@ module _ (l X : List ℕ) (a k : ℕ) {z : List ℕ} (inv : sets X a (fold (with
 
 -- ---- the text of a line, written into 512 bytes and copied from there
 
-shown : (w : List ℕ) → textLength w ≤ BLOCK → textLength w ≡ length (textBytes w)
+pub shown : (w : List ℕ) → textLength w ≤ BLOCK → textLength w ≡ length (textBytes w)
 unfolding textLength
 shown w = by (wholeIn (length w) w)
   where
@@ -53,7 +53,7 @@ shown w = by (wholeIn (length w) w)
     by true h = refl
     by false h = absurd (omega arith)
 
-front : (B X : List ℕ) → length B ≤ length X → take (length B) (sets X 0 B) ≡ B
+pub front : (B X : List ℕ) → length B ≤ length X → take (length B) (sets X 0 B) ≡ B
 front B X h = rw (sets-eq B X 0 (omega arith)) (take-append-seam B _)
 
 module _ (l X : List ℕ) (at : ℕ) {w : List ℕ} (p : w ≡ wordOf l 4) {n : ℕ} (q : n ≡ textLength w) where

@@ -3,3 +3,5 @@ pub mod Words
 pub mod Numbers
 pub mod Texts
 pub mod Settings
+pub mod Calls
+pub mod Lines

@@ -1,11 +1,15 @@
 -- Texts: a byte stands for itself, but `\xNN` is byte NN.
 use Prim.Native.Nat.{ℕ, zero, suc, _+_, _-_, _*_}
-use mathlib.Core.Bool.{Bool, true, false, cond}
+use mathlib.Core.Bool.{Bool, true, false, cond, not}
 use mathlib.Core.List.{List, [], _∷_}
 use lib.Dec.{eqb, ltb, leb}
 use lib.ListN.{length, getD, drop}
 use Rattle.rules.specs.Choice.{every}
 use Rattle.script_rules.specs.Text.{isHex, hexValue}
+
+-- what stands for itself where a text is written: what can be seen, but no backslash
+unfoldable pub isPlain : ℕ → Bool
+isPlain b = every (not (eqb b 92) ∷ leb 33 b ∷ leb b 126 ∷ [])
 
 -- what is no byte
 abbrev pub NO-BYTE : ℕ

@@ -5,9 +5,10 @@ use mathlib.Core.List.{List, [], _∷_}
 use lib.Dec.{eqb, ltb}
 use lib.ListN.{length, take, drop}
 use Rattle.rules.specs.Choice.{every}
-use Rattle.rules.specs.Scan.{all, first, repeat}
-use Rattle.rules.specs.Paths.{span, sameAt}
+use Rattle.rules.specs.Scan.{first, repeat}
+use Rattle.rules.specs.Paths.{span}
 use Rattle.script_rules.specs.Text.{NEWLINE}
+use Rattle.script_rules.specs.Blocks.{hasKey}
 
 abbrev pub SPACE : ℕ
 SPACE = 32
@@ -52,7 +53,7 @@ unfoldable pub wordOf : List ℕ → ℕ → List ℕ
 wordOf l k = before SPACE (drop (wordStart l k) l)
 
 unfoldable pub same : List ℕ → List ℕ → Bool
-same a b = every (eqb (length a) (length b) ∷ all (sameAt a b) 0 (length b) ∷ [])
+same a b = every (eqb (length a) (length b) ∷ hasKey b a ∷ [])
 
 unfoldable pub isWord : (list name : List ℕ) → ℕ → Bool
 isWord list name k = same (wordOf list k) name

@@ -1,4 +1,11 @@
 // A line that makes a call: the process, the call, and its parts.
+ghost use mathlib.Core.Path.{_≡_};
+ghost use mathlib.Core.List.{_∷_, []};
+ghost use lib.ListN.{take};
+ghost use lib.Seq.{sets};
+ghost use Rattle.rules.specs.Choice.{every};
+ghost use Rattle.rules.specs.Calls.{callOf};
+ghost use Rattle.console.specs.Calls.{PATH, DATA, callNumber, rowOf, placeOf, partNumber, partLength, partBytes, partPlace, inRange, requestOf, bufferSize, fits, parsed, outcomeOn, calledTables, lineCalled};
 use crate::numbers::number;
 use crate::printing::print_text;
 use crate::settings::Console;
@@ -24,7 +31,9 @@ struct Parsed {
 }
 
 // A call's number by its name, or as it stands, so that unknown ones can be made too.
-fn call_number(name: &[u8]) -> u64 {
+fn call_number(name: &[u8]) -> u64
+    ensures { λ r. ⌜ r ≡ callNumber (now (name .entry)) ⌝ }
+{
     let k = index_of(
         b"open create mkdir unlink rmdir link list chmod stat close read write seek dup fork exit exec",
         17,
@@ -36,13 +45,25 @@ fn call_number(name: &[u8]) -> u64 {
     number(name)
 }
 
+// Which parts a call has; unknown ones have those of row 0.
+fn row_of(call: u64) -> usize
+    ensures { λ r. ⌜ r ≡ rowOf call ⌝ }
+{
+    let known = call < 18;
+    if known {
+        return call as usize;
+    }
+    0
+}
+
 // The word that holds a part of a call, 0 where the call has none: f descriptor, n number, p path, d bytes or second
 // path. The words end at the dot.
-fn place(call: u64, part: u8) -> usize {
-    let row = if call < 18 { call as usize } else { 0 };
+fn place(call: u64, part: u8) -> usize
+    ensures { λ r. ⌜ r ≡ placeOf call part ⌝ }
+{
     let parts = word(
         b". np. np. np. p. p. pd. np. np. p. f. fn. fd. fn. f. . . p.",
-        row,
+        row_of(call),
     );
     let k = find(parts, 0, part);
     if k < parts.len() {
@@ -51,25 +72,48 @@ fn place(call: u64, part: u8) -> usize {
     0
 }
 
-fn part_number(line: &[u8], k: usize) -> u64 {
-    if k == 0 {
+fn part_number(line: &[u8], k: usize) -> u64
+    ensures { λ r. ⌜ r ≡ partNumber (now (line .entry)) k ⌝ }
+{
+    let none = k == 0;
+    if none {
         return 0;
     }
     number(word(line, k))
 }
 
-fn part_text(line: &[u8], k: usize, out: &mut [u8]) -> usize {
-    if k == 0 {
+fn part_text(line: &[u8], k: usize, out: &mut [u8]) -> usize
+    ensures count { λ r. ⌜ r ≡ partLength (now (line .entry)) k ⌝ }
+    ensures bytes { λ _. ⌜ now (out .exit) ≡ sets (now (out .entry)) 0 (partBytes (now (line .entry)) k) ⌝ }
+{
+    let none = k == 0;
+    if none {
         return 0;
     }
     unescape(word(line, k), out)
 }
 
-fn in_range(process: u64, call: u64, fd: u64, n: u64) -> bool {
-    process < 256 && call < 256 && fd < 256 && n < 65536
+fn in_range(process: u64, call: u64, fd: u64, n: u64) -> bool
+    ensures { λ r. ⌜ r ≡ inRange process call fd n ⌝ }
+{
+    let process_fits = process < 256;
+    if !process_fits {
+        return false;
+    }
+    let call_fits = call < 256;
+    if !call_fits {
+        return false;
+    }
+    let fd_fits = fd < 256;
+    if !fd_fits {
+        return false;
+    }
+    n < 65536
 }
 
-fn request(process: u64, call: u64, fd: u64, n: u64) -> Request {
+fn request(process: u64, call: u64, fd: u64, n: u64) -> Request
+    ensures { λ r. ⌜ r ≡ requestOf process call fd n ⌝ }
+{
     Request {
         process: Pid((process % 256) as u8),
         call: (call % 256) as u8,
@@ -78,19 +122,49 @@ fn request(process: u64, call: u64, fd: u64, n: u64) -> Request {
     }
 }
 
-fn buffer_size(c: Request) -> usize {
-    if c.call == 11 {
+// A read's number is the size of its buffer.
+fn buffer_size(c: Request) -> usize
+    ensures { λ r. ⌜ r ≡ bufferSize c ⌝ }
+{
+    let reads = c.call == 11;
+    if reads {
         return c.number as usize;
     }
     0
 }
 
-fn fits(path: usize, data: usize, buffer: usize) -> bool {
-    path <= 512 && data <= 512 && buffer <= 512
+fn fits(path: usize, data: usize, buffer: usize) -> bool
+    ensures { λ r. ⌜ r ≡ fits path «data» buffer ⌝ }
+{
+    let path_fits = path <= 512;
+    if !path_fits {
+        return false;
+    }
+    let data_fits = data <= 512;
+    if !data_fits {
+        return false;
+    }
+    buffer <= 512
+}
+
+fn all_three(a: bool, b: bool, c: bool) -> bool
+    ensures { λ r. ⌜ r ≡ every (a ∷ b ∷ c ∷ []) ⌝ }
+{
+    if !a {
+        return false;
+    }
+    if !b {
+        return false;
+    }
+    c
 }
 
 // The line's call, with its path and data.
-fn parse(line: &[u8], path: &mut [u8], data: &mut [u8]) -> Parsed {
+fn parse(line: &[u8], path: &mut [u8], data: &mut [u8]) -> Parsed
+    ensures result { λ r. ⌜ r ≡ parsed (now (line .entry)) ⌝ }
+    ensures path { λ _. ⌜ now (path .exit) ≡ sets (now (path .entry)) 0 (partBytes (now (line .entry)) (partPlace (now (line .entry)) PATH)) ⌝ }
+    ensures data { λ _. ⌜ now («data» .exit) ≡ sets (now («data» .entry)) 0 (partBytes (now (line .entry)) (partPlace (now (line .entry)) DATA)) ⌝ }
+{
     let call = call_number(word(line, 1));
     let process = number(word(line, 0));
     let fd = part_number(line, place(call, b'f'));
@@ -101,7 +175,7 @@ fn parse(line: &[u8], path: &mut [u8], data: &mut [u8]) -> Parsed {
     let c = request(process, call, fd, n);
     let size = buffer_size(c);
     Parsed {
-        known: in_range(process, call, fd, n) & fits(p, b, size) & ended,
+        known: all_three(in_range(process, call, fd, n), fits(p, b, size), ended),
         request: c,
         path: p,
         data: b,
@@ -109,7 +183,10 @@ fn parse(line: &[u8], path: &mut [u8], data: &mut [u8]) -> Parsed {
     }
 }
 
-fn first(buffer: &mut [u8], n: usize) -> &mut [u8] {
+// The first n bytes of the buffer.
+fn first(buffer: &mut [u8], n: usize) -> &mut [u8]
+    ensures { λ r. ⌜ now r ≡ take n (now (buffer .entry)) ⌝ }
+{
     if n < buffer.len() {
         return &mut buffer[0..n];
     }
@@ -152,7 +229,11 @@ fn print_answer(a: Answer, buffer: &[u8]) {
     }
 }
 
-fn serve(s: Console, c: Request, path: &[u8], data: &[u8], buffer: &mut [u8]) -> Console {
+// The tables after the call; its answer is written.
+fn serve(s: Console, c: Request, path: &[u8], data: &[u8], buffer: &mut [u8]) -> Console
+    ensures tables { λ r. ⌜ r ≡ calledTables s (callOf c (now (path .entry)) (now («data» .entry)) (now (buffer .entry))) ⌝ }
+    ensures buffer { λ _. ⌜ now (buffer .exit) ≡ outcomeOn s (callOf c (now (path .entry)) (now («data» .entry)) (now (buffer .entry))) .reply .buffer ⌝ }
+{
     let mut files = s.files;
     let mut contents = s.contents;
     let mut open_files = s.open_files;
@@ -180,8 +261,10 @@ fn serve(s: Console, c: Request, path: &[u8], data: &[u8], buffer: &mut [u8]) ->
     }
 }
 
-// A line that makes a call: its answer is written.
-pub(crate) fn call_line(s: Console, line: &[u8]) -> Console {
+// A line that makes a call, and the tables after it; where it makes none, they stay as they are.
+pub(crate) fn call_line(s: Console, line: &[u8]) -> Console
+    ensures { λ r. ⌜ r ≡ lineCalled (now (line .entry)) s ⌝ }
+{
     let mut path = [0u8; 512];
     let mut data = [0u8; 512];
     let mut buffer = [0u8; 512];

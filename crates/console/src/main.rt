@@ -6,6 +6,8 @@ mod settings;
 mod texts;
 mod words;
 
+ghost use mathlib.Core.Path.{_≡_};
+ghost use Rattle.console.specs.Lines.{isSilent, kindTaken, lineTaken};
 use calls::call_line;
 use settings::Console;
 use settings::empty;
@@ -13,31 +15,46 @@ use settings::fresh;
 use settings::set_line;
 use settings::show_line;
 use settings::with_known;
-use tables::words::byte;
+use texts::is_at;
 use words::index_of;
 use words::line_at;
 use words::next_line;
 use words::word;
 
 // Empty lines and comments.
-fn is_silent(line: &[u8]) -> bool {
-    match byte(line, 0) {
-        0 | b'#' => true,
-        _ => false,
+fn is_silent(line: &[u8]) -> bool
+    ensures { λ r. ⌜ r ≡ isSilent (now (line .entry)) ⌝ }
+{
+    if is_at(line, 0, 0) {
+        return true;
     }
+    is_at(line, 0, b'#')
 }
 
-fn take(s: Console, script: &[u8], line: &[u8]) -> Console {
-    if is_silent(line) {
-        return with_known(s, true);
-    }
-    let kind = index_of(b"fresh set show", 3, word(line, 0));
+// A line that says something: fresh, set, show, or a call.
+fn take_kind(s: Console, kind: usize, script: &[u8], line: &[u8]) -> Console
+    ensures { λ r. ⌜ r ≡ kindTaken kind (now (script .entry)) (now (line .entry)) s ⌝ }
+{
     match kind {
         0 => fresh(script),
         1 => set_line(s, line),
         2 => show_line(s, line),
         _ => call_line(s, line),
     }
+}
+
+fn take(s: Console, script: &[u8], line: &[u8]) -> Console
+    ensures { λ r. ⌜ r ≡ lineTaken (now (script .entry)) (now (line .entry)) s ⌝ }
+{
+    if is_silent(line) {
+        return with_known(s, true);
+    }
+    take_kind(
+        s,
+        index_of(b"fresh set show", 3, word(line, 0)),
+        script,
+        line,
+    )
 }
 
 fn end_line(known: bool, n: usize) {

@@ -1,24 +1,16 @@
 // Numbers in decimal.
 ghost use mathlib.Core.Path.{_≡_};
-ghost use Prim.Native.Nat.{min, _-_, _≤_};
+ghost use Prim.Native.Nat.{min, _≤_};
 ghost use lib.ListN.{length};
 ghost use Rattle.rules.specs.Scan.{all};
-ghost use Rattle.script_rules.specs.Text.{ZERO, isDigit, numberOf};
+ghost use Rattle.script_rules.specs.Text.{numberOf};
 ghost use Rattle.console.specs.Numbers.{NO-NUMBER, digitAt, isDecimal, numberIn};
+use script_text::lines::is_digit;
+use script_text::numbers::digit_value;
 use tables::words::byte;
 
 // What is no number: all numbers of a script are below it.
 pub(crate) const NO_NUMBER: u64 = 4294967296;
-
-fn is_digit(b: u8) -> bool
-    ensures { λ r. ⌜ r ≡ isDigit b ⌝ }
-{
-    let low = b'0' <= b;
-    if !low {
-        return false;
-    }
-    b <= b'9'
-}
 
 fn digit_at(text: &[u8], i: usize) -> bool
     ensures { λ r. ⌜ r ≡ digitAt (now (text .entry)) i ⌝ }
@@ -50,13 +42,6 @@ fn is_decimal(text: &[u8]) -> bool
     has_digits(text)
 }
 
-fn digit_value(b: u8) -> u64
-    ensures is { λ r. ⌜ r ≡ b - ZERO ⌝ }
-    ensures small { λ r. ⌜ r ≤ 255 ⌝ }
-{
-    if b'0' < b { (b - b'0') as u64 } else { 0 }
-}
-
 // The number that digits write, `NO_NUMBER` for all that are larger.
 fn value(text: &[u8]) -> u64
     ensures { λ r. ⌜ r ≡ min (numberOf (now (text .entry))) NO-NUMBER ⌝ }
@@ -64,7 +49,7 @@ fn value(text: &[u8]) -> u64
     let mut n: u64 = 0;
     let mut i = 0;
     while i < text.len() {
-        let next = n * 10 + digit_value(text[i]);
+        let next = n * 10 + (digit_value(text[i]) as u64);
         if NO_NUMBER <= next {
             return NO_NUMBER;
         }

@@ -1,11 +1,20 @@
 // What is written of numbers and bytes.
+ghost use mathlib.Core.Path.{_≡_};
+ghost use Rattle.console.specs.Texts.{isPlain};
+
 // Bytes that stand for themselves in a text.
-fn is_plain(b: u8) -> bool {
-    match b {
-        b'\\' => false,
-        b'!'..=b'~' => true,
-        _ => false,
+fn is_plain(b: u8) -> bool
+    ensures { λ r. ⌜ r ≡ isPlain b ⌝ }
+{
+    let other = b != b'\\';
+    if !other {
+        return false;
     }
+    let low = b'!' <= b;
+    if !low {
+        return false;
+    }
+    b <= b'~'
 }
 
 fn print_byte(b: u8) {

@@ -15,7 +15,7 @@ const NO_BYTE: u32 = 256;
 // What is no text: all texts of a script are shorter.
 const NO_TEXT: usize = 65536;
 
-fn is_at(text: &[u8], i: usize, b: u8) -> bool
+pub(crate) fn is_at(text: &[u8], i: usize, b: u8) -> bool
     ensures { λ r. ⌜ r ≡ eqb (getD (now (text .entry)) i 0) b ⌝ }
 {
     byte(text, i) == b

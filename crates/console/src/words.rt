@@ -1,10 +1,7 @@
 // Lines of a script and the words of a line.
 ghost use mathlib.Core.Path.{_≡_};
-ghost use lib.ListN.{length};
-ghost use Rattle.rules.specs.Scan.{all};
-ghost use Rattle.rules.specs.Paths.{sameAt};
 ghost use Rattle.console.specs.Words.{SPACE, is, isNot, past, before, lineAt, nextLine, wordStart, wordOf, same, isWord, indexOf};
-use tables::names::same_at;
+use script_text::lines::begins_with;
 use tables::parts::after;
 use tables::parts::upto;
 use tables::words::byte;
@@ -91,20 +88,6 @@ pub(crate) fn word(line: &[u8], k: usize) -> &[u8]
     ensures { λ r. ⌜ now r ≡ wordOf (now (line .entry)) k ⌝ }
 {
     before(after(line, word_start(line, k)), b' ')
-}
-
-fn begins_with(a: &[u8], b: &[u8]) -> bool
-    ensures { λ r. ⌜ r ≡ all (sameAt (now (a .entry)) (now (b .entry))) 0 (length (now (b .entry))) ⌝ }
-{
-    let mut k = 0;
-    while k < b.len() {
-        if same_at(a, b, k) {
-            k += 1;
-        } else {
-            return false;
-        }
-    }
-    true
 }
 
 fn same(a: &[u8], b: &[u8]) -> bool

@@ -2,6 +2,7 @@
 mod test_console;
 
 ghost use mathlib.Core.Path.{_≡_};
+ghost use lib.ListN.{take};
 ghost use Rattle.day.specs.Day.{day};
 use script_rules::replayed::Replayed;
 use tables::layout::OPEN_FILES_SIZE;
@@ -32,7 +33,9 @@ fn replayed(script: &[u8], output: &mut [u8]) -> Replayed
     )
 }
 
-fn head(bytes: &[u8; 65536], n: usize) -> &[u8] {
+fn head(bytes: &[u8; 65536], n: usize) -> &[u8]
+    ensures { λ r. ⌜ now r ≡ take n (now (bytes .entry)) ⌝ }
+{
     upto(bytes, n)
 }
 

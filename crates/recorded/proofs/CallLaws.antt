@@ -48,6 +48,13 @@ module _ (n : Sizes) (F C E P Q : List ℕ) (c : Call) {f k e p : ℕ} (hf : f �
       (ap (λ (l : Lent). lent (l .answer) (l .buffer) (putBack n (l .store) (store F C E P)))
       (rw (take-least (n .files) F hf, take-least (n .contents) C hk, take-least (n .«open_files») E he, take-least (n .processes) P hp, hq) at h))
 
-pub tables-after : (t : Tables) (c : Call) {a : Answer} {b F C E P : List ℕ} → lent a b (store F C E P) ≡ leftOf t c → tables false false (t .sizes) F C E P (t .policy) ≡ calledTables t c
+pub tables-after : (t : Tables) (c : Call) {a : Answer} {b F C E P : List ℕ} → lent a b (store F C E P) ≡ leftOf t c
+    → (a ≡ leftOf t c .answer) × ((tables false false (t .sizes) F C E P (t .policy) ≡ calledTables t c) × (b ≡ leftOf t c .buffer))
 unfolding calledTables
-tables-after t c h = ap (λ (l : Lent). tables false false (t .sizes) (l .store .files) (l .store .contents) (l .store .openFiles) (l .store .processes) (t .policy)) h
+tables-after t c h = (
+  ap (λ (l : Lent). l .answer) h,
+  (
+    ap (λ (l : Lent). tables false false (t .sizes) (l .store .files) (l .store .contents) (l .store .openFiles) (l .store .processes) (t .policy)) h,
+    ap (λ (l : Lent). l .buffer) h,
+  ),
+)

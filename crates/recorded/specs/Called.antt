@@ -2,7 +2,7 @@
 use Prim.Native.Nat.{ℕ, min}
 use mathlib.Core.Bool.{Bool, false, cond}
 use mathlib.Core.List.{List, [], _∷_, _++_}
-use lib.Dec.{ltb}
+use lib.Dec.{eqb, ltb}
 use lib.ListN.{length, getD, take, drop, replicate}
 use Rattle.rules.specs.Choice.{some}
 use Rattle.rules.specs.Store.{Store, store}
@@ -12,7 +12,7 @@ use Rattle.rules.specs.Step.{Outcome, step, answerOf}
 use Rattle.store.specs.Lent.{Lent, lent}
 use Rattle.recorded.specs.declared.records.Sizes.{Sizes}
 use Rattle.recorded.specs.declared.records.Tables.{Tables}
-use Rattle.recorded.specs.Records.{shortAt, tables, brokenTables}
+use Rattle.recorded.specs.Records.{shortAt, tables, brokenTables, recordSet}
 
 -- the parts that are lent
 abbrev pub partOf : Sizes → Store → Store
@@ -40,6 +40,10 @@ calledTables t c =
     tables false false (t .sizes) (leftOf t c .store .files) (leftOf t c .store .contents) (leftOf t c .store .openFiles) (leftOf t c .store .processes)
     (t .policy)
 
+-- what a read has read of the buffer after the call; other calls have read nothing
+unfoldable pub readOf : Request → List ℕ → List ℕ
+readOf c buffer = cond (eqb (c .call) 11) buffer []
+
 -- ---- a record's call: the size of the buffer, then the call as it is written down
 
 abbrev pub written : List ℕ → List ℕ
@@ -66,3 +70,11 @@ isCut body = some (ltb (length body) 8 ∷ ltb (length (texts body)) (pathLength
 
 unfoldable pub recordCalled : List ℕ → Tables → Tables
 recordCalled body t = cond (isCut body) (brokenTables t) (calledTables t (callIn body))
+
+-- ---- a record of kind k that says it has n bytes; a call is of kind 6
+
+unfoldable pub kindTaken : (k : ℕ) (body : List ℕ) → Tables → Tables
+kindTaken k body t = cond (eqb k 6) (recordCalled body t) (recordSet k body t)
+
+unfoldable pub recordTaken : (k n : ℕ) (body : List ℕ) → Tables → Tables
+recordTaken k n body t = cond (ltb (length body) n) (brokenTables t) (kindTaken k body t)

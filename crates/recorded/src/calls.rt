@@ -6,7 +6,7 @@ ghost use lib.ListN.{length};
 ghost use Rattle.rules.specs.Store.{store};
 ghost use Rattle.rules.specs.Calls.{callOf};
 ghost use Rattle.store.specs.Lent.{lent};
-ghost use Rattle.recorded.specs.Called.{calledOn, calledTables, requestIn, isCut, texts, pathLength, recordCalled};
+ghost use Rattle.recorded.specs.Called.{calledOn, leftOf, calledTables, readOf, requestIn, isCut, texts, pathLength, recordCalled};
 use crate::digest::digest;
 use crate::records::Sizes;
 use crate::records::Tables;
@@ -126,7 +126,9 @@ fn call_part(
 }
 
 fn serve(s: Tables, c: Request, path: &[u8], data: &[u8], buffer: &mut [u8]) -> Served
-    ensures { λ r. ⌜ r .tables ≡ calledTables s (callOf c (now (path .entry)) (now («data» .entry)) (now (buffer .entry))) ⌝ }
+    ensures answer { λ r. ⌜ r .answer ≡ leftOf s (callOf c (now (path .entry)) (now («data» .entry)) (now (buffer .entry))) .answer ⌝ }
+    ensures tables { λ r. ⌜ r .tables ≡ calledTables s (callOf c (now (path .entry)) (now («data» .entry)) (now (buffer .entry))) ⌝ }
+    ensures buffer { λ _. ⌜ now (buffer .exit) ≡ leftOf s (callOf c (now (path .entry)) (now («data» .entry)) (now (buffer .entry))) .buffer ⌝ }
 {
     let mut files = s.files;
     let mut contents = s.contents;
@@ -161,15 +163,20 @@ fn serve(s: Tables, c: Request, path: &[u8], data: &[u8], buffer: &mut [u8]) -> 
     }
 }
 
-fn read_of<'a>(c: Request, buffer: &'a [u8]) -> &'a [u8] {
-    if c.call == 11 {
+// What a read has read; other calls have read nothing.
+fn read_of<'a>(c: Request, buffer: &'a [u8]) -> &'a [u8]
+    ensures { λ r. ⌜ now r ≡ readOf c (now (buffer .entry)) ⌝ }
+{
+    let reads = c.call == 11;
+    if reads {
         return buffer;
     }
     upto(buffer, 0)
 }
 
 fn make(s: Tables, c: Request, path: &[u8], data: &[u8], buffer: &mut [u8]) -> Tables
-    ensures { λ r. ⌜ r ≡ calledTables s (callOf c (now (path .entry)) (now («data» .entry)) (now (buffer .entry))) ⌝ }
+    ensures tables { λ r. ⌜ r ≡ calledTables s (callOf c (now (path .entry)) (now («data» .entry)) (now (buffer .entry))) ⌝ }
+    ensures buffer { λ _. ⌜ now (buffer .exit) ≡ leftOf s (callOf c (now (path .entry)) (now («data» .entry)) (now (buffer .entry))) .buffer ⌝ }
 {
     let t = serve(s, c, path, data, buffer);
     print_answer(t.answer, read_of(c, buffer));

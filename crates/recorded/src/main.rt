@@ -4,7 +4,11 @@ mod calls;
 mod digest;
 mod records;
 
+ghost use mathlib.Core.Path.{_≡_};
 ghost use Prim.Native.Nat.{_<_};
+ghost use lib.ListN.{take};
+ghost use Rattle.recorded.specs.Records.{shortAt};
+ghost use Rattle.recorded.specs.Called.{kindTaken, recordTaken};
 use calls::call_record;
 use records::Tables;
 use records::broken;
@@ -17,17 +21,30 @@ use tables::parts::upto;
 // No input has more records.
 const MOST: u64 = 4294967296;
 
-fn take(s: Tables, kind: u8, size: usize, record: &[u8]) -> Tables {
-    if record.len() < size {
-        return broken(s);
+fn take_kind(s: Tables, kind: u8, body: &[u8]) -> Tables
+    ensures { λ r. ⌜ r ≡ kindTaken kind (now (body .entry)) s ⌝ }
+{
+    let calls = kind == 6;
+    if calls {
+        return call_record(s, body);
     }
-    if kind == 6 {
-        return call_record(s, record);
-    }
-    set_record(s, kind, record)
+    set_record(s, kind, body)
 }
 
-fn head(bytes: &[u8; 65536], n: usize) -> &[u8] {
+// A record of which `size` bytes should have been read.
+fn take(s: Tables, kind: u8, size: usize, body: &[u8]) -> Tables
+    ensures { λ r. ⌜ r ≡ recordTaken kind size (now (body .entry)) s ⌝ }
+{
+    let short = body.len() < size;
+    if short {
+        return broken(s);
+    }
+    take_kind(s, kind, body)
+}
+
+fn head(bytes: &[u8; 65536], n: usize) -> &[u8]
+    ensures { λ r. ⌜ now r ≡ take n (now (bytes .entry)) ⌝ }
+{
     upto(bytes, n)
 }
 
@@ -56,7 +73,8 @@ fn turn(s: Tables) -> Tables {
 }
 
 fn size_of(start: &[u8; 3]) -> usize
-    ensures { λ r. ⌜ r < 65536 ⌝ }
+    ensures is { λ r. ⌜ r ≡ shortAt (now (start .entry)) 1 ⌝ }
+    ensures small { λ r. ⌜ r < 65536 ⌝ }
 {
     short_at(start, 1)
 }

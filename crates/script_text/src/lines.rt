@@ -12,7 +12,8 @@ use tables::parts::after;
 use tables::parts::upto;
 use tables::words::byte;
 
-fn is_digit(b: u8) -> bool
+// A decimal digit.
+pub fn is_digit(b: u8) -> bool
     ensures { λ r. ⌜ r ≡ isDigit b ⌝ }
 {
     let low = 48 <= b;
@@ -88,7 +89,8 @@ fn key_length(l: Line) -> usize
     }
 }
 
-fn begins_with(s: &[u8], key: &[u8]) -> bool
+// The text begins with the key; bytes past its end count as 0.
+pub fn begins_with(s: &[u8], key: &[u8]) -> bool
     ensures { λ r. ⌜ r ≡ hasKey (now (key .entry)) (now (s .entry)) ⌝ }
 {
     let mut k = 0;

@@ -11,7 +11,8 @@ pub const NUMBER_MAX: u32 = 65535;
 // What stands for no number: one more than the largest.
 pub const NO_NUMBER: u32 = NUMBER_MAX + 1;
 
-fn digit_value(b: u8) -> u32
+// What a digit stands for.
+pub fn digit_value(b: u8) -> u32
     ensures is { λ r. ⌜ r ≡ b - ZERO ⌝ }
     ensures small { λ r. ⌜ r ≤ 255 ⌝ }
 {

@@ -27,6 +27,7 @@ value-spec =
     (λ c. search needs)
     (λ c κs. tt)
     (λ c. search needs)
+    (λ c. search needs)
     (λ c. search large)
     (λ c. search needs)
     (λ c. search needs)

@@ -26,4 +26,4 @@ call-record-spec =
     (λ c. search needs)
     (λ c. sym (length-take-le _ _ (search needs)))
     (λ c κs. tt)
-    (λ c. left-of _ _ _ _ _ (c .before .before .before .before .before .before .before .before .before .before .before .before .is-cut .ensures) (c .before .before .before .before .before .before .before .before .before .before .before .if1 .left) (rw (c .before .make .ensures, c .before .before .before .after3 .ensures, c .before .before .before .before .upto .ensures, c .before .before .before .before .before .request .ensures, c .before .before .before .before .before .before .least .ensures, c .before .before .before .before .before .before .before .short-at .ensures .0, c .before .before .before .before .before .before .before .before .after2 .ensures, c .before .before .before .before .before .before .before .before .before .byte .ensures, c .before .before .before .before .before .before .before .before .before .before .after .ensures))))
+    (λ c. left-of _ _ _ _ _ (c .before .before .before .before .before .before .before .before .before .before .before .before .is-cut .ensures) (c .before .before .before .before .before .before .before .before .before .before .before .if1 .left) (rw (c .before .make .ensures .0, c .before .before .before .after3 .ensures, c .before .before .before .before .upto .ensures, c .before .before .before .before .before .request .ensures, c .before .before .before .before .before .before .least .ensures, c .before .before .before .before .before .before .before .short-at .ensures .0, c .before .before .before .before .before .before .before .before .after2 .ensures, c .before .before .before .before .before .before .before .before .before .byte .ensures, c .before .before .before .before .before .before .before .before .before .before .after .ensures))))
