@@ -1,6 +1,6 @@
 // The store for C, but for `mritvelja_act`. A slice crosses as a pointer and a number of elements; slices of any length are taken.
 ghost use mathlib.Core.Path.{_≡_};
-ghost use Rattle.rules.specs.Store.{store};
+ghost use Rattle.rules.specs.Store.{fixed, store};
 ghost use Rattle.rules.specs.Sound.{sound};
 ghost use Rattle.rules.specs.Step.{step};
 ghost use Rattle.store.specs.Lent.{lent, lentOf};
@@ -56,7 +56,7 @@ pub extern "C" fn mritvelja_call(
     data: &[u8],
     buffer: &mut [u8],
 ) -> Answer
-    ensures { λ r. ⌜ lent r (now (buffer .exit)) (store (now (files .exit)) (now (contents .exit)) (now («open_files» .exit)) (now (processes .exit))) ≡ lentOf (step (now (policy .entry)) (store (now (files .entry)) (now (contents .entry)) (now («open_files» .entry)) (now (processes .entry))) (numbered process call descriptor number (now (path .entry)) (now («data» .entry)) (now (buffer .entry)))) ⌝ }
+    ensures { λ r. ⌜ lent r (now (buffer .exit)) (store (now (files .exit)) (now (contents .exit)) (now («open_files» .exit)) (now (processes .exit))) ≡ lentOf (step (fixed (now (policy .entry))) (store (now (files .entry)) (now (contents .entry)) (now («open_files» .entry)) (now (processes .entry))) (numbered process call descriptor number (now (path .entry)) (now («data» .entry)) (now (buffer .entry)))) ⌝ }
 {
     store::call::call(
         files,
@@ -85,7 +85,7 @@ pub extern "C" fn mritvelja_sound(
     processes: &[u32],
     policy: &[u8],
 ) -> u32
-    ensures { λ r. ⌜ r ≡ flag (sound (now (policy .entry)) (store (now (files .entry)) (now (contents .entry)) (now («open_files» .entry)) (now (processes .entry)))) ⌝ }
+    ensures { λ r. ⌜ r ≡ flag (sound (fixed (now (policy .entry))) (store (now (files .entry)) (now (contents .entry)) (now («open_files» .entry)) (now (processes .entry)))) ⌝ }
 {
     if soundness::store::sound(files, contents, open_files, processes, policy) {
         return 1;
@@ -105,7 +105,7 @@ pub extern "C" fn mritvelja_replay(
     allowance: u32,
     output: &mut [u8],
 ) -> Report
-    ensures { λ r. ⌜ crossed r (now (output .exit)) (store (now (files .exit)) (now (contents .exit)) (now («open_files» .exit)) (now (processes .exit))) ≡ crossedBy (leftBy 0 0 (now (output .entry)) (replay allowance (now (policy .entry)) (now (script .entry)) (length (now (output .entry))) (store (now (files .entry)) (now (contents .entry)) (now («open_files» .entry)) (now (processes .entry))))) ⌝ }
+    ensures { λ r. ⌜ crossed r (now (output .exit)) (store (now (files .exit)) (now (contents .exit)) (now («open_files» .exit)) (now (processes .exit))) ≡ crossedBy (leftBy 0 0 (now (output .entry)) (replay allowance (fixed (now (policy .entry))) (now (script .entry)) (length (now (output .entry))) (store (now (files .entry)) (now (contents .entry)) (now («open_files» .entry)) (now (processes .entry))))) ⌝ }
 {
     report_of(replay::run::replay(
         files,

@@ -11,7 +11,7 @@ use lib.ListN.{getD, take, drop}
 use lib.Seq.{getD-take, getD-drop}
 use lib.Pow.{shl-exact}
 use lib.Count.{trailingZeros, trailing-le}
-use Rattle.rules.specs.Layout.{DESCRIPTORS, PROCESS-WIDTH}
+use Rattle.rules.specs.Layout.{DESCRIPTORS, PROCESS-WIDTH, PROCESS-DESCRIPTOR}
 use Rattle.rules.specs.Store.{Table, descOf, fdOf}
 use Rattle.rules.specs.Checks.{held, fdFree, freeFd}
 use Rattle.rules.specs.declared.ids.Pid.{Pid}
@@ -62,15 +62,15 @@ module _ (P : List ℕ) (p : Pid) where
 
   same : (n : ℕ) → descOf row 0 n ≡ descOf P (p .0) n
   unfolding descOf
-  same n = by (ltb n 8) refl
+  same n = by (ltb n DESCRIPTORS) refl
     where
-      by : (b : Bool) → ltb n 8 ≡ b → cond b (getD row (11 * 0 + (3 + n)) 0) 0 ≡ cond b (getD P (11 * p .0 + (3 + n)) 0) 0
+      by : (b : Bool) → ltb n DESCRIPTORS ≡ b → cond b (getD row (PROCESS-WIDTH * 0 + (PROCESS-DESCRIPTOR + n)) 0) 0 ≡ cond b (getD P (PROCESS-WIDTH * p .0 + (PROCESS-DESCRIPTOR + n)) 0) 0
       by false e = refl
       by true e =
-          let l : 11 * 0 + (3 + n) < 11 * p .0 + 11 - 11 * p .0 = omega (arith, ltb-true n 8 e) in
-          let z : 11 * 0 + (3 + n) ≡ 3 + n = omega arith in
-          getD-take (11 * p .0 + 11 - 11 * p .0) (drop (11 * p .0) P) (11 * 0 + (3 + n)) 0 l
-          ∙ rw z (getD-drop (11 * p .0) P (3 + n) 0)
+          let l : PROCESS-WIDTH * 0 + (PROCESS-DESCRIPTOR + n) < PROCESS-WIDTH * p .0 + PROCESS-WIDTH - PROCESS-WIDTH * p .0 = omega (arith, ltb-true n DESCRIPTORS e) in
+          let z : PROCESS-WIDTH * 0 + (PROCESS-DESCRIPTOR + n) ≡ PROCESS-DESCRIPTOR + n = omega arith in
+          getD-take (PROCESS-WIDTH * p .0 + PROCESS-WIDTH - PROCESS-WIDTH * p .0) (drop (PROCESS-WIDTH * p .0) P) (PROCESS-WIDTH * 0 + (PROCESS-DESCRIPTOR + n)) 0 l
+          ∙ rw z (getD-drop (PROCESS-WIDTH * p .0) P (PROCESS-DESCRIPTOR + n) 0)
 
   pub alone : (w : ℕ) → w ≡ usedWord (descOf row) (record { 0 = 0 }) → w ≡ usedWord (descOf P) p
   unfolding held

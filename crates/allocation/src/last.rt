@@ -2,8 +2,7 @@
 ghost use mathlib.Core.Path.{_≡_};
 ghost use mathlib.Core.Bool.{not};
 ghost use Rattle.rules.specs.Layout.{FILE-WIDTH, OPEN-FILE-WIDTH};
-ghost use Rattle.rules.specs.Store.{tab};
-ghost use Rattle.rules.specs.Sound.{openBut};
+ghost use Rattle.rules.specs.Store.{tab, openBut};
 ghost use Rattle.rules.specs.Checks.{freed};
 use rules::decision::Record;
 use rules::ids::Ofd;

@@ -4,15 +4,15 @@ use mathlib.Core.Bool.{Bool, true}
 use mathlib.Core.List.{List, [], _∷_}
 use Rattle.rules.specs.Computing.{computing}
 use Rattle.rules.specs.Sound.{policySound}
-use Rattle.rules.specs.Console.{console, consolePolicy}
+use Rattle.rules.specs.Console.{console, consoleFixed, consolePolicy}
 use Rattle.cases.specs.Rows.{Row, withAll, same, sameReply, sameStore, rowHolds, holds}
 use Rattle.cases.specs.Table.{AllCases, table, line-1, line-1-slashes, line-2, line-3, line-4, line-5, line-6, line-7, line-8, line-9}
-use Rattle.cases.proofs.Quick.{cut, quickShown, entries, named, tally, quickLinks, quickSlot, quickTables, quickSound}
-use Rattle.cases.proofs.Lines.{needed, onward, check, sound-of, more}
+use Rattle.cases.proofs.Quick.{quick, quickSound, sound-of}
+use Rattle.cases.proofs.Lines.{needed, onward, check, more}
 
 -- opens all that a row computes with
 unfoldable computed : Bool
-unfolding computing console consolePolicy withAll same sameReply sameStore rowHolds cut quickShown entries named tally quickLinks quickSlot quickTables quickSound needed onward check
+unfolding computing console consolePolicy withAll same sameReply sameStore rowHolds quick needed onward check
 computed = true
 
 pub policy-sound : policySound consolePolicy ≡ true
@@ -64,7 +64,7 @@ unfolding computed line-9
 line-9-checked = refl
 
 fresh : (l : List Row) (ls : List (List Row)) → check console l ≡ true → holds ls ≡ true → holds (l ∷ ls) ≡ true
-fresh l ls h rest = more policy-sound l ls (sound-of policy-sound console console-sound) h rest
+fresh l ls h rest = more policy-sound l ls (sound-of consoleFixed policy-sound console console-sound) h rest
 
 -- the end of the table
 none : holds [] ≡ true

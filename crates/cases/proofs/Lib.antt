@@ -1,5 +1,4 @@
 -- That the P cases hold of the rules.
-pub mod Tests
 pub mod Quick
 pub mod Lines
 pub mod Cases

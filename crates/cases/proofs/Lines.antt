@@ -1,19 +1,18 @@
 -- A line of the table holds if its rows hold of `act` and each store that a call finds is sound. A row that leaves the store as it is needs no
 -- second test, and neither do the policy and the console: each is tested once.
 use Prim.Native.Nat.{ℕ}
-use mathlib.Core.Path.{_≡_, refl, sym, ap₂, _∙_, subst}
+use mathlib.Core.Path.{_≡_, refl, sym, ap₂, subst}
 use mathlib.Core.Bool.{Bool, true, false, cond}
 use mathlib.Core.List.{List, [], _∷_}
 use lib.Dec.{T, eqb, eqb→eq}
 use Rattle.rules.specs.Choice.{every}
 use Rattle.rules.specs.Store.{Store, store}
-use Rattle.rules.specs.Calls.{Call}
 use Rattle.rules.specs.Sound.{sound, policySound}
-use Rattle.rules.specs.Step.{Outcome, act, step}
-use Rattle.rules.specs.Console.{console, consolePolicy}
+use Rattle.rules.specs.Step.{Outcome, act}
+use Rattle.rules.specs.Console.{console, consoleFixed, consolePolicy}
+use Rattle.rules.proofs.Tests.{test}
 use Rattle.cases.specs.Rows.{Now, Row, withAll, same, sameStore, rowHolds, lineHolds, holds}
-use Rattle.cases.proofs.Quick.{quickSound, quick-sound}
-use Rattle.cases.proofs.Tests.{first-passes, rest-passes, both-pass}
+use Rattle.cases.proofs.Quick.{quickSound, both-pass, sound-of, step-act}
 
 -- a test that is needed only if rows follow
 unfoldable pub needed : List Row → Bool → Bool
@@ -27,7 +26,7 @@ onward (n ∷ ns) rs before after next = every (needed rs (quickSound after) ∷
 
 unfoldable pub check : Store → List Row → Bool
 check s [] = true
-check s (r ∷ rs) = let x = act consolePolicy s (r .call) in every (rowHolds s x r ∷ onward (r .leaves) rs s (x .store) (λ t. check t rs) ∷ [])
+check s (r ∷ rs) = let x = act consoleFixed s (r .call) in every (rowHolds s x r ∷ onward (r .leaves) rs s (x .store) (λ t. check t rs) ∷ [])
 
 -- ---- lists and stores that compare as the same are the same
 
@@ -48,8 +47,8 @@ store-eq p q r u = rw (p, q, r, u)
 same-store : (s t : Store) → sameStore s t ≡ true → s ≡ t
 unfolding sameStore
 same-store s t e =
-    store-eq (same-eq _ _ (first-passes _ _ e)) (same-eq _ _ (first-passes _ _ (rest-passes _ _ e)))
-    (same-eq _ _ (first-passes _ _ (rest-passes _ _ (rest-passes _ _ e)))) (same-eq _ _ (first-passes _ _ (rest-passes _ _ (rest-passes _ _ (rest-passes _ _ e)))))
+    store-eq (same-eq _ _ (test 0 _ e)) (same-eq _ _ (test 1 _ e))
+    (same-eq _ _ (test 2 _ e)) (same-eq _ _ (test 3 _ e))
 
 -- ---- lines
 
@@ -61,41 +60,33 @@ needed-of (r ∷ rs) e = e
 -- a row that leaves nothing other leaves the store as it is
 left-alone : (s : Store) (x : Outcome) (r : Row) → r .leaves ≡ [] → rowHolds s x r ≡ true → x .store ≡ s
 unfolding rowHolds withAll
-left-alone s x r e h = same-store (x .store) s (rw e at (first-passes _ _ (rest-passes _ _ h)))
-
-pub step-act : (s : Store) (c : Call) → sound consolePolicy s ≡ true → step consolePolicy s c ≡ act consolePolicy s c
-unfolding step
-step-act s c e = rw e
+left-alone s x r e h = same-store (x .store) s (rw e at (test 1 _ h))
 
 module _ (policy : policySound consolePolicy ≡ true) where
-  pub sound-of : (s : Store) → quickSound s ≡ true → sound consolePolicy s ≡ true
-  unfolding sound
-  sound-of s e = both-pass policy (sym (quick-sound s) ∙ e)
-
-  needed-sound : (rs : List Row) (s : Store) → needed rs (quickSound s) ≡ true → needed rs (sound consolePolicy s) ≡ true
+  needed-sound : (rs : List Row) (s : Store) → needed rs (quickSound s) ≡ true → needed rs (sound consoleFixed s) ≡ true
   unfolding needed
   needed-sound [] s e = refl
-  needed-sound (r ∷ rs) s e = sound-of s e
+  needed-sound (r ∷ rs) s e = sound-of consoleFixed policy s e
 
   -- after a row
   onward-holds :
-      (now : List Now) (rs : List Row) (before after : Store) → (now ≡ [] → after ≡ before) → sound consolePolicy before ≡ true →
-      ((s : Store) → needed rs (sound consolePolicy s) ≡ true → check s rs ≡ true → lineHolds s rs ≡ true) →
+      (now : List Now) (rs : List Row) (before after : Store) → (now ≡ [] → after ≡ before) → sound consoleFixed before ≡ true →
+      ((s : Store) → needed rs (sound consoleFixed s) ≡ true → check s rs ≡ true → lineHolds s rs ≡ true) →
       onward now rs before after (λ t. check t rs) ≡ true → lineHolds after rs ≡ true
   unfolding onward
   onward-holds [] rs before after alone e rest h = subst (λ (s : Store). lineHolds s rs ≡ true) (sym (alone refl)) (rest before (needed-of rs e) h)
-  onward-holds (n ∷ ns) rs before after alone e rest h = rest after (needed-sound rs after (first-passes _ _ h)) (first-passes _ _ (rest-passes _ _ h))
+  onward-holds (n ∷ ns) rs before after alone e rest h = rest after (needed-sound rs after (test 0 _ h)) (test 1 _ h)
 
-  pub line-holds : (rs : List Row) (s : Store) → needed rs (sound consolePolicy s) ≡ true → check s rs ≡ true → lineHolds s rs ≡ true
+  pub line-holds : (rs : List Row) (s : Store) → needed rs (sound consoleFixed s) ≡ true → check s rs ≡ true → lineHolds s rs ≡ true
   unfolding lineHolds check needed
   line-holds [] s e h = refl
   line-holds (r ∷ rs) s e h =
-      let row : rowHolds s (act consolePolicy s (r .call)) r ≡ true = first-passes _ _ h in
-      rw (step-act s (r .call) e)
+      let row : rowHolds s (act consoleFixed s (r .call)) r ≡ true = test 0 _ h in
+      rw (step-act consoleFixed s (r .call) e)
       (both-pass row
-      (onward-holds (r .leaves) rs s (act consolePolicy s (r .call) .store) (λ q. left-alone s (act consolePolicy s (r .call)) r q row) e (line-holds rs)
-      (first-passes _ _ (rest-passes _ _ h))))
+      (onward-holds (r .leaves) rs s (act consoleFixed s (r .call) .store) (λ q. left-alone s (act consoleFixed s (r .call)) r q row) e (line-holds rs)
+      (test 1 _ h)))
 
-  pub more : (l : List Row) (ls : List (List Row)) → sound consolePolicy console ≡ true → check console l ≡ true → holds ls ≡ true → holds (l ∷ ls) ≡ true
+  pub more : (l : List Row) (ls : List (List Row)) → sound consoleFixed console ≡ true → check console l ≡ true → holds ls ≡ true → holds (l ∷ ls) ≡ true
   unfolding holds
   more l ls e h rest = both-pass (line-holds l console (needed-of l e) h) rest

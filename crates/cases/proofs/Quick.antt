@@ -1,13 +1,14 @@
 -- A soundness test of the store that is quick to compute: it cuts the contents into blocks once, and lists the slots that are named once. It is the test
--- of the rules.
+-- of the rules. Every crate that computes with the test console has it from here.
 use Prim.Native.Nat.{ℕ, zero, suc, _+_, _*_, _<_, _≤_}
-use mathlib.Core.Path.{_≡_, refl, sym, ap, _∙_, subst, fun-ext}
+use mathlib.Core.Path.{_≡_, refl, sym, ap, _∙_, fun-ext}
 use mathlib.Core.Bool.{Bool, true, false, cond}
 use mathlib.Core.List.{List, [], _∷_}
 use native.Mathlib.Nat.{zero-add, not-suc-le-zero, le-of-suc-le-suc}
 use native.Mathlib.Omega.{arith}
 use native.Mathlib.Decide.{decLt}
-use lib.Dec.{T, eqb, eqb→eq}
+use borrow.Author.Tests.{eqb-true}
+use lib.Dec.{eqb}
 use lib.ListN.{length, getD, take, drop, List·getD-eq-default, drop-of-length-le}
 use lib.Seq.{drop-drop, take-nil}
 use Rattle.rules.specs.Choice.{every}
@@ -15,9 +16,11 @@ use Rattle.rules.specs.Scan.{turns, fold, all, count, total}
 use Rattle.rules.specs.Layout.{SLOTS, BLOCK, DIRENTS, OPEN-FILES, PROCESSES, FILE-WIDTH, FILE-LINKS, OPEN-FILE-WIDTH}
 use Rattle.rules.specs.Directories.{direntSlot}
 use Rattle.rules.specs.Walk.{isDirectory}
-use Rattle.rules.specs.Store.{Store, Tree, View, view, slot, block, tab, procOf, descOf, hidden, shownOf, Table}
-use Rattle.rules.specs.Sound.{storeSound, sizesSound, tablesSound, recordSound, linksAt, linksFrom, linksTo, linksSound, kindSound, slotSound, openSound, procSound}
-use Rattle.cases.proofs.Tests.{first-passes, rest-passes}
+use Rattle.rules.specs.Store.{Store, Fixed, Tree, View, view, slot, block, tab, procOf, descOf, hidden, shownOf, Table}
+use Rattle.rules.specs.Calls.{Call}
+use Rattle.rules.specs.Step.{act, step}
+use Rattle.rules.specs.Sound.{sound, policySound, storeSound, sizesSound, tablesSound, recordSound, linksAt, linksFrom, linksTo, linksSound, kindSound, slotSound, openSound, procSound}
+use Rattle.rules.proofs.Tests.{test}
 
 -- the contents cut into n blocks, each bound by a `let`, which is computed when it is asked for, and then once
 unfoldable pub cut : ℕ → List ℕ → List (List ℕ)
@@ -28,10 +31,10 @@ unfoldable pub quickShown : List ℕ → List ℕ → ℕ → List ℕ
 quickShown F C = let bs = cut SLOTS C in λ s. drop (hidden F s) (getD bs s [])
 
 -- the view of a store, but for what it shows
-abbrev pub showing : Store → (ℕ → List ℕ) → View
+abbrev showing : Store → (ℕ → List ℕ) → View
 showing s shown = record { tree = record { file = tab FILE-WIDTH (s .files); shown = shown }; openFiles = tab OPEN-FILE-WIDTH (s .openFiles); proc = procOf (s .processes); desc = descOf (s .processes) }
 
-abbrev pub quickView : Store → View
+abbrev quickView : Store → View
 quickView s = showing s (quickShown (s .files) (s .contents))
 
 -- the slots that k entries of a directory name, from entry i on, and then the rest
@@ -63,6 +66,11 @@ quickTables v =
 
 unfoldable pub quickSound : Store → Bool
 quickSound s = cond (sizesSound s) (quickTables (quickView s)) false
+
+-- opens all of it, for proofs by computation
+unfoldable pub quick : Bool
+unfolding cut quickShown entries named tally quickLinks quickSlot quickTables quickSound
+quick = true
 
 -- ---- block s of the cut is block s
 
@@ -140,7 +148,7 @@ view-same s e = ap (showing s) (shown-same (s .files) (s .contents) e)
 
 contents-size : (s : Store) → sizesSound s ≡ true → length (s .contents) ≡ SLOTS * BLOCK
 unfolding sizesSound
-contents-size s e = eqb→eq _ _ (subst T (sym (first-passes _ _ (rest-passes _ _ e))) tt)
+contents-size s e = eqb-true _ _ (test 1 _ e)
 
 pub quick-sound : (s : Store) → quickSound s ≡ storeSound s
 unfolding quickSound storeSound
@@ -149,3 +157,17 @@ quick-sound s = by (sizesSound s) refl
     by : (b : Bool) → sizesSound s ≡ b → cond b (quickTables (quickView s)) false ≡ cond b (tablesSound (view s)) false
     by true e = tables-same (quickView s) ∙ ap tablesSound (view-same s (contents-size s e))
     by false e = refl
+
+-- ---- a store that passes is sound where the policy is, and a call on it needs no other test
+
+pub both-pass : {a b : Bool} → a ≡ true → b ≡ true → every (a ∷ b ∷ []) ≡ true
+unfolding every
+both-pass p q = rw (p, q)
+
+pub sound-of : (K : Fixed) → policySound (K .policy) ≡ true → (s : Store) → quickSound s ≡ true → sound K s ≡ true
+unfolding sound
+sound-of K policy s e = both-pass policy (sym (quick-sound s) ∙ e)
+
+pub step-act : (K : Fixed) (s : Store) (c : Call) → sound K s ≡ true → step K s c ≡ act K s c
+unfolding step
+step-act K s c e = rw e

@@ -10,7 +10,7 @@ use Rattle.rules.specs.Store.{Store, store, pidOf, fdOf}
 use Rattle.rules.specs.Refusals.{GRANTED}
 use Rattle.rules.specs.Calls.{Call}
 use Rattle.rules.specs.Step.{Reply, Outcome, step}
-use Rattle.rules.specs.Console.{console, consolePolicy}
+use Rattle.rules.specs.Console.{console, consoleFixed}
 
 -- ---- a row: a call, the answer that it must be given, and all that the store after it has other than the store before it
 
@@ -62,7 +62,7 @@ rowHolds before x r = every (sameReply (x .reply) (r .reply) ∷ sameStore (x .s
 -- within a line each call finds the store that the one before it left. `step` begins with the soundness test
 unfoldable pub lineHolds : Store → List Row → Bool
 lineHolds s [] = true
-lineHolds s (r ∷ rs) = let x = step consolePolicy s (r .call) in every (rowHolds s x r ∷ lineHolds (x .store) rs ∷ [])
+lineHolds s (r ∷ rs) = let x = step consoleFixed s (r .call) in every (rowHolds s x r ∷ lineHolds (x .store) rs ∷ [])
 
 -- "Each line starts afresh"
 unfoldable pub holds : List (List Row) → Bool

@@ -6,8 +6,8 @@ use lib.Dec.{eqb, ltb, leb}
 use lib.ListN.{length, replicate}
 use Rattle.rules.specs.Choice.{every}
 use Rattle.rules.specs.Layout.{BLOCK}
-use Rattle.rules.specs.Store.{Store, store}
-use Rattle.rules.specs.Calls.{Call, callOf}
+use Rattle.rules.specs.Store.{Store, store, fixed}
+use Rattle.rules.specs.Calls.{Call, callOf, operationOf, uses}
 use Rattle.rules.specs.Step.{Outcome, step}
 use Rattle.rules.specs.declared.request.Request.{Request}
 use Rattle.console.specs.Words.{isNot, past, wordOf, indexOf}
@@ -102,7 +102,7 @@ requestIn l = requestOf (numberAt l 0) (callAsked l) (fdIn l) (argumentIn l)
 
 -- a read's number is the size of its buffer; other calls have none
 unfoldable pub bufferSize : Request → ℕ
-bufferSize c = cond (eqb (c .call) 11) (c .number) 0
+bufferSize c = cond (uses (operationOf (c .call)) .reads) (c .number) 0
 
 unfoldable pub fits : (path «data» buffer : ℕ) → Bool
 fits p d b = every (leb p BLOCK ∷ leb d BLOCK ∷ leb b BLOCK ∷ [])
@@ -128,7 +128,7 @@ callIn l = callOf (requestIn l) (partBytes l (partPlace l PATH)) (partBytes l (p
 -- ---- the tables after a call
 
 abbrev pub outcomeOn : Console → Call → Outcome
-outcomeOn s c = step (s .policy) (store (s .files) (s .contents) (s .«open_files») (s .processes)) c
+outcomeOn s c = step (fixed (s .policy)) (store (s .files) (s .contents) (s .«open_files») (s .processes)) c
 
 abbrev pub withStore : Console → Store → Console
 withStore s t = tables true (t .files) (t .contents) (t .openFiles) (t .processes) (s .policy)

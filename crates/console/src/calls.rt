@@ -19,6 +19,8 @@ use rules::answer::Answer;
 use rules::ids::Fd;
 use rules::ids::Pid;
 use rules::request::Request;
+use tables::calls::operation_of;
+use tables::calls::uses;
 use tables::parts::upto;
 
 // A call as the line has it: its numbers, and how many bytes its path, its data and its buffer have.
@@ -126,8 +128,8 @@ fn request(process: u64, call: u64, fd: u64, n: u64) -> Request
 fn buffer_size(c: Request) -> usize
     ensures { λ r. ⌜ r ≡ bufferSize c ⌝ }
 {
-    let reads = c.call == 11;
-    if reads {
+    let parts = uses(operation_of(c.call));
+    if parts.reads {
         return c.number as usize;
     }
     0

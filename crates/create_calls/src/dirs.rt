@@ -1,10 +1,9 @@
 // What a directory becomes that gains a name, whether it has the name, and its free entries.
 ghost use mathlib.Core.Path.{_≡_};
-ghost use mathlib.Core.Bool.{not};
 ghost use Rattle.rules.specs.Layout.{FILE-WIDTH};
-ghost use Rattle.rules.specs.Store.{tab, isDirent, shownOf};
+ghost use Rattle.rules.specs.Store.{tab, shownOf};
 ghost use Rattle.rules.specs.Directories.{freeDirent};
-ghost use Rattle.rules.specs.Checks.{gains};
+ghost use Rattle.rules.specs.Checks.{isAbsent, gains};
 use rules::decision::DirChange;
 use rules::decision::Location;
 use rules::ids::Dirent;
@@ -15,7 +14,7 @@ use tables::numbers::up_one;
 
 // The entry of a name in its parent is past the entries: the name is missing.
 pub fn is_absent(at: Location) -> bool
-    ensures { λ r. ⌜ r ≡ not (isDirent (at .dirent)) ⌝ }
+    ensures { λ r. ⌜ r ≡ isAbsent at ⌝ }
 {
     !is_dirent(at.dirent)
 }

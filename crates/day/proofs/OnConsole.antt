@@ -4,7 +4,7 @@ use mathlib.Core.Path.{_≡_, refl, ap}
 use mathlib.Core.List.{List, [], _∷_}
 use lib.ListN.{length, replicate}
 use Rattle.rules.specs.Layout.{OPEN-FILES, OPEN-FILE-WIDTH}
-use Rattle.rules.specs.Store.{store, zeros}
+use Rattle.rules.specs.Store.{fixed, store, zeros}
 use Rattle.rules.specs.Console.{consoleFiles, consoleContents, consoleProcesses, consolePolicy, consoleWith, console}
 use Rattle.script_rules.specs.Replay.{replay}
 use Rattle.replay.specs.Runs.{Left, leftBy}
@@ -15,7 +15,7 @@ unfolding zeros
 nothing-open = refl
 
 module _ (script output F C P Q : List ℕ) {l : Left} (f : F ≡ consoleFiles) (c : C ≡ consoleContents (1 ∷ 2 ∷ 3 ∷ 4 ∷ [])) (p : P ≡ consoleProcesses) (q : Q ≡ consolePolicy)
-    (e : l ≡ leftBy 0 0 output (replay ALLOWANCE Q script (length output) (store F C (replicate (OPEN-FILES * OPEN-FILE-WIDTH) 0) P))) where
+    (e : l ≡ leftBy 0 0 output (replay ALLOWANCE (fixed Q) script (length output) (store F C (replicate (OPEN-FILES * OPEN-FILE-WIDTH) 0) P))) where
   same : l ≡ day script output
   unfolding day console consoleWith
   same = rw (f, c, p, q, nothing-open) at e

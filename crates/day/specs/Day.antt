@@ -2,7 +2,7 @@
 use Prim.Native.Nat.{ℕ}
 use mathlib.Core.List.{List}
 use lib.ListN.{length}
-use Rattle.rules.specs.Console.{console, consolePolicy}
+use Rattle.rules.specs.Console.{console, consoleFixed}
 use Rattle.script_rules.specs.Replay.{replay}
 use Rattle.replay.specs.Runs.{Left, leftBy}
 
@@ -10,4 +10,4 @@ abbrev pub ALLOWANCE : ℕ
 ALLOWANCE = 4294967295
 
 unfoldable pub day : (script output : List ℕ) → Left
-day script output = leftBy 0 0 output (replay ALLOWANCE consolePolicy script (length output) console)
+day script output = leftBy 0 0 output (replay ALLOWANCE consoleFixed script (length output) console)

@@ -6,21 +6,20 @@ use mathlib.Core.List.{List}
 use Prim.Native.Nat.{ℕ, _-_}
 use native.Mathlib.Decide.{ℕ-discrete}
 use Rattle.rules.specs.Layout.{FILE-KIND, FILE-OWNER, FILE-BITS, FREE}
-use Rattle.rules.specs.Store.{Store, view, slot, subjectOf}
+use Rattle.rules.specs.Store.{Store, Fixed, view, slot, subjectOf}
 use Rattle.rules.specs.Refusals.{GRANTED}
 use Rattle.rules.specs.Rights.{owns}
 use Rattle.rules.specs.Calls.{Call}
 use Rattle.rules.specs.Effects.{carryOut}
 use Rattle.rules.specs.Step.{Outcome, replyTo, storeAfter, outcomeOf, act, step}
 use Rattle.rules.specs.declared.ids.Slot.{Slot}
-use Rattle.rules.specs.declared.rights.Bits.{Bits}
 use Rattle.rules.specs.declared.decision.Unnamed.{Unnamed}
 use Rattle.rules.specs.declared.decision.Unnamed.the-variants as unnamed
 use Rattle.rules.specs.Checks as checks
 use Rattle.rules.specs.declared.decision.Output.{Output}
 use Rattle.rules.specs.declared.decision.Effect.{Effect}
-use Rattle.rules.specs.declared.decision.Effect.the-variants as effect
 use Rattle.rules.specs.declared.decision.Decision.{Decision}
+use Rattle.rules.proofs.Passed.{Fit, granting, refusing}
 use Rattle.preservation.specs.Claims.{word, callerUser}
 use Rattle.preservation.proofs.Tests.{split, means-or, means-eq}
 use Rattle.preservation.proofs.Tables.{Tables}
@@ -33,36 +32,43 @@ use Rattle.preservation.proofs.SoundStore.{SoundStore, means-sound}
 use Rattle.preservation.proofs.OpenEffects.{Leaves, open-leaves, truncate-leaves, move-leaves, duplicate-leaves, bits-leaves, execute-leaves, write-leaves}
 use Rattle.preservation.proofs.NameEffects.{link-leaves, create-leaves, unlinkedTables, Unnaming, keeps, frees, unlink-leaves, unnaming-is, remove-leaves}
 use Rattle.preservation.proofs.CloseEffects.{Steady, close-leaves, releasing-is, exit-leaves}
-use Rattle.preservation.proofs.Granted.{Of, fit-of, Fit, granting, refusing, unlinking, Granting, nothing, opens, truncates, creates, unlinks, removes, links, changesBits, closes, stores, reads, seeks, duplicates, forks, exits, executes}
-use Rattle.preservation.proofs.Asked.{Asked, decide-asked}
+use Rattle.preservation.proofs.Granted.{Granting, nothing, opens, truncates, creates, unlinks, removes, links, changesBits, closes, stores, reads, seeks, duplicates, forks, exits, executes}
 use Rattle.preservation.proofs.Decided.{decide-fit}
 use Rattle.preservation.proofs.Preserved.{placed-well, read-fits, forking}
 use Rattle.preservation.proofs.TestedOnce.{step-by}
 
 module _ (s : Store) (h : SoundStore s) (c : Call) (f : ℕ) where
-  -- the effect that changes the bits of f
-  data OfBits : Effect → Type 0 where
-    of-bits : (y : Slot) (b : Bits) → f ≡ y .0 → owns (subjectOf (view s .proc) (c .process)) (view s .tree .file (y .0) FILE-OWNER) ≡ true → OfBits (effect.BitsChanged y b)
+  -- the call is number 8, by user 0 or the owner of f
+  abbrev ByOwner : Type 0
+  ByOwner = (c .call ≡ 8) × ((callerUser s c ≡ 0) ⊎ (callerUser s c ≡ word s f FILE-OWNER))
 
-  -- where f is in use before and in t, and its bits differ, C holds
-  abbrev Differ : Store → Type 0 → Type 0
-  Differ t C = (tablesOf s .file f FILE-KIND ≡ FREE → ⊥) → (tablesOf t .file f FILE-KIND ≡ FREE → ⊥) → (tablesOf t .file f FILE-BITS ≡ tablesOf s .file f FILE-BITS → ⊥) → C
+  owner-or-0 : (y : ℕ) → owns (subjectOf (view s .proc) (c .process)) (view s .tree .file y FILE-OWNER) ≡ true → (callerUser s c ≡ 0) ⊎ (callerUser s c ≡ word s y FILE-OWNER)
+  unfolding owns
+  owner-or-0 y t = by (ℕ-discrete (callerUser s c) 0)
+    where
+      by : Dec (callerUser s c ≡ 0) → (callerUser s c ≡ 0) ⊎ (callerUser s c ≡ view s .tree .file y FILE-OWNER)
+      by (yes e) = inl e
+      by (no n) = inr (means-or (means-eq (callerUser s c) 0) (means-eq (callerUser s c) (view s .tree .file y FILE-OWNER)) .holds t n)
+
+  -- where f is in use before and in t, and its bits differ, its owner has asked for it
+  abbrev Differ : Store → Type 0
+  Differ t = (tablesOf s .file f FILE-KIND ≡ FREE → ⊥) → (tablesOf t .file f FILE-KIND ≡ FREE → ⊥) → (tablesOf t .file f FILE-BITS ≡ tablesOf s .file f FILE-BITS → ⊥) → ByOwner
 
   -- slot f is free, or its bits are what they were
   abbrev Left : Tables → Type 0
   Left m = (m .file f FILE-KIND ≡ FREE) ⊎ (m .file f FILE-BITS ≡ tablesOf s .file f FILE-BITS)
 
-  left : {C : Type 0} (t : Store) → Left (tablesOf t) → Differ t C
+  left : (t : Store) → Left (tablesOf t) → Differ t
   left t (inl q) a b n = absurd (b q)
   left t (inr q) a b n = absurd (n q)
 
-  leaves : {C : Type 0} {t : Store} {m : Tables} → Leaves t m → Left m → Differ t C
+  leaves : {t : Store} {m : Tables} → Leaves t m → Left m → Differ t
   leaves {t = t} {m = m} l y = left t (rw (l .has .is) y)
 
-  leaves-bits : {C : Type 0} {t : Store} {m : Tables} → Leaves t m → m .file f FILE-BITS ≡ tablesOf s .file f FILE-BITS → Differ t C
+  leaves-bits : {t : Store} {m : Tables} → Leaves t m → m .file f FILE-BITS ≡ tablesOf s .file f FILE-BITS → Differ t
   leaves-bits l y = leaves l (inr y)
 
-  steadily : {C : Type 0} (t : Store) → Steady (tablesOf s) (tablesOf t) → Differ t C
+  steadily : (t : Store) → Steady (tablesOf s) (tablesOf t) → Differ t
   steadily t y = left t (by (y f))
     where
       by : (tablesOf t .file f FILE-KIND ≡ FREE) ⊎ ((tablesOf t .file f ≡ tablesOf s .file f) × (tablesOf t .byte f ≡ tablesOf s .byte f)) → Left (tablesOf t)
@@ -82,19 +88,19 @@ module _ (s : Store) (h : SoundStore s) (c : Call) (f : ℕ) where
   unlink-left d i y (frees a b) = remove-left d i y
 
   -- each effect: all but a change of bits leave the bits of f, or free it; a create gives out a slot that was free
-  changes-bits : {n : ℕ} {o : Output} {e : Effect} → Granting s h c n o e → Differ (carryOut c e s) (OfBits e)
+  changes-bits : {Q : List ℕ} {n : ℕ} {o : Output} {e : Effect} → Granting Q s h c n o e → Differ (carryOut c e s)
   unfolding carryOut
   changes-bits (nothing n o) = λ a b x. absurd (x refl)
   changes-bits (opens n o) = leaves-bits (open-leaves s h (c .process) n o) (unfold handed in refl)
-  changes-bits (truncates n o) = leaves-bits (truncate-leaves s h (c .process) n o) (truncate-bits (n .slot .0) _ _ (unfold handed in refl) refl)
+  changes-bits (truncates n o a) = leaves-bits (truncate-leaves s h (c .process) n o) (truncate-bits (n .slot .0) _ _ (unfold handed in refl) refl)
   changes-bits (creates d i y kind bits o) = let w = create-leaves s h _ (subjectOf (view s .proc) (c .process)) d i (slot y) kind bits o in
       split f y (λ q _ a. absurd (a (rw q (o .free)))) (λ q t. leaves-bits w (rw t))
-  changes-bits (unlinks (unlinking d i y n k)) = leaves (unlink-leaves s h d i y n k (unnaming-is s h y)) (unlink-left d i y (unnaming-is s h y))
+  changes-bits (unlinks d i y n k) = leaves (unlink-leaves s h d i y n k (unnaming-is s h y)) (unlink-left d i y (unnaming-is s h y))
   changes-bits (removes d i y n k l) = leaves (remove-leaves s h d i y n k l) (remove-left d i y)
   changes-bits (links d i y n hy k) = leaves-bits (link-leaves s h _ d i y n hy k) refl
-  changes-bits (changesBits y b hy k l o) = split f (y .0) (λ q _ _ _ _. of-bits y b q o) (λ q t. leaves-bits (bits-leaves s h (y .0) (b .0) hy k l) (rw t))
+  changes-bits (changesBits y b hy k l o a) = split f (y .0) (λ q _ _ _ _. (a, rw q (owner-or-0 (y .0) o))) (λ q t. leaves-bits (bits-leaves s h (y .0) (b .0) hy k l) (rw t))
   changes-bits (closes i u hi) = steadily _ (close-leaves s h (c .process) i (u .small) hi (u .used) (releasing-is s h (c .process) i (u .small) hi) .steady)
-  changes-bits (stores e at o l) = leaves-bits (write-leaves s h (c .«data») _ (placed-well s h c e at o l)) (unfold wrote in refl)
+  changes-bits (stores e at o l a) = leaves-bits (write-leaves s h (c .«data») _ (placed-well s h c e at o l)) (unfold wrote in refl)
   changes-bits (reads e n o l) = leaves-bits (move-leaves s h e _ o (read-fits s h c e n l)) refl
   changes-bits (seeks e n o l) = leaves-bits (move-leaves s h e n o l) refl
   changes-bits (duplicates i j e o hj g) = unfold tablesOf in leaves-bits (duplicate-leaves s h (c .process) i j e o hj g) (unfold shared handed in refl)
@@ -102,30 +108,16 @@ module _ (s : Store) (h : SoundStore s) (c : Call) (f : ℕ) where
   changes-bits (exits u) = steadily _ (exit-leaves s h (c .process) (u .small) (u .used) .steady)
   changes-bits (executes l u hl) = leaves-bits (execute-leaves s h (c .process) l u hl) refl
 
-  -- ---- who asks, and by which call
-
-  owner-or-0 : (y : ℕ) → owns (subjectOf (view s .proc) (c .process)) (view s .tree .file y FILE-OWNER) ≡ true → (callerUser s c ≡ 0) ⊎ (callerUser s c ≡ word s y FILE-OWNER)
-  unfolding owns
-  owner-or-0 y t = by (ℕ-discrete (callerUser s c) 0)
-    where
-      by : Dec (callerUser s c ≡ 0) → (callerUser s c ≡ 0) ⊎ (callerUser s c ≡ view s .tree .file y FILE-OWNER)
-      by (yes e) = inl e
-      by (no n) = inr (means-or (means-eq (callerUser s c) 0) (means-eq (callerUser s c) (view s .tree .file y FILE-OWNER)) .holds t n)
-
-  asks : (Q : List ℕ) (n : ℕ) (o : Output) {e : Effect} → OfBits e → Asked Q s c (c .call) n o e → (c .call ≡ 8) × ((callerUser s c ≡ 0) ⊎ (callerUser s c ≡ word s f FILE-OWNER))
-  unfolding Asked
-  asks Q n p (of-bits y b q o) k = (k, rw q (owner-or-0 (y .0) o))
-
 -- what is claimed of the call that ends in x
 abbrev ByCall8 : Store → Call → ℕ → Outcome → Type 0
 ByCall8 s c f x = (word s f FILE-KIND ≡ FREE → ⊥) → (word (x .store) f FILE-KIND ≡ FREE → ⊥) → (word (x .store) f FILE-BITS ≡ word s f FILE-BITS → ⊥) →
     (x .reply .refusal ≡ GRANTED) × ((c .call ≡ 8) × ((callerUser s c ≡ 0) ⊎ (callerUser s c ≡ word s f FILE-OWNER)))
 
-decided : (Q : List ℕ) (s : Store) (h : SoundStore s) (c : Call) (f : ℕ) {d : Decision} → Fit (Granting s h c) d → Fit (Asked Q s c (c .call)) d → ByCall8 s c f (outcomeOf s c d)
-unfolding outcomeOf replyTo storeAfter tablesOf Of
-decided Q s h c f (granting n o e g) k = λ a b x. (refl, asks s h c f Q n o (changes-bits s h c f g a b x) (fit-of k))
-decided Q s h c f (refusing r i) k = λ a b x. absurd (x refl)
+decided : {Q : List ℕ} (s : Store) (h : SoundStore s) (c : Call) (f : ℕ) {d : Decision} → Fit (Granting Q s h c) d → ByCall8 s c f (outcomeOf s c d)
+unfolding outcomeOf replyTo storeAfter tablesOf
+decided s h c f (granting n o e g) = λ a b x. (refl, changes-bits s h c f g a b x)
+decided s h c f (refusing r i) = λ a b x. absurd (x refl)
 
-pub bits-by-call : (Q : List ℕ) (s : Store) (c : Call) (f : ℕ) → ByCall8 s c f (step Q s c)
+pub bits-by-call : (K : Fixed) (s : Store) (c : Call) (f : ℕ) → ByCall8 s c f (step K s c)
 unfolding act
-bits-by-call Q s c f = step-by Q s c (ByCall8 s c f) (λ e. let w = means-sound Q s .holds e in decided Q s (w .1) c f (decide-fit Q s (w .1) c (w .0)) (decide-asked Q s c)) (λ _ a b x. absurd (x refl))
+bits-by-call K s c f = step-by K s c (ByCall8 s c f) (λ e. let w = means-sound K s .holds e in decided s (w .1) c f (decide-fit (K .policy) s (w .1) c (w .0))) (λ _ a b x. absurd (x refl))

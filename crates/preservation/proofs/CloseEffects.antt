@@ -12,8 +12,7 @@ use borrow.Author.Tests.{eq-eqb, ne-eqb, ltb-true, ltb-false}
 use Rattle.rules.specs.Layout.{SLOTS, OPEN-FILES, PROCESSES, DESCRIPTORS, FILE-KIND, FILE-LINKS, FILE-VERSION, OPEN-SLOT, OPEN-REFERENCES, PROCESS-USED, FREE}
 use Rattle.rules.specs.Choice.{every}
 use Rattle.rules.specs.Scan.{repeat}
-use Rattle.rules.specs.Store.{Store, view, slot, ofdOf, up, applyAll, change, procZero, fdOf}
-use Rattle.rules.specs.Sound.{openBut, isOn}
+use Rattle.rules.specs.Store.{Store, view, slot, ofdOf, up, applyAll, change, procZero, fdOf, openBut, isOn}
 use Rattle.rules.specs.Checks.{held, ofdHeld, closing, dropping, releasing}
 use Rattle.rules.specs.Checks as checks
 use Rattle.rules.specs.Effects.{words, releaseChanges, closeChanges, released, releasedAll}

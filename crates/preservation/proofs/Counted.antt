@@ -12,9 +12,9 @@ use Rattle.rules.specs.Layout.{SLOTS, DIRENT-WIDTH, DIRENTS, NAME, OPEN-FILES, 
 use Rattle.rules.specs.Choice.{every}
 use Rattle.rules.specs.Scan.{any}
 use Rattle.rules.specs.Scan as scan
-use Rattle.rules.specs.Store.{Tree, slot, ofdOf}
+use Rattle.rules.specs.Store.{Tree, slot, ofdOf, isOn, openBut, isOpen}
 use Rattle.rules.specs.Directories.{direntAt, direntSlot, isEmpty}
-use Rattle.rules.specs.Sound.{isUsed, linksAt, linksFrom, linksTo, isParent, parentOf, climbs, isOn, openBut, isOpen, holdsAt, holdersIn, holders}
+use Rattle.rules.specs.Sound.{isUsed, linksAt, linksFrom, linksTo, isParent, parentOf, climbs, holdsAt, holdersIn, holders}
 use Rattle.preservation.proofs.Tests.{split, Means, and-left, and-right, means-every, means-and, means-last, means-not, means-eq}
 use Rattle.preservation.proofs.Sums.{ind, count, sum-same, sum-none, sum-at, sum-some, Some, ind-more}
 use Rattle.rules.proofs.Scans.{first-same}
@@ -23,7 +23,13 @@ use Rattle.preservation.proofs.Tables.{col}
 use Rattle.preservation.proofs.Sound.{naming, linkCount, nameCount, parent, depthWithin, openCount, holderCount}
 use Rattle.preservation.proofs.Counts.{ind-eq}
 use Rattle.preservation.proofs.Remake.{openCount-at}
-use Rattle.preservation.proofs.Shown.{slot-row, same-tests}
+use Rattle.preservation.proofs.Shown.{slot-row}
+
+-- two tests that pass together are the same
+same-tests : {a b : Bool} → (a ≡ true → b ≡ true) → (b ≡ true → a ≡ true) → a ≡ b
+same-tests {a = true} f g = sym (f refl)
+same-tests {a = false} {b = true} f g = g refl
+same-tests {a = false} {b = false} f g = refl
 
 -- ---- one directory
 

@@ -8,11 +8,12 @@ use native.Mathlib.Nat.{not-suc-le-zero, mul-le-mul-left}
 use native.Mathlib.Omega.{arith}
 use native.Mathlib.Decide.{decLt}
 use lib.Dec.{ltb}
-use lib.ListN.{length, getD, set, length-set, length-replicate, getD-replicate, List·getD-eq-default}
+use lib.ListN.{length, getD, set, length-set, getD-replicate, List·getD-eq-default}
 use lib.Seq.{getD-set-same, getD-set-other, sets}
 use borrow.Author.Tests.{lt-ltb, le-ltb}
 use Rattle.preservation.proofs.Tests.{split, upd, upd2, updRow}
 use Rattle.rules.specs.Store.{tab, zeros}
+use Rattle.rules.proofs.Lists.{length-zeros}
 
 pub tab-in : (w : ℕ) (xs : List ℕ) (i k : ℕ) → k < w → tab w xs i k ≡ getD xs (w * i + k) 0
 tab-in w xs i k h = rw (lt-ltb k w h)
@@ -121,10 +122,6 @@ tab-row w l j ws e h =
     word : (c : ℕ) → Dec (c < w) → overRow (tab w l j) 0 ws c ≡ getD ws c 0
     word c (yes q) = let z : c - 0 ≡ c = omega arith in rw (le-ltb c 0 (omega arith), lt-ltb c (0 + length ws) (omega arith), z)
     word c (no q) = rw (le-ltb c 0 (omega arith), le-ltb c (0 + length ws) (omega arith)) (tab-out w l j c (omega arith) ∙ sym (List·getD-eq-default ws 0 (omega arith)))
-
-pub length-zeros : (n : ℕ) → length (zeros n) ≡ n
-unfolding zeros
-length-zeros n = length-replicate n 0
 
 pub getD-zeros : (n k : ℕ) → getD (zeros n) k 0 ≡ 0
 getD-zeros n k = go (decLt k n)

@@ -7,7 +7,7 @@ use native.Mathlib.Omega.{arith}
 use native.Mathlib.Decide.{ℕ-discrete}
 use lib.Dec.{eqb}
 use borrow.Author.Tests.{eq-eqb, ne-eqb}
-use Rattle.rules.specs.Layout.{SLOTS, PROCESSES, DESCRIPTORS, OPEN-REFERENCES, PROCESS-USED, USER-MAX, LABEL-MAX}
+use Rattle.rules.specs.Layout.{SLOTS, PROCESSES, DESCRIPTORS, OPEN-REFERENCES, PROCESS-USED}
 use Rattle.rules.specs.Scan.{repeat}
 use Rattle.rules.specs.Store.{Store, view, ofdOf, up, applyAll, change, descTo, fdOf}
 use Rattle.rules.specs.Store as rules
@@ -15,6 +15,7 @@ use Rattle.rules.specs.Checks.{held, ofdHeld, sharing, shareOf}
 use Rattle.rules.specs.Effects.{shareChanges, sharedAll, forkChanges}
 use Rattle.rules.specs.Effects as effects
 use Rattle.rules.specs.declared.ids.Pid.{Pid}
+use Rattle.rules.specs.declared.request.Subject.{Subject}
 use Rattle.rules.specs.declared.decision.Share.the-variants as share
 use Rattle.rules.proofs.Scans.{repeat-step, repeat-done}
 use Rattle.preservation.proofs.Tables.{Tables, procRowTo}
@@ -24,17 +25,17 @@ use Rattle.preservation.proofs.Words.{up-is, references-most}
 use Rattle.preservation.proofs.OneWord.{Held}
 use Rattle.preservation.proofs.OneWord as word
 use Rattle.preservation.proofs.Open.{handed}
-use Rattle.preservation.proofs.Processes.{procRow, spawn-sound, shared, shared-sound}
+use Rattle.preservation.proofs.Processes.{procRow, Ranged, spawn-sound, shared, shared-sound}
 use Rattle.preservation.proofs.StoreChanges.{tablesOf, Sized, Has, has-openRow, has-descTo, has-procTo}
 use Rattle.preservation.proofs.SoundStore.{SoundStore}
 use Rattle.preservation.proofs.OpenEffects.{Leaves}
 use Rattle.preservation.proofs.CloseEffects.{updRow-id}
 
--- process q gets the descriptors of process p, and will have user u and label l
-module _ (p q : Pid) (u l : ℕ) (hp : p .0 < PROCESSES) (hq : q .0 < PROCESSES) where
+-- process q gets the descriptors of process p, and will be `who`
+module _ (p q : Pid) (who : Subject) (hp : p .0 < PROCESSES) (hq : q .0 < PROCESSES) where
   -- the tables with the child in use
   abbrev pub spawned : Tables → Tables
-  spawned m = procRowTo (q .0) (procRow 1 u l) m
+  spawned m = procRowTo (q .0) (procRow who) m
 
   -- the descriptors below i are shared: sound, once the child is in use
   pub record Sharing (s : Store) (i : ℕ) (t : Store) : Type 0 where
@@ -96,10 +97,10 @@ module _ (p q : Pid) (u l : ℕ) (hp : p .0 < PROCESSES) (hq : q .0 < PROCESSES)
       subst (λ (v : Store). Sharing s n v) (repeat-step (effects.shared p q) i n t refl (omega arith))
       (sharing-some s k (i + 1) n (effects.shared p q i t) (omega arith) hn (sharing-one s i t (omega arith) c))
 
-  pub sharing-start : (s : Store) → SoundStore s → tablesOf s .proc (q .0) PROCESS-USED ≡ 0 → u ≤ USER-MAX → l ≤ LABEL-MAX → Sharing s 0 s
-  sharing-start s h f hu hl = record {
+  pub sharing-start : (s : Store) → SoundStore s → tablesOf s .proc (q .0) PROCESS-USED ≡ 0 → Ranged who → Sharing s 0 s
+  sharing-start s h f r = record {
     sized = h .sized;
-    sound = spawn-sound SLOTS (tablesOf s) (h .tables) (q .0) u l hq hu hl;
+    sound = spawn-sound SLOTS (tablesOf s) (h .tables) (q .0) who hq r;
     rest = λ j hj _. h .tables .procs (q .0) hq .desc-zero f j hj;
     files-same = refl;
     bytes-same = refl;
@@ -111,14 +112,14 @@ module _ (p q : Pid) (u l : ℕ) (hp : p .0 < PROCESSES) (hq : q .0 < PROCESSES)
     pub files-same : tables .file ≡ tablesOf s .file
     pub bytes-same : tables .byte ≡ tablesOf s .byte
 
-  pub fork-leaves : (s : Store) → SoundStore s → tablesOf s .proc (q .0) PROCESS-USED ≡ 0 → u ≤ USER-MAX → l ≤ LABEL-MAX → Forks s (applyAll (forkChanges q (record { user = u; label = l })) (sharedAll p q s))
+  pub fork-leaves : (s : Store) → SoundStore s → tablesOf s .proc (q .0) PROCESS-USED ≡ 0 → Ranged who → Forks s (applyAll (forkChanges q who) (sharedAll p q s))
   unfolding forkChanges sharedAll applyAll
-  fork-leaves s h f hu hl = record {
+  fork-leaves s h f r = record {
     tables = spawned (tablesOf (repeat (effects.shared p q) 0 DESCRIPTORS s));
-    leaves = record { has = has-procTo (record { sized = c .sized; is = refl }) (q .0) (1 ∷ u ∷ l ∷ []) hq refl; sound = c .sound };
+    leaves = record { has = has-procTo (record { sized = c .sized; is = refl }) (q .0) (1 ∷ who .user ∷ who .label ∷ []) hq refl; sound = c .sound };
     files-same = c .files-same;
     bytes-same = c .bytes-same;
   }
     where
       c : Sharing s DESCRIPTORS (repeat (effects.shared p q) 0 DESCRIPTORS s)
-      c = sharing-some s DESCRIPTORS 0 DESCRIPTORS s refl (omega arith) (sharing-start s h f hu hl)
+      c = sharing-some s DESCRIPTORS 0 DESCRIPTORS s refl (omega arith) (sharing-start s h f r)

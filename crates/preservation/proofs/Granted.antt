@@ -1,4 +1,4 @@
--- What a granted decision has passed: for each effect, the facts that its checks and the store's soundness give.
+-- What a granted decision gives on a sound store: for each effect, the facts that its checks and the store's soundness give.
 use mathlib.Core.Path.{_≡_, refl}
 use mathlib.Core.Bool.{Bool, true, false, cond, not, false≢true}
 use mathlib.Core.List.{List}
@@ -13,90 +13,59 @@ use Rattle.rules.specs.Layout.{FILE-KIND, FILE-OWNER, FILE-LENGTH, FILE-LINKS, 
 use Rattle.rules.specs.Scan.{all}
 use Rattle.rules.specs.Store.{Store, view, slot, isSlot, isPid, isFd, ofdOf, isOfd, entry, isDirent, bitsAt, subjectOf, up, plus}
 use Rattle.rules.specs.Paths.{names, lastName}
-use Rattle.rules.specs.Rights.{owns, transition, moved}
+use Rattle.rules.specs.Rights.{TRUNCATE, owns, transition, moved}
 use Rattle.rules.specs.Directories.{isEmpty, freeDirent}
+use Rattle.rules.specs.Walk.{walkPath}
 use Rattle.rules.specs.Sound.{policySound, rightSound, transitionSound}
 use Rattle.rules.specs.Calls.{Call}
-use Rattle.rules.specs.Checks.{need, after, inUse, held, ofdHeld, freeSlot, freeOfd, freeFd, freePid, slotFree, ofdFree, fdFree, pidFree, gains, loses, unnaming, releasing}
+use Rattle.rules.specs.Checks.{inUse, held, ofdHeld, freeSlot, freeOfd, freeFd, freePid, slotFree, ofdFree, fdFree, pidFree, gains, loses, unnaming, releasing}
 use Rattle.rules.specs.Checks as checks
 use Rattle.rules.specs.DecidePaths.{truncated, newRecord}
-use Rattle.rules.specs.Decide.{placement}
+use Rattle.rules.specs.Decide.{placement, asker}
 use Rattle.rules.specs.declared.ids.Slot.{Slot}
 use Rattle.rules.specs.declared.ids.Pid.{Pid}
 use Rattle.rules.specs.declared.ids.Fd.{Fd}
 use Rattle.rules.specs.declared.rights.Bits.{Bits}
-use Rattle.rules.specs.declared.refusal.Refusal.{Refusal}
-use Rattle.rules.specs.declared.decision.Location.{Location}
-use Rattle.rules.specs.declared.decision.Walk.{Walk}
 use Rattle.rules.specs.declared.decision.NewOpen.{NewOpen}
 use Rattle.rules.specs.declared.decision.Output.{Output}
 use Rattle.rules.specs.declared.decision.Output.the-variants as output
 use Rattle.rules.specs.declared.decision.Effect.{Effect}
 use Rattle.rules.specs.declared.decision.Effect.the-variants as effect
-use Rattle.rules.specs.declared.decision.Decision.{Decision}
-use Rattle.rules.specs.declared.decision.Decision.the-variants.{Refused, Granted}
-use Rattle.rules.proofs.Scans.{all-at}
+use Rattle.rules.proofs.Scans.{all-at, first-passes}
+use Rattle.preservation.specs.Claims.{EndsAt}
 use Rattle.preservation.proofs.Tests.{means-every, means-and, means-last, means-or, means-eq, means-le, means-lt, means-test}
-use Rattle.preservation.proofs.Scans.{first-passes}
 use Rattle.preservation.proofs.OneWord.{Held}
 use Rattle.preservation.proofs.StoreChanges.{tablesOf, desc-past}
 use Rattle.preservation.proofs.SoundStore.{SoundStore}
 use Rattle.preservation.proofs.OpenEffects.{Caller, Opens, Holds}
 use Rattle.preservation.proofs.NameEffects.{Naming, Creates, Names}
-use Rattle.preservation.proofs.Walked.{WalkFit, reached, stopped}
-
--- ---- G holds of the value, the output and the effect of a granted decision
-
-pub data Fit (G : ℕ → Output → Effect → Type 0) : Decision → Type 0 where
-  granting : (n : ℕ) (o : Output) (e : Effect) → G n o e → Fit G (Granted n o e)
-  refusing : (r : Refusal) (k : ℕ) → Fit G (Refused r k)
-
-pub need-fit : {G : ℕ → Output → Effect → Type 0} (b : Bool) (r : Refusal) (d : Decision) → (b ≡ true → Fit G d) → Fit G (need b r d)
-unfolding need
-need-fit true r d f = f refl
-need-fit false r d f = refusing r 0
-
-pub fit-map : {G H : ℕ → Output → Effect → Type 0} {d : Decision} → ((n : ℕ) (o : Output) (e : Effect) → G n o e → H n o e) → Fit G d → Fit H d
-fit-map f (granting n o e g) = granting n o e (f n o e g)
-fit-map f (refusing r k) = refusing r k
-
-pub after-fit : {G : ℕ → Output → Effect → Type 0} {P : Location → Type 0} {w : Walk} (f : Location → Decision) → WalkFit P w → ((at : Location) → P at → Fit G (f at)) → Fit G (after w f)
-unfolding after
-after-fit f (reached at p) g = g at p
-after-fit f (stopped r k) g = refusing r k
-
--- the same as a function of the decision
-unfoldable pub Of : (ℕ → Output → Effect → Type 0) → Decision → Type 0
-Of G (Refused r k) = Unit {0}
-Of G (Granted n o e) = G n o e
-
-pub fit-of : {G : ℕ → Output → Effect → Type 0} {d : Decision} → Fit G d → Of G d
-unfolding Of
-fit-of (granting n o e g) = g
-fit-of (refusing r k) = tt
 
 -- ---- the facts
 
-module _ (s : Store) (h : SoundStore s) (c : Call) where
-  -- call 4
-  pub data Unlinking : ℕ → Output → Effect → Type 0 where
-    unlinking : (d : Slot) (i : ℕ) (y : Slot) → Names s h d i y → tablesOf s .file (y .0) FILE-KIND ≡ PLAIN → Unlinking 0 output.Nothing (effect.Unlinked (loses (view s .tree .file) d (entry i)) (unnaming (view s .tree .file) (view s .openFiles) y))
+-- call c writes to slot f, or truncates it: what `WritesTo` and `Truncates` claim of a granted call
+abbrev pub AsksWrite : Store → Call → ℕ → Type 0
+AsksWrite s c f = (c .call ≡ 12) × ((0 < length (c .«data»)) × (view s .openFiles (ofdHeld (view s .desc) (c .process) (c .fd) .0) OPEN-SLOT ≡ f))
 
-  -- every call
+abbrev pub AsksTruncation : List ℕ → Store → Call → ℕ → Type 0
+AsksTruncation Q s c f = (c .call ≡ 1) × ((TRUNCATE < c .number) × EndsAt (walkPath (view s .tree) Q (asker (view s) c) (c .path)) f)
+
+module _ (Q : List ℕ) (s : Store) (h : SoundStore s) (c : Call) where
   pub data Granting : ℕ → Output → Effect → Type 0 where
     nothing : (n : ℕ) (o : Output) → Granting n o effect.Nothing
     opens : (n : NewOpen) → Opens (tablesOf s) (c .process) n → Granting (n .fd .0) output.Nothing (effect.Opened n)
-    truncates : (n : NewOpen) → Opens (tablesOf s) (c .process) n → Granting (n .fd .0) output.Nothing (effect.Truncated n (truncated (view s .tree .file) (n .slot)))
+    truncates : (n : NewOpen) → Opens (tablesOf s) (c .process) n → AsksTruncation Q s c (n .slot .0) → Granting (n .fd .0) output.Nothing (effect.Truncated n (truncated (view s .tree .file) (n .slot)))
     creates : (d : Slot) (i y kind bits : ℕ) → Creates s h (lastName (names (c .path))) (subjectOf (view s .proc) (c .process)) d i (slot y) kind bits →
         Granting y output.Nothing (effect.Created (gains (view s .tree .file) d (entry i)) (slot y) (newRecord (view s .tree .file) (subjectOf (view s .proc) (c .process)) kind (bitsAt bits) d (slot y)))
-    unlinks : {n : ℕ} {o : Output} {e : Effect} → Unlinking n o e → Granting n o e
+    unlinks : (d : Slot) (i : ℕ) (y : Slot) → Names s h d i y → tablesOf s .file (y .0) FILE-KIND ≡ PLAIN →
+        Granting 0 output.Nothing (effect.Unlinked (loses (view s .tree .file) d (entry i)) (unnaming (view s .tree .file) (view s .openFiles) y))
     removes : (d : Slot) (i : ℕ) (y : Slot) → Names s h d i y → tablesOf s .file (y .0) FILE-KIND ≡ DIRECTORY → tablesOf s .file (y .0) FILE-LENGTH ≡ 0 →
         Granting 0 output.Nothing (effect.Removed (loses (view s .tree .file) d (entry i)) y (checks.freed (view s .tree .file) y))
     links : (d : Slot) (i : ℕ) (y : Slot) → Naming (tablesOf s) (lastName (names (c .«data»))) d i y → y .0 < SLOTS → tablesOf s .file (y .0) FILE-KIND ≡ PLAIN →
         Granting 0 output.Nothing (effect.Linked (gains (view s .tree .file) d (entry i)) y (up (view s .tree .file (y .0) FILE-LINKS)))
-    changesBits : (y : Slot) (b : Bits) → y .0 < SLOTS → (tablesOf s .file (y .0) FILE-KIND ≡ FREE → ⊥) → b .0 ≤ BITS-MAX → owns (subjectOf (view s .proc) (c .process)) (view s .tree .file (y .0) FILE-OWNER) ≡ true → Granting 0 output.Nothing (effect.BitsChanged y b)
+    changesBits : (y : Slot) (b : Bits) → y .0 < SLOTS → (tablesOf s .file (y .0) FILE-KIND ≡ FREE → ⊥) → b .0 ≤ BITS-MAX → owns (subjectOf (view s .proc) (c .process)) (view s .tree .file (y .0) FILE-OWNER) ≡ true → c .call ≡ 8 →
+        Granting 0 output.Nothing (effect.BitsChanged y b)
     closes : (i : Fd) → Caller (tablesOf s) (c .process) → i .0 < DESCRIPTORS → Granting 0 output.Nothing (effect.Closed i (releasing (view s .tree .file) (view s .openFiles) (view s .desc) (c .process) i))
-    stores : (e at : ℕ) → Held (tablesOf s) e → at + length (c .«data») ≤ BLOCK →
+    stores : (e at : ℕ) → Held (tablesOf s) e → at + length (c .«data») ≤ BLOCK → AsksWrite s c (view s .openFiles e OPEN-SLOT) →
         Granting (length (c .«data»)) output.Nothing (effect.Stored (placement (view s .tree .file) (ofdOf e) (slot (view s .openFiles e OPEN-SLOT)) at (length (c .«data»))))
     reads : (e n : ℕ) → Held (tablesOf s) e → tablesOf s .openFiles e OPEN-OFFSET + n ≤ BLOCK → Granting n (output.Bytes (slot (view s .openFiles e OPEN-SLOT)) (view s .openFiles e OPEN-OFFSET) n) (effect.Moved (ofdOf e) (plus (view s .openFiles e OPEN-OFFSET) n))
     seeks : (e n : ℕ) → Held (tablesOf s) e → n ≤ BLOCK → Granting n output.Nothing (effect.Moved (ofdOf e) n)

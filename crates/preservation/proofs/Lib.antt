@@ -39,9 +39,9 @@ pub mod PathNames
 pub mod NewName
 pub mod Reach
 pub mod Walked
+pub mod Numbers
 pub mod Granted
 pub mod Decided
-pub mod Asked
 -- the theorems
 pub mod Preserved
 pub mod TestedOnce

@@ -11,10 +11,9 @@ use borrow.Author.Tests.{eq-eqb, ne-eqb}
 use Rattle.rules.specs.Layout.{SLOTS, DIRENTS, DIRENT-WIDTH, OPEN-FILES, NAME, NAMES}
 use Rattle.rules.specs.Layout.{FILE-KIND, FILE-LENGTH, FILE-LINKS, FILE-VERSION, OPEN-SLOT, OPEN-REFERENCES, FREE, PLAIN, DIRECTORY}
 use Rattle.rules.specs.Choice.{every}
-use Rattle.rules.specs.Store.{Store, view, entry, bitsAt, up, zeros, applyAll}
+use Rattle.rules.specs.Store.{Store, view, entry, bitsAt, up, zeros, applyAll, isOpen}
 use Rattle.rules.specs.Paths as paths
 use Rattle.rules.specs.Directories.{dirent}
-use Rattle.rules.specs.Sound.{isOpen}
 use Rattle.rules.specs.Checks.{gains, loses, unnaming}
 use Rattle.rules.specs.Checks as checks
 use Rattle.rules.specs.DecidePaths.{newRecord}
@@ -23,6 +22,7 @@ use Rattle.rules.specs.declared.ids.Slot.{Slot}
 use Rattle.rules.specs.declared.request.Subject.{Subject}
 use Rattle.rules.specs.declared.decision.Unnamed.{Unnamed}
 use Rattle.rules.specs.declared.decision.Unnamed.the-variants as unnamed
+use Rattle.rules.proofs.Lists.{length-zeros}
 use Rattle.preservation.proofs.Tests.{split, upd, upd2, Means, means-every, means-and, means-last, means-eq, means-not}
 use Rattle.preservation.proofs.Tables.{Tables, col, direntRow, fill, fileTo, bytesTo, fileRowTo}
 use Rattle.preservation.proofs.Sound.{Sound, openCount}
@@ -34,7 +34,7 @@ use Rattle.preservation.proofs.Unlink.{unlinked, noRow}
 use Rattle.preservation.proofs.Remake.{remade, openCount-at}
 use Rattle.preservation.proofs.Rows.{freeRow}
 use Rattle.preservation.proofs.Create.{Name, NewFile, link-sound, created, create-sound, freed, unlink-sound, unlink-frees, remove-sound, target-small}
-use Rattle.preservation.proofs.FlatList.{upd-same-value, length-zeros, getD-zeros}
+use Rattle.preservation.proofs.FlatList.{upd-same-value, getD-zeros}
 use Rattle.preservation.proofs.StoreChanges.{tablesOf, Has, has-fileWord, has-fileTo, has-clearTo, has-dirent}
 use Rattle.preservation.proofs.Counted.{means-open}
 use Rattle.preservation.proofs.SoundStore.{SoundStore}

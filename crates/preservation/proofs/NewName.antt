@@ -15,7 +15,6 @@ use Rattle.rules.specs.Paths as paths
 use Rattle.rules.specs.Paths.{sameName, sameAt, isDots}
 use Rattle.rules.specs.Directories.{direntAt, direntSlot, isEmpty, isPadding, hasName, direntOf, padded, dirent}
 use Rattle.rules.specs.Sound.{nameSound, nameByteSound}
-use Rattle.rules.specs.Checks.{nameAbsent}
 use Rattle.rules.specs.declared.ids.Slot.{Slot}
 use Rattle.rules.proofs.Lists.{length-padded}
 use Rattle.preservation.proofs.Tests.{means-every, means-and, means-last, means-imp, means-or, means-eq, means-not, means-test, means-all}
@@ -107,7 +106,7 @@ module _ (s : Store) (h : SoundStore s) (d : Slot) (hd : d .0 < SLOTS) (kd : tab
       open-row : sameName (direntAt (view s .tree .shown (d .0)) i) name ≡ sameRow (λ k. getD (direntAt (view s .tree .shown (d .0)) i) k 0) (λ k. getD name k 0)
       open-row = unfold sameName sameAt sameRow in refl
 
-  pub new-name : (name : paths.Name) (i : ℕ) (y : Slot) → GoodName name → i < DIRENTS → isEmpty (view s .tree .shown (d .0)) i ≡ true → nameAbsent (view s .tree) d name ≡ true → y .0 < SLOTS → Naming (tablesOf s) name d i y
+  pub new-name : (name : paths.Name) (i : ℕ) (y : Slot) → GoodName name → i < DIRENTS → isEmpty (view s .tree .shown (d .0)) i ≡ true → not (isDirent (direntOf (view s .tree .shown (d .0)) name)) ≡ true → y .0 < SLOTS → Naming (tablesOf s) name d i y
   new-name name i y g hi e a hy = record {
     bytes = dirent-length name y;
     fits = record {

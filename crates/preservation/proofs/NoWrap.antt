@@ -9,26 +9,28 @@ use lib.Dec.{eqb}
 use borrow.Author.Tests.{eq-eqb, ne-eqb}
 use Rattle.rules.specs.Layout.{SLOTS, BLOCK, DIRENTS, OPEN-FILES, PROCESSES, DESCRIPTORS, FILE-LENGTH, FILE-LINKS, OPEN-OFFSET, OPEN-REFERENCES}
 use Rattle.rules.specs.Scan.{repeat}
-use Rattle.rules.specs.Store.{Store, view, subjectOf, up, plus, fdOf}
+use Rattle.rules.specs.Store.{Store, Fixed, view, subjectOf, up, plus, fdOf}
 use Rattle.rules.specs.Sound.{sound}
 use Rattle.rules.specs.Calls.{Call}
 use Rattle.rules.specs.Checks.{held, ofdHeld, sharing, shareOf}
 use Rattle.rules.specs.Decide.{decide}
 use Rattle.rules.specs.Effects as effects
+use Rattle.rules.specs.declared.request.Subject.{Subject}
 use Rattle.rules.specs.declared.ids.Pid.{Pid}
 use Rattle.rules.specs.declared.decision.Share.the-variants as share
 use Rattle.rules.specs.declared.decision.Output.{Output}
 use Rattle.rules.specs.declared.decision.Effect.{Effect}
 use Rattle.rules.specs.declared.decision.Decision.the-variants.{Granted}
+use Rattle.rules.proofs.Passed.{Of, fit-of}
 use Rattle.preservation.specs.Claims.{word, PlainShare, PlainRead, PlainSums}
 use Rattle.preservation.proofs.Words.{up-is, plus-is, length-most, link-most, references-most, offsets-most}
 use Rattle.preservation.proofs.StoreChanges.{tablesOf}
 use Rattle.preservation.proofs.SoundStore.{SoundStore, means-sound}
 use Rattle.preservation.proofs.OpenEffects.{held-open}
 use Rattle.preservation.proofs.ForkEffects.{Sharing, sharing-some, sharing-start, shared-held, shared-up}
-use Rattle.preservation.proofs.Granted.{Of, fit-of, unlinking, Granting, nothing, opens, truncates, creates, unlinks, removes, links, changesBits, closes, stores, reads, seeks, duplicates, forks, exits, executes}
+use Rattle.preservation.proofs.Granted.{Granting, nothing, opens, truncates, creates, unlinks, removes, links, changesBits, closes, stores, reads, seeks, duplicates, forks, exits, executes}
 use Rattle.preservation.proofs.Decided.{decide-fit}
-use Rattle.preservation.proofs.Preserved.{placed-well, caller-user, caller-label}
+use Rattle.preservation.proofs.Preserved.{placed-well, caller-ranged}
 
 module _ (s : Store) (h : SoundStore s) where
   pub length-goes-up : (f : ℕ) → f < SLOTS → up (word s f FILE-LENGTH) ≡ word s f FILE-LENGTH + 1
@@ -44,36 +46,36 @@ module _ (s : Store) (h : SoundStore s) where
   offset-goes-on e n l b = let a : tablesOf s .openFiles e OPEN-OFFSET ≤ BLOCK = offsets-most SLOTS (tablesOf s) (h .tables) e l in plus-is (view s .openFiles e OPEN-OFFSET) n (unfold tablesOf in (omega (arith, a)))
 
   -- each turn of a fork
-  share-sums : (p q : Pid) (u l : ℕ) (hp : p .0 < PROCESSES) (hq : q .0 < PROCESSES) (i : ℕ) → i < DESCRIPTORS → (t : Store) → Sharing p q u l hp hq s i t → PlainShare (view t) (shareOf (view t .openFiles) (view t .desc) p (fdOf i))
+  share-sums : (p q : Pid) (who : Subject) (hp : p .0 < PROCESSES) (hq : q .0 < PROCESSES) (i : ℕ) → i < DESCRIPTORS → (t : Store) → Sharing p q who hp hq s i t → PlainShare (view t) (shareOf (view t .openFiles) (view t .desc) p (fdOf i))
   unfolding shareOf held
-  share-sums p q u l hp hq i hi t c = by (ℕ-discrete (view t .desc (p .0) i) 0)
+  share-sums p q who hp hq i hi t c = by (ℕ-discrete (view t .desc (p .0) i) 0)
     where
       by : Dec (view t .desc (p .0) i ≡ 0) → PlainShare (view t) (cond (not (eqb (view t .desc (p .0) i) 0)) (sharing (view t .openFiles) (ofdHeld (view t .desc) p (fdOf i))) share.Nothing)
       by (yes e) = rw (eq-eqb (view t .desc (p .0) i) 0 e) (unfold PlainShare in tt)
       by (no n) = rw (ne-eqb (view t .desc (p .0) i) 0 n) (unfold PlainShare tablesOf in
-          (up-is (view t .desc (p .0) i - 1) (omega (arith, shared-held p q u l hp hq s i t hi c (view t .desc (p .0) i - 1) (omega (arith, n)) .small)), shared-up p q u l hp hq s i t hi c (view t .desc (p .0) i - 1) (omega (arith, n))))
+          (up-is (view t .desc (p .0) i - 1) (omega (arith, shared-held p q who hp hq s i t hi c (view t .desc (p .0) i - 1) (omega (arith, n)) .small)), shared-up p q who hp hq s i t hi c (view t .desc (p .0) i - 1) (omega (arith, n))))
 
-  sums : (c : Call) {n : ℕ} {o : Output} {e : Effect} → Granting s h c n o e → PlainSums s c o e
+  sums : {Q : List ℕ} (c : Call) {n : ℕ} {o : Output} {e : Effect} → Granting Q s h c n o e → PlainSums s c o e
   unfolding PlainSums PlainRead
   sums c (nothing n o) = tt
   sums c (opens n o) = up-is (n .ofd .0) (omega (arith, o .ofd-small))
-  sums c (truncates n o) = up-is (n .ofd .0) (omega (arith, o .ofd-small))
+  sums c (truncates n o a) = up-is (n .ofd .0) (omega (arith, o .ofd-small))
   sums c (creates d i y kind bits o) = length-goes-up (d .0) (o .naming .fits .dir-small)
-  sums c (unlinks (unlinking d i y n k)) = tt
+  sums c (unlinks d i y n k) = tt
   sums c (removes d i y n k l) = tt
   sums c (links d i y n hy k) = (length-goes-up (d .0) (n .fits .dir-small), links-go-up (y .0) hy)
-  sums c (changesBits y b hy k l o) = tt
+  sums c (changesBits y b hy k l o a) = tt
   sums c (closes i u hi) = tt
-  sums c (stores e at o l) = let w = placed-well s h c e at o l in (w .offset-is, w .length-is)
+  sums c (stores e at o l a) = let w = placed-well s h c e at o l in (w .offset-is, w .length-is)
   sums c (reads e n o l) = plus-is (view s .openFiles e OPEN-OFFSET) n (unfold tablesOf in (omega (arith, l)))
   sums c (seeks e n o l) = tt
   sums c (duplicates i j e o hj g) = let w = held-open s h (c .process) i e o in (up-is e (omega (arith, w .small)), references-go-up e (w .small))
-  sums c (forks q u hq g) = λ i hi. share-sums (c .process) q (subjectOf (view s .proc) (c .process) .user) (subjectOf (view s .proc) (c .process) .label) (u .small) hq i hi (repeat (effects.shared (c .process) q) 0 i s)
-      (sharing-some (c .process) q (subjectOf (view s .proc) (c .process) .user) (subjectOf (view s .proc) (c .process) .label) (u .small) hq s i 0 i s (omega arith) (omega arith)
-      (sharing-start (c .process) q (subjectOf (view s .proc) (c .process) .user) (subjectOf (view s .proc) (c .process) .label) (u .small) hq s h g (caller-user s h c u) (caller-label s h c u)))
+  sums c (forks q u hq g) = λ i hi. share-sums (c .process) q (subjectOf (view s .proc) (c .process)) (u .small) hq i hi (repeat (effects.shared (c .process) q) 0 i s)
+      (sharing-some (c .process) q (subjectOf (view s .proc) (c .process)) (u .small) hq s i 0 i s (omega arith) (omega arith)
+      (sharing-start (c .process) q (subjectOf (view s .proc) (c .process)) (u .small) hq s h g (caller-ranged s h c u)))
   sums c (exits u) = tt
   sums c (executes l u hl) = tt
 
-pub granted-sums : (Q : List ℕ) (s : Store) (c : Call) (n : ℕ) (o : Output) (e : Effect) → sound Q s ≡ true → decide Q (view s) c ≡ Granted n o e → PlainSums s c o e
+pub granted-sums : (K : Fixed) (s : Store) (c : Call) (n : ℕ) (o : Output) (e : Effect) → sound K s ≡ true → decide (K .policy) (view s) c ≡ Granted n o e → PlainSums s c o e
 unfolding Of
-granted-sums Q s c n o e t d = let w = means-sound Q s .holds t in sums s (w .1) c (subst (Of (Granting s (w .1) c)) d (fit-of (decide-fit Q s (w .1) c (w .0))))
+granted-sums K s c n o e t d = let w = means-sound K s .holds t in sums s (w .1) c (subst (Of (Granting (K .policy) s (w .1) c)) d (fit-of (decide-fit (K .policy) s (w .1) c (w .0))))

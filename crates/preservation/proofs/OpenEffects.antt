@@ -19,6 +19,7 @@ use Rattle.rules.specs.declared.ids.Pid.{Pid}
 use Rattle.rules.specs.declared.ids.Fd.{Fd}
 use Rattle.rules.specs.declared.decision.NewOpen.{NewOpen}
 use Rattle.rules.specs.declared.decision.Placement.{Placement}
+use Rattle.rules.proofs.Lists.{length-zeros}
 use Rattle.preservation.proofs.Tests.{upd}
 use Rattle.preservation.proofs.Tables.{Tables, fileTo, bytesTo, openTo, procTo}
 use Rattle.preservation.proofs.Sound.{Sound}
@@ -28,7 +29,7 @@ use Rattle.preservation.proofs.Remake.{remade}
 use Rattle.preservation.proofs.Plain.{wrote, wrote-sound, cutRow, truncated-sound}
 use Rattle.preservation.proofs.Open.{openRow, handed, open-sound}
 use Rattle.preservation.proofs.Processes.{shared, shared-sound, execute-sound}
-use Rattle.preservation.proofs.FlatList.{overRow, upd-twice, length-zeros, getD-zeros}
+use Rattle.preservation.proofs.FlatList.{overRow, upd-twice, getD-zeros}
 use Rattle.preservation.proofs.StoreChanges.{tablesOf, Has, has-fileWord, has-clearTo, has-bytesTo, has-openWord, has-openRow, has-openTo, has-descTo, has-procWord}
 use Rattle.preservation.proofs.SoundStore.{SoundStore, kept}
 

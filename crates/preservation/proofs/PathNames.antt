@@ -13,6 +13,7 @@ use Rattle.rules.specs.Layout.{NAME, NAMES, PATH, SLASH}
 use Rattle.rules.specs.Choice.{every}
 use Rattle.rules.specs.Paths.{Name, isSlash, notSlash, notZero, span, skip, nextName, nameEnd, firstNames, names, isDots, nameOk, namesOk, noZero, shapeOk, endOk, pathOk, isRoot, lastName}
 use Rattle.rules.specs.Calls.{pathBelowRoot}
+use Rattle.rules.proofs.Walks.{Each}
 use Rattle.preservation.proofs.Tests.{split, means-every, means-and, means-last, means-le, means-not, means-test}
 
 -- ---- spans
@@ -81,10 +82,6 @@ next-good p c h = record { some-byte = h; no-zero = λ k hk z. at k hk (λ g. ta
 
 -- ---- all of them
 
-unfoldable pub Each : (Name → Type 0) → List Name → Type 0
-Each P [] = Unit {0}
-Each P (n ∷ ns) = P n × Each P ns
-
 first-good : (n : ℕ) (p : List ℕ) → Clean p → Each GoodBytes (firstNames n p)
 unfolding firstNames Each
 first-good zero p c = tt
@@ -127,13 +124,6 @@ below-root p e =
   where
     some-names : (eqb (length (names p)) 0 ≡ true → ⊥) → 0 < length (names p)
     some-names f = split (length (names p)) 0 (λ q t. absurd (f t)) (λ q t. omega arith)
-
-pub each-take : (P : Name → Type 0) (ns : List Name) (k : ℕ) → Each P ns → Each P (take k ns)
-unfolding Each
-each-take P [] zero e = tt
-each-take P [] (suc k) e = tt
-each-take P (n ∷ ns) zero e = tt
-each-take P (n ∷ ns) (suc k) e = (e .0, each-take P ns k (e .1))
 
 pub each-at : (P : Name → Type 0) (ns : List Name) (k : ℕ) → k < length ns → Each P ns → P (getD ns k [])
 unfolding Each

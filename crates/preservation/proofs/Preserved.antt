@@ -1,12 +1,12 @@
 -- The effect of a granted call on a sound store leaves a sound store; so does every call, and every list of calls.
 use mathlib.Core.Path.{_≡_, refl, ap}
 use mathlib.Core.Bool.{true}
-use mathlib.Core.List.{List, [], _∷_}
+use mathlib.Core.List.{List}
 use Prim.Native.Nat.{ℕ, _+_, _-_, _≤_, _<_, max}
 use native.Mathlib.Omega.{arith}
 use lib.ListN.{length}
 use Rattle.rules.specs.Layout.{BLOCK, PROCESSES, FILE-LENGTH, OPEN-SLOT, OPEN-OFFSET, PROCESS-USED, PROCESS-USER, PROCESS-LABEL, USER-MAX, LABEL-MAX}
-use Rattle.rules.specs.Store.{Store, view, slot, ofdOf, subjectOf, applyAll, plus}
+use Rattle.rules.specs.Store.{Store, Fixed, view, slot, ofdOf, subjectOf, applyAll, plus}
 use Rattle.rules.specs.Sound.{sound}
 use Rattle.rules.specs.Calls.{Call}
 use Rattle.rules.specs.Decide.{placement, decide}
@@ -16,6 +16,8 @@ use Rattle.rules.specs.declared.ids.Pid.{Pid}
 use Rattle.rules.specs.declared.decision.Output.{Output}
 use Rattle.rules.specs.declared.decision.Effect.{Effect}
 use Rattle.rules.specs.declared.decision.Decision.{Decision}
+use Rattle.rules.proofs.Passed.{Fit, granting, refusing, fit-map}
+use Rattle.rules.proofs.Runs.{final-keeps}
 use Rattle.preservation.proofs.OneWord.{Held}
 use Rattle.preservation.proofs.Words.{plus-is}
 use Rattle.preservation.proofs.StoreChanges.{tablesOf}
@@ -23,9 +25,16 @@ use Rattle.preservation.proofs.SoundStore.{SoundStore, means-sound}
 use Rattle.preservation.proofs.OpenEffects.{Caller, Writes, leaves-sound, open-leaves, truncate-leaves, move-leaves, duplicate-leaves, bits-leaves, execute-leaves, write-leaves}
 use Rattle.preservation.proofs.NameEffects.{link-leaves, create-leaves, unlink-leaves, unnaming-is, remove-leaves}
 use Rattle.preservation.proofs.CloseEffects.{close-leaves, releasing-is, exit-leaves}
+use Rattle.preservation.proofs.Processes.{Ranged}
 use Rattle.preservation.proofs.ForkEffects.{Forks, fork-leaves}
-use Rattle.preservation.proofs.Granted.{Fit, granting, refusing, unlinking, Granting, nothing, opens, truncates, creates, unlinks, removes, links, changesBits, closes, stores, reads, seeks, duplicates, forks, exits, executes}
+use Rattle.preservation.proofs.Granted.{Granting, nothing, opens, truncates, creates, unlinks, removes, links, changesBits, closes, stores, reads, seeks, duplicates, forks, exits, executes}
 use Rattle.preservation.proofs.Decided.{decide-fit}
+
+-- what holds of the store, and of what the effect of a granted call leaves, holds of what the call leaves
+pub stored-by : (P : Store → Type 0) (s : Store) (c : Call) {d : Decision} → P s → Fit (λ n o e. P (carryOut c e s)) d → P (storeAfter s c d)
+unfolding storeAfter
+stored-by P s c p (granting n o e g) = g
+stored-by P s c p (refusing r k) = p
 
 module _ (s : Store) (h : SoundStore s) (c : Call) where
   pub placed-well : (e at : ℕ) → Held (tablesOf s) e → at + length (c .«data») ≤ BLOCK → Writes (tablesOf s) (c .«data») (placement (view s .tree .file) (ofdOf e) (slot (view s .openFiles e OPEN-SLOT)) at (length (c .«data»)))
@@ -41,34 +50,30 @@ module _ (s : Store) (h : SoundStore s) (c : Call) where
     offset-is = plus-is at (length (c .«data»)) (omega arith);
   }
 
-  pub caller-user : Caller (tablesOf s) (c .process) → view s .proc (c .process .0) PROCESS-USER ≤ USER-MAX
+  pub caller-ranged : Caller (tablesOf s) (c .process) → Ranged (subjectOf (view s .proc) (c .process))
   unfolding tablesOf
-  caller-user u = h .tables .procs (c .process .0) (u .small) .user-most
-
-  pub caller-label : Caller (tablesOf s) (c .process) → view s .proc (c .process .0) PROCESS-LABEL ≤ LABEL-MAX
-  unfolding tablesOf
-  caller-label u = h .tables .procs (c .process .0) (u .small) .label-most
+  caller-ranged u = let w = h .tables .procs (c .process .0) (u .small) in record { user-most = w .user-most; label-most = w .label-most }
 
   pub read-fits : (e n : ℕ) → tablesOf s .openFiles e OPEN-OFFSET + n ≤ BLOCK → plus (view s .openFiles e OPEN-OFFSET) n ≤ BLOCK
   unfolding tablesOf
   read-fits e n l = rw (plus-is (view s .openFiles e OPEN-OFFSET) n (omega (arith, l))) l
 
   pub forking : (q : Pid) (u : Caller (tablesOf s) (c .process)) (hq : q .0 < PROCESSES) → tablesOf s .proc (q .0) PROCESS-USED ≡ 0 → let who = subjectOf (view s .proc) (c .process) in
-      Forks (c .process) q (who .user) (who .label) (u .small) hq s (applyAll (forkChanges q who) (sharedAll (c .process) q s))
-  forking q u hq f = fork-leaves (c .process) q (subjectOf (view s .proc) (c .process) .user) (subjectOf (view s .proc) (c .process) .label) (u .small) hq s h f (caller-user u) (caller-label u)
+      Forks (c .process) q who (u .small) hq s (applyAll (forkChanges q who) (sharedAll (c .process) q s))
+  forking q u hq f = fork-leaves (c .process) q (subjectOf (view s .proc) (c .process)) (u .small) hq s h f (caller-ranged u)
 
-  pub effect-keeps : {n : ℕ} {o : Output} {e : Effect} → Granting s h c n o e → SoundStore (carryOut c e s)
+  pub effect-keeps : {Q : List ℕ} {n : ℕ} {o : Output} {e : Effect} → Granting Q s h c n o e → SoundStore (carryOut c e s)
   unfolding carryOut
   effect-keeps (nothing n o) = h
   effect-keeps (opens n o) = leaves-sound (open-leaves s h (c .process) n o)
-  effect-keeps (truncates n o) = leaves-sound (truncate-leaves s h (c .process) n o)
+  effect-keeps (truncates n o a) = leaves-sound (truncate-leaves s h (c .process) n o)
   effect-keeps (creates d i y kind bits o) = leaves-sound (create-leaves s h _ (subjectOf (view s .proc) (c .process)) d i (slot y) kind bits o)
-  effect-keeps (unlinks (unlinking d i y n k)) = leaves-sound (unlink-leaves s h d i y n k (unnaming-is s h y))
+  effect-keeps (unlinks d i y n k) = leaves-sound (unlink-leaves s h d i y n k (unnaming-is s h y))
   effect-keeps (removes d i y n k l) = leaves-sound (remove-leaves s h d i y n k l)
   effect-keeps (links d i y n hy k) = leaves-sound (link-leaves s h _ d i y n hy k)
-  effect-keeps (changesBits y b hy k l o) = leaves-sound (bits-leaves s h (y .0) (b .0) hy k l)
+  effect-keeps (changesBits y b hy k l o a) = leaves-sound (bits-leaves s h (y .0) (b .0) hy k l)
   effect-keeps (closes i u hi) = close-leaves s h (c .process) i (u .small) hi (u .used) (releasing-is s h (c .process) i (u .small) hi) .sound
-  effect-keeps (stores e at o l) = leaves-sound (write-leaves s h (c .«data») _ (placed-well e at o l))
+  effect-keeps (stores e at o l a) = leaves-sound (write-leaves s h (c .«data») _ (placed-well e at o l))
   effect-keeps (reads e n o l) = leaves-sound (move-leaves s h e _ o (read-fits e n l))
   effect-keeps (seeks e n o l) = leaves-sound (move-leaves s h e n o l)
   effect-keeps (duplicates i j e o hj f) = unfold tablesOf in leaves-sound (duplicate-leaves s h (c .process) i j e o hj f)
@@ -76,20 +81,16 @@ module _ (s : Store) (h : SoundStore s) (c : Call) where
   effect-keeps (exits u) = exit-leaves s h (c .process) (u .small) (u .used) .sound
   effect-keeps (executes l u hl) = leaves-sound (execute-leaves s h (c .process) l u hl)
 
-  pub after-sound : {d : Decision} → Fit (Granting s h c) d → SoundStore (storeAfter s c d)
-  unfolding storeAfter
-  after-sound (granting n o e g) = effect-keeps g
-  after-sound (refusing r k) = h
+  pub after-sound : {Q : List ℕ} {d : Decision} → Fit (Granting Q s h c) d → SoundStore (storeAfter s c d)
+  after-sound f = stored-by SoundStore s c h (fit-map (λ n o e g. effect-keeps g) f)
 
 -- ---- a call, and a list of calls
 
-pub step-sound : (Q : List ℕ) (s : Store) (c : Call) → sound Q s ≡ true → sound Q (step Q s c .store) ≡ true
+pub step-sound : (K : Fixed) (s : Store) (c : Call) → sound K s ≡ true → sound K (step K s c .store) ≡ true
 unfolding step act outcomeOf
-step-sound Q s c e =
-    let w = means-sound Q s .holds e in
-    rw e (means-sound Q (storeAfter s c (decide Q (view s) c)) .tests (w .0, after-sound s (w .1) c (decide-fit Q s (w .1) c (w .0))))
+step-sound K s c e =
+    let w = means-sound K s .holds e in
+    rw e (means-sound K (storeAfter s c (decide (K .policy) (view s) c)) .tests (w .0, after-sound s (w .1) c (decide-fit (K .policy) s (w .1) c (w .0))))
 
-pub final-sound : (Q : List ℕ) (s : Store) (cs : List Call) → sound Q s ≡ true → sound Q (final Q s cs) ≡ true
-unfolding final
-final-sound Q s [] e = e
-final-sound Q s (c ∷ cs) e = final-sound Q (step Q s c .store) cs (step-sound Q s c e)
+pub final-sound : (K : Fixed) (s : Store) (cs : List Call) → sound K s ≡ true → sound K (final K s cs) ≡ true
+final-sound K = final-keeps K (λ s. sound K s ≡ true) (step-sound K)

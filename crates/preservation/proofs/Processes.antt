@@ -15,12 +15,18 @@ use Rattle.preservation.proofs.Counts.{ind-eq, ind-ne}
 use Rattle.preservation.proofs.OneWord.{Held, held}
 use Rattle.preservation.proofs.Open.{handed, handed-sound, openCount-row}
 use Rattle.rules.specs.Layout.{PROCESSES, DESCRIPTORS, FILE-KIND, OPEN-REFERENCES, PROCESS-USED, PROCESS-LABEL, USER-MAX, LABEL-MAX}
+use Rattle.rules.specs.declared.request.Subject.{Subject}
 
 -- ---- the words of process p
 
 -- a process by its words
-abbrev pub procRow : (active user label : ℕ) → ℕ → ℕ
-procRow active user label c = getD (active ∷ user ∷ label ∷ []) c 0
+abbrev pub procRow : Subject → ℕ → ℕ
+procRow who c = getD (1 ∷ who .user ∷ who .label ∷ []) c 0
+
+-- its words are in range
+pub record Ranged (who : Subject) : Type 0 where
+  pub user-most : who .user ≤ USER-MAX
+  pub label-most : who .label ≤ LABEL-MAX
 
 pub process-sound : (x : ℕ) (m : Tables) → SoundBut x m → (p : ℕ) (row : ℕ → ℕ) → Process row (m .desc p) → SoundBut x (procRowTo p row m)
 process-sound x m h p row w = record {
@@ -36,8 +42,8 @@ pub execute-sound : (x : ℕ) (m : Tables) → SoundBut x m → (p l : ℕ) → 
 execute-sound x m h p l hp a hl = let w = h .procs p hp in process-sound x m h p (upd (m .proc p) PROCESS-LABEL l) (process-used a (w .user-most) hl (w .desc-most))
 
 -- fork: process q, which is free, is in use
-pub spawn-sound : (x : ℕ) (m : Tables) → SoundBut x m → (q u l : ℕ) → q < PROCESSES → u ≤ USER-MAX → l ≤ LABEL-MAX → SoundBut x (procRowTo q (procRow 1 u l) m)
-spawn-sound x m h q u l hq hu hl = process-sound x m h q (procRow 1 u l) (process-used refl hu hl (h .procs q hq .desc-most))
+pub spawn-sound : (x : ℕ) (m : Tables) → SoundBut x m → (q : ℕ) (who : Subject) → q < PROCESSES → Ranged who → SoundBut x (procRowTo q (procRow who) m)
+spawn-sound x m h q who hq r = process-sound x m h q (procRow who) (process-used refl (r .user-most) (r .label-most) (h .procs q hq .desc-most))
 
 -- exit: process q, which holds nothing, is free
 pub retire-sound : (x : ℕ) (m : Tables) → SoundBut x m → (q : ℕ) → All DESCRIPTORS (λ k. m .desc q k ≡ 0) → SoundBut x (procRowTo q (λ _. 0) m)

@@ -1,4 +1,5 @@
 -- The claims hold.
+use Rattle.rules.proofs.Unused.{unused-unseen}
 use Rattle.preservation.specs.Claims.{Claims}
 use Rattle.preservation.proofs.StoreChanges.{tablesOf}
 use Rattle.preservation.proofs.SoundStore.{means-sound}
@@ -19,18 +20,19 @@ claims = record {
   tested-once = tested-once;
   refused-leaves-store = refused-store;
   refused-leaves-buffer = refused-buffer;
-  bits-by-owner = λ Q s c f a b d. bits-by-call Q s c f a b d .1 .1;
-  bits-by-call-8 = λ Q s c f a b d. let w = bits-by-call Q s c f a b d in (w .1 .0, w .0);
-  open-plain = λ Q s f e. unfold tablesOf in open-plain s (means-sound Q s .holds e .1) f;
+  bits-by-owner = λ K s c f a b d. bits-by-call K s c f a b d .1 .1;
+  bits-by-call-8 = λ K s c f a b d. let w = bits-by-call K s c f a b d in (w .1 .0, w .0);
+  open-plain = λ K s f e. unfold tablesOf in open-plain s (means-sound K s .holds e .1) f;
   open-stays = open-stays;
-  unlink-leaves-record = λ Q s c f k q t. unlink-keeps-open Q s c f q t .words k;
-  unlink-leaves-bytes = λ Q s c f q t. unlink-keeps-open Q s c f q t .bytes;
+  unlink-leaves-record = λ K s c f k q t. unlink-keeps-open K s c f q t .words k;
+  unlink-leaves-bytes = λ K s c f q t. unlink-keeps-open K s c f q t .bytes;
   changed-by-write = changed-by-write;
   open-unwritten = open-unwritten;
-  length-up = λ Q s f e. length-goes-up s (means-sound Q s .holds e .1) f;
-  links-up = λ Q s f e. links-go-up s (means-sound Q s .holds e .1) f;
-  references-up = λ Q s i e. references-go-up s (means-sound Q s .holds e .1) i;
-  offset-plus = λ Q s i n e. offset-goes-on s (means-sound Q s .holds e .1) i n;
+  length-up = λ K s f e. length-goes-up s (means-sound K s .holds e .1) f;
+  links-up = λ K s f e. links-go-up s (means-sound K s .holds e .1) f;
+  references-up = λ K s i e. references-go-up s (means-sound K s .holds e .1) i;
+  offset-plus = λ K s i n e. offset-goes-on s (means-sound K s .holds e .1) i n;
   granted-sums = granted-sums;
   other-size-refused = other-size;
+  unused-unseen = unused-unseen;
 }

@@ -1,8 +1,6 @@
 -- A refused call leaves the store and the buffer as they were.
 use mathlib.Core.Path.{_≡_, refl}
-use mathlib.Core.List.{List}
-use Prim.Native.Nat.{ℕ}
-use Rattle.rules.specs.Store.{Store, view}
+use Rattle.rules.specs.Store.{Store, Fixed, view}
 use Rattle.rules.specs.Refusals.{GRANTED}
 use Rattle.rules.specs.Calls.{Call}
 use Rattle.rules.specs.Decide.{decide}
@@ -22,9 +20,9 @@ unfolding outcomeOf replyTo
 decided-buffer s c (Refused r k) f = refl
 decided-buffer s c (Granted n o e) f = absurd (f refl)
 
-module _ (Q : List ℕ) (s : Store) (c : Call) where
-  pub refused-store : (IsGranted Q s c → ⊥) → step Q s c .store ≡ s
-  refused-store = step-by Q s c (λ x. (x .reply .refusal ≡ GRANTED → ⊥) → x .store ≡ s) (λ _. unfold act in decided-store s c (decide Q (view s) c)) (λ _ _. refl)
+module _ (K : Fixed) (s : Store) (c : Call) where
+  pub refused-store : (IsGranted K s c → ⊥) → step K s c .store ≡ s
+  refused-store = step-by K s c (λ x. (x .reply .refusal ≡ GRANTED → ⊥) → x .store ≡ s) (λ _. unfold act in decided-store s c (decide (K .policy) (view s) c)) (λ _ _. refl)
 
-  pub refused-buffer : (IsGranted Q s c → ⊥) → step Q s c .reply .buffer ≡ c .buffer
-  refused-buffer = step-by Q s c (λ x. (x .reply .refusal ≡ GRANTED → ⊥) → x .reply .buffer ≡ c .buffer) (λ _. unfold act in decided-buffer s c (decide Q (view s) c)) (λ _ _. refl)
+  pub refused-buffer : (IsGranted K s c → ⊥) → step K s c .reply .buffer ≡ c .buffer
+  refused-buffer = step-by K s c (λ x. (x .reply .refusal ≡ GRANTED → ⊥) → x .reply .buffer ≡ c .buffer) (λ _. unfold act in decided-buffer s c (decide (K .policy) (view s) c)) (λ _ _. refl)

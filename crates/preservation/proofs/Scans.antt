@@ -7,30 +7,10 @@ use native.Mathlib.Nat.{eq-or-lt-of-le}
 use native.Mathlib.Omega.{arith}
 use native.Mathlib.Decide.{decLt}
 use Rattle.rules.specs.Scan.{any, count, total, first}
-use Rattle.rules.proofs.Scans.{any-yes, any-no, any-done, count-yes, count-no, count-done, total-next, total-done, first-yes, first-no, first-done}
+use Rattle.rules.proofs.Scans.{any-yes, any-no, any-done, count-yes, count-no, count-done, total-next, total-done, first-yes, first-no, first-passes}
 use Rattle.preservation.proofs.Sums.{sum, ind, sum-same, sum-first}
 
 -- ---- first: k numbers are left
-
-first-passes-from : (p : ℕ → Bool) (k i n : ℕ) → n - i ≡ k → first p i n < n → p (first p i n) ≡ true
-first-passes-from p zero i n e h = absurd (out (first-done p i n refl (omega arith)))
-  where
-    out : n ≡ first p i n → ⊥
-    out q = omega (arith, h)
-first-passes-from p (suc k) i n e h = by (p i) refl (λ l. first-passes-from p k (i + 1) n (omega arith) l)
-  where
-    inside : i < n
-    inside = omega arith
-
-    by : (t : Bool) → p i ≡ t → (first p (i + 1) n < n → p (first p (i + 1) n) ≡ true) → p (first p i n) ≡ true
-    by true q rest = rw (← first-yes p i n refl inside q refl) q
-    by false q rest =
-        let r : first p (i + 1) n ≡ first p i n = first-no p i n refl inside q refl in
-        rw r at (rest (omega (arith, h)))
-
--- what is found passes
-pub first-passes : (p : ℕ → Bool) (n : ℕ) → first p 0 n < n → p (first p 0 n) ≡ true
-first-passes p n h = first-passes-from p (n - 0) 0 n refl h
 
 first-none-from : (p : ℕ → Bool) (k i n : ℕ) → n - i ≡ k → i ≤ n → n ≤ first p i n → (j : ℕ) → i ≤ j → j < n → p j ≡ false
 first-none-from p zero i n e w h j a b = absurd (out e a b)

@@ -11,12 +11,11 @@ use lib.Seq.{length-take-le, getD-take, getD-drop}
 use borrow.Author.Tests.{eqb-true, eq-eqb, ne-eqb}
 use Rattle.rules.specs.Layout.{SLOTS, BLOCK, DIRENT-WIDTH, NAME, POINT, FILE-WIDTH, FILE-KIND, FILE-LENGTH, FREE, PLAIN}
 use Rattle.rules.specs.Choice.{every, some}
-use Rattle.rules.specs.Scan.{all}
-use Rattle.rules.specs.Store.{Tree, tab, block, hidden, shownOf, Table}
+use Rattle.rules.specs.Store.{tab, block, hidden, shownOf, Table}
 use Rattle.rules.specs.Paths.{sameName, sameAt, isDots}
 use Rattle.rules.specs.Directories.{direntAt, direntSlot, isEmpty, isPadding}
 use Rattle.rules.specs.Sound.{allZero, nameByteSound, nameSound, usedSound, direntSound}
-use Rattle.rules.proofs.Scans.{all-at, all-of}
+use Rattle.rules.proofs.Scans.{all-same}
 use Rattle.preservation.proofs.Tests.{split, Means, means-every, means-and, means-last, means-cond, means-eq, means-lt, means-not, means-test, means-within, means-same}
 use Rattle.preservation.proofs.Tables.{col}
 use Rattle.preservation.proofs.FlatList.{tab-in, tab-out}
@@ -68,17 +67,6 @@ pub means-zeros : (bs : List ℕ) (z : ℕ) → Means (allZero (drop z bs)) ((b 
 means-zeros bs z = record { holds = zeros-holds bs z; tests = zeros-tests bs z }
 
 -- ---- names
-
--- two tests that pass together are the same
-pub same-tests : {a b : Bool} → (a ≡ true → b ≡ true) → (b ≡ true → a ≡ true) → a ≡ b
-same-tests {a = true} f g = sym (f refl)
-same-tests {a = false} {b = true} f g = g refl
-same-tests {a = false} {b = false} f g = refl
-
-pub all-same : (p q : ℕ → Bool) (n : ℕ) → ((j : ℕ) → j < n → p j ≡ q j) → all p 0 n ≡ all q 0 n
-all-same p q n e = same-tests
-    (λ t. all-of q 0 n (λ j _ h. sym (e j h) ∙ all-at p 0 n t j (omega arith) h))
-    (λ t. all-of p 0 n (λ j _ h. e j h ∙ all-at q 0 n t j (omega arith) h))
 
 pub sameRow-to : (r r′ t t′ : ℕ → ℕ) → ((k : ℕ) → k < NAME → r k ≡ r′ k) → ((k : ℕ) → k < NAME → t k ≡ t′ k) → sameRow r t ≡ sameRow r′ t′
 unfolding sameRow

@@ -5,7 +5,7 @@ use mathlib.Core.List.{List}
 use Prim.Native.Nat.{ℕ, _+_}
 use lib.ListN.{length}
 use Rattle.rules.specs.Layout.{RIGHTS-SIZE}
-use Rattle.rules.specs.Store.{Store}
+use Rattle.rules.specs.Store.{Store, Fixed}
 use Rattle.rules.specs.Refusals.{refusalNumber}
 use Rattle.rules.specs.Sound.{policySound, sound}
 use Rattle.rules.specs.Calls.{Call}
@@ -20,11 +20,11 @@ policy-size : (Q : List ℕ) → policySound Q ≡ true → length Q ≡ RIGHTS-
 unfolding policySound
 policy-size Q e = means-every (means-and (means-eq (length Q) (RIGHTS-SIZE + RIGHTS-SIZE)) (means-and (means-test _) (means-last (means-test _)))) .holds e .0
 
-sound-sizes : (Q : List ℕ) (s : Store) → sound Q s ≡ true → sizes Q s ≡ SIZES
-sound-sizes Q s e =
-    let w = means-sound Q s .holds e in
+sound-sizes : (K : Fixed) (s : Store) → sound K s ≡ true → sizes K s ≡ SIZES
+sound-sizes K s e =
+    let w = means-sound K s .holds e in
     let z : Sized s = w .1 .sized in
-    rw (z .files-size, z .contents-size, z .open-files-size, z .processes-size, policy-size Q (w .0))
+    rw (z .files-size, z .contents-size, z .open-files-size, z .processes-size, policy-size (K .policy) (w .0))
 
-pub other-size : (Q : List ℕ) (s : Store) (c : Call) → (sizes Q s ≡ SIZES → ⊥) → step Q s c .reply .refusal ≡ 1
-other-size Q s c n = step-by Q s c (λ x. x .reply .refusal ≡ 1) (λ e. absurd (n (sound-sizes Q s e))) (λ _. unfold refusalNumber in refl)
+pub other-size : (K : Fixed) (s : Store) (c : Call) → (sizes K s ≡ SIZES → ⊥) → step K s c .reply .refusal ≡ 1
+other-size K s c n = step-by K s c (λ x. x .reply .refusal ≡ 1) (λ e. absurd (n (sound-sizes K s e))) (λ _. unfold refusalNumber in refl)

@@ -12,9 +12,9 @@ use borrow.Author.Tests.{lt-ltb}
 use Rattle.rules.specs.Layout.{SLOTS, BLOCK, DIRENT-WIDTH, DIRENTS, NAMES, OPEN-FILES, PROCESSES, FILE-WIDTH, OPEN-FILE-WIDTH}
 use Rattle.rules.specs.Layout.{FILE-KIND, FILE-LENGTH, FILE-LINKS, OPEN-SLOT, OPEN-REFERENCES, FREE, PLAIN, DIRECTORY}
 use Rattle.rules.specs.Choice.{some}
-use Rattle.rules.specs.Store.{Store, view, slot, tab, block, shownOf}
+use Rattle.rules.specs.Store.{Store, Fixed, view, slot, tab, block, shownOf, isOpen}
 use Rattle.rules.specs.Directories.{direntAt}
-use Rattle.rules.specs.Sound.{sizesSound, allZero, direntsSound, linksSound, directorySound, isOpen, plainSound, kindSound, slotSound, openSound, procSound, tablesSound, storeSound, policySound, sound}
+use Rattle.rules.specs.Sound.{sizesSound, allZero, direntsSound, linksSound, directorySound, plainSound, kindSound, slotSound, openSound, procSound, tablesSound, storeSound, policySound, sound}
 use Rattle.preservation.proofs.Tests.{Means, means-every, means-and, means-last, means-cond, means-choice, means-or, means-eq, means-lt, means-le, means-test, means-all, means-within, means-same}
 use Rattle.preservation.proofs.Tables.{Tables, col, direntRow}
 use Rattle.preservation.proofs.Sound.{All, Sound, File, Block, Directory, OpenFile, Process, nameCount, linkCount, depthWithin, openCount, holderCount}
@@ -215,9 +215,9 @@ means-store s = by (sizesSound s) refl
     by true e = let z = means-sized s .holds e in means-same (means-tables s z) (λ w. record { sized = z; tables = w }) (λ w. w .tables)
     by false e = record { holds = λ q. absurd (false≢true q); tests = λ w. absurd (false≢true (sym e ∙ means-sized s .tests (w .sized))) }
 
-pub means-sound : (Q : List ℕ) (s : Store) → Means (sound Q s) ((policySound Q ≡ true) × SoundStore s)
+pub means-sound : (K : Fixed) (s : Store) → Means (sound K s) ((policySound (K .policy) ≡ true) × SoundStore s)
 unfolding sound
-means-sound Q s = means-every (means-and (means-test (policySound Q)) (means-last (means-store s)))
+means-sound K s = means-every (means-and (means-test (policySound (K .policy))) (means-last (means-store s)))
 
 -- a store whose tables are sound
 pub kept : (s : Store) (m : Tables) → Has s m → Sound m → SoundStore s

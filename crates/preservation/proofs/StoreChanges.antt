@@ -12,10 +12,10 @@ use borrow.Author.Tests.{eq-eqb, ne-eqb, lt-ltb, le-ltb}
 use Rattle.rules.specs.Layout.{SLOTS, BLOCK, DIRENT-WIDTH, DIRENTS, OPEN-FILES, PROCESSES, DESCRIPTORS, FILE-WIDTH, OPEN-FILE-WIDTH, PROCESS-WIDTH, PROCESS-DESCRIPTOR}
 use Rattle.rules.specs.Store.{Store, store, tab, procOf, descOf, puts, zeros, change, fileWord, clearTo, openWord, openZero, procWord, procZero}
 use Rattle.rules.specs.Store as rules
-use Rattle.rules.proofs.Lists.{puts-sets}
+use Rattle.rules.proofs.Lists.{length-zeros, puts-sets}
 use Rattle.preservation.proofs.Tests.{split, upd, upd2, updRow}
 use Rattle.preservation.proofs.Tables.{Tables, fill, fileTo, bytesTo, openTo, procTo, descTo, fileRowTo, openRowTo, procRowTo}
-use Rattle.preservation.proofs.FlatList.{overRow, tab-run, tab-set, tab-row, sets-run, upd2-row, length-zeros, getD-zeros}
+use Rattle.preservation.proofs.FlatList.{overRow, tab-run, tab-set, tab-row, sets-run, upd2-row, getD-zeros}
 use Rattle.preservation.proofs.Remake.{remade}
 
 unfoldable pub tablesOf : Store → Tables

@@ -7,10 +7,9 @@ use Prim.Native.Nat.{ℕ}
 use native.Mathlib.Omega.{arith}
 use lib.ListN.{length}
 use Rattle.rules.specs.Layout.{OPEN-FILE-WIDTH, FILE-KIND, FILE-OWNER, FILE-BITS, FILE-LABEL, FILE-LENGTH, FILE-LINKS, FILE-VERSION, OPEN-SLOT, OPEN-OFFSET, FREE, PLAIN, DIRECTORY}
-use Rattle.rules.specs.Store.{Store, view, slot, ofdOf, subjectOf, tab, applyAll}
+use Rattle.rules.specs.Store.{Store, Fixed, view, slot, ofdOf, subjectOf, tab, applyAll, isOpen}
 use Rattle.rules.specs.Refusals.{GRANTED}
 use Rattle.rules.specs.Paths.{Name}
-use Rattle.rules.specs.Sound.{isOpen}
 use Rattle.rules.specs.Calls.{Call}
 use Rattle.rules.specs.Decide.{placement, decide}
 use Rattle.rules.specs.Effects.{nameChanges, unnameChanges, createChanges, linkChanges, unnamedChanges, unlinkChanges, removeChanges, carryOut}
@@ -24,9 +23,9 @@ use Rattle.rules.specs.declared.decision.NewOpen.{NewOpen}
 use Rattle.rules.specs.declared.decision.Placement.{Placement}
 use Rattle.rules.specs.declared.decision.Output.{Output}
 use Rattle.rules.specs.declared.decision.Effect.{Effect}
-use Rattle.rules.specs.declared.decision.Effect.the-variants as effect
 use Rattle.rules.specs.declared.decision.Decision.{Decision}
 use Rattle.rules.specs.declared.decision.Decision.the-variants.{Granted}
+use Rattle.rules.proofs.Passed.{Fit, granting, refusing}
 use Rattle.preservation.specs.Claims.{word, IsOpen, OpenAfterEach, WritesTo, Truncates, Unwritten, SameFile}
 use Rattle.preservation.proofs.Tests.{split}
 use Rattle.preservation.proofs.Tables.{Tables, openTo}
@@ -38,8 +37,7 @@ use Rattle.preservation.proofs.SoundStore.{SoundStore, means-sound}
 use Rattle.preservation.proofs.OpenEffects.{Leaves, withOpen, open-leaves, truncate-leaves, move-leaves, duplicate-leaves, bits-leaves, execute-leaves, write-leaves}
 use Rattle.preservation.proofs.NameEffects.{link-leaves, create-leaves, unlink-leaves, unnaming-is, remove-leaves}
 use Rattle.preservation.proofs.CloseEffects.{Steady, close-leaves, releasing-is, exit-leaves}
-use Rattle.preservation.proofs.Granted.{Of, fit-of, Fit, granting, refusing, unlinking, Granting, nothing, opens, truncates, creates, unlinks, removes, links, changesBits, closes, stores, reads, seeks, duplicates, forks, exits, executes, used-small}
-use Rattle.preservation.proofs.Asked.{AsksWrite, AsksTruncation, Asked, decide-asked}
+use Rattle.preservation.proofs.Granted.{AsksWrite, AsksTruncation, Granting, nothing, opens, truncates, creates, unlinks, removes, links, changesBits, closes, stores, reads, seeks, duplicates, forks, exits, executes, used-small}
 use Rattle.preservation.proofs.Decided.{decide-fit}
 use Rattle.preservation.proofs.Preserved.{placed-well, read-fits, forking, effect-keeps, after-sound}
 use Rattle.preservation.proofs.TestedOnce.{step-by}
@@ -72,11 +70,10 @@ module _ (s : Store) where
 abbrev NotLinksOrBits : ℕ → Type 0
 NotLinksOrBits k = (k ≡ FILE-LINKS → ⊥) × (k ≡ FILE-BITS → ⊥)
 
-module _ (s : Store) (h : SoundStore s) (c : Call) (f : ℕ) where
-  -- the effects that write to f or truncate it
-  data Rewrites : Effect → Type 0 where
-    stored : (w : Placement) → w .slot .0 ≡ f → Rewrites (effect.Stored w)
-    truncated : (n : NewOpen) (r : Record) → n .slot .0 ≡ f → Rewrites (effect.Truncated n r)
+module _ (Q : List ℕ) (s : Store) (h : SoundStore s) (c : Call) (f : ℕ) where
+  -- the call writes to f or truncates it
+  abbrev Rewrites : Type 0
+  Rewrites = AsksWrite s c f ⊎ AsksTruncation Q s c f
 
   -- in t, which a call leaves, f is not free; where the call leaves the open files as they were, f was plain
   record Stays (t : Store) : Type 0 where
@@ -94,13 +91,13 @@ module _ (s : Store) (h : SoundStore s) (c : Call) (f : ℕ) where
   unfolding wrote
   written w g n = kept-both f (kept-written f (w .slot .0) g (w .length) (w .version) (tablesOf s) n) (kept-same f _ _ refl refl)
 
-  leaves : {e : Effect} {t : Store} {m : Tables} → Leaves t m → Left m → Left (tablesOf t) ⊎ Rewrites e
+  leaves : {t : Store} {m : Tables} → Leaves t m → Left m → Left (tablesOf t) ⊎ Rewrites
   leaves l y = inl (rw (l .has .is) y)
 
-  steadily : {e : Effect} (t : Store) → Stays t → Steady (tablesOf s) (tablesOf t) → Left (tablesOf t) ⊎ Rewrites e
-  steadily {e} t y z = by (z f)
+  steadily : (t : Store) → Stays t → Steady (tablesOf s) (tablesOf t) → Left (tablesOf t) ⊎ Rewrites
+  steadily t y z = by (z f)
     where
-      by : (tablesOf t .file f FILE-KIND ≡ FREE) ⊎ ((tablesOf t .file f ≡ tablesOf s .file f) × (tablesOf t .byte f ≡ tablesOf s .byte f)) → Left (tablesOf t) ⊎ Rewrites e
+      by : (tablesOf t .file f FILE-KIND ≡ FREE) ⊎ ((tablesOf t .file f ≡ tablesOf s .file f) × (tablesOf t .byte f ≡ tablesOf s .byte f)) → Left (tablesOf t) ⊎ Rewrites
       by (inl q) = absurd (y .used q)
       by (inr q) = inl (record { words = λ k _. ap (λ (r : ℕ → ℕ). r k) (q .0); bytes = q .1 })
 
@@ -110,17 +107,17 @@ module _ (s : Store) (h : SoundStore s) (c : Call) (f : ℕ) where
 
   -- Each effect changes another slot, the link count or the bits, unless it rewrites f. A directory that gains or loses a name, a removed one and a slot given
   -- out are no plain file; a slot that unlink, close or exit frees is not f, which is not free afterwards.
-  effect-leaves : {n : ℕ} {o : Output} {e : Effect} → Granting s h c n o e → Stays (carryOut c e s) → Left (tablesOf (carryOut c e s)) ⊎ Rewrites e
+  effect-leaves : {n : ℕ} {o : Output} {e : Effect} → Granting Q s h c n o e → Stays (carryOut c e s) → Left (tablesOf (carryOut c e s)) ⊎ Rewrites
   unfolding carryOut
   effect-leaves (nothing n o) y = inl (kept-same f (tablesOf s) (tablesOf s) refl refl)
   effect-leaves (opens n o) y = leaves (open-leaves s h (c .process) n o) (opened n)
-  effect-leaves (truncates n o) y = split (n .slot .0) f (λ q _. inr (truncated n _ q))
+  effect-leaves (truncates n o a) y = split (n .slot .0) f (λ q _. inr (inr (rw q at a)))
       (λ q _. leaves (truncate-leaves s h (c .process) n o) (kept-both f (opened n) (kept-remade f (n .slot .0) _ _ _ (λ z. q (sym z)))))
   effect-leaves (creates d i y kind bits o) z =
       let k = z .was (create-open-files s _ _ _ _) in
       leaves (create-leaves s h _ (subjectOf (view s .proc) (c .process)) d i (slot y) kind bits o)
       (kept-both f (kept-row f y _ (tablesOf s) (apart y FREE (λ a. omega arith) k (o .free))) (kept-written f (d .0) _ _ _ _ (apart (d .0) DIRECTORY (λ a. omega arith) k (o .naming .fits .dir-kind))))
-  effect-leaves (unlinks (unlinking d i y n k)) z =
+  effect-leaves (unlinks d i y n k) z =
       let w = unnaming-is s h y in
       let l = unlink-leaves s h d i y n k w in
       leaves l (kept-unlink f s h d i y (apart (d .0) DIRECTORY (λ a. omega arith) (z .was (unlink-open-files s _ _)) (n .dir-kind)) (λ k u. u .0) w (λ q. z .used (ap (λ (x : Tables). x .file f FILE-KIND) (l .has .is) ∙ q)))
@@ -130,9 +127,9 @@ module _ (s : Store) (h : SoundStore s) (c : Call) (f : ℕ) where
   effect-leaves (links d i y n hy k) z =
       leaves (link-leaves s h _ d i y n hy k)
       (kept-both f (kept-column f (y .0) FILE-LINKS _ (tablesOf s) (λ k u. u .0)) (kept-written f (d .0) _ _ _ _ (apart (d .0) DIRECTORY (λ a. omega arith) (z .was (link-open-files s _ _ _ _)) (n .fits .dir-kind))))
-  effect-leaves (changesBits y b hy k l o) z = leaves (bits-leaves s h (y .0) (b .0) hy k l) (kept-column f (y .0) FILE-BITS _ (tablesOf s) (λ k u. u .1))
+  effect-leaves (changesBits y b hy k l o a) z = leaves (bits-leaves s h (y .0) (b .0) hy k l) (kept-column f (y .0) FILE-BITS _ (tablesOf s) (λ k u. u .1))
   effect-leaves (closes i u hi) y = steadily _ y (close-leaves s h (c .process) i (u .small) hi (u .used) (releasing-is s h (c .process) i (u .small) hi) .steady)
-  effect-leaves (stores e at o l) y = split (view s .openFiles e OPEN-SLOT) f (λ q _. inr (stored _ q))
+  effect-leaves (stores e at o l a) y = split (view s .openFiles e OPEN-SLOT) f (λ q _. inr (inl (rw q at a)))
       (λ q _. leaves (write-leaves s h (c .«data») _ (placed-well s h c e at o l)) (written (placement (view s .tree .file) (ofdOf e) (slot (view s .openFiles e OPEN-SLOT)) at (length (c .«data»))) _ (λ z. q (sym z))))
   effect-leaves (reads e n o l) y = leaves (move-leaves s h e _ o (read-fits s h c e n l)) (kept-same f (tablesOf s) _ refl refl)
   effect-leaves (seeks e n o l) y = leaves (move-leaves s h e n o l) (kept-same f (tablesOf s) _ refl refl)
@@ -158,41 +155,37 @@ module _ (s : Store) (h : SoundStore s) (c : Call) (f : ℕ) where
 
 -- what is claimed of the call that ends in x
 abbrev Changed : List ℕ → Store → Call → ℕ → Outcome → Type 0
-Changed Q s c f x = SameFile s (x .store) f ⊎ (((x .reply .refusal ≡ GRANTED) × AsksWrite Q s c (c .call) f) ⊎ ((x .reply .refusal ≡ GRANTED) × AsksTruncation Q s c (c .call) f))
+Changed Q s c f x = SameFile s (x .store) f ⊎ (((x .reply .refusal ≡ GRANTED) × AsksWrite s c f) ⊎ ((x .reply .refusal ≡ GRANTED) × AsksTruncation Q s c f))
 
 unchanged : (s : Store) (f : ℕ) → SameFile s s f
 unchanged s f = record { bytes = refl; kind = refl; owner = refl; label = refl; length = refl; version = refl }
 
 module _ (Q : List ℕ) (s : Store) (h : SoundStore s) (c : Call) (f : ℕ) where
-  rewritten : (n : ℕ) (o : Output) {e : Effect} → Rewrites s h c f e → Of (Asked Q s c (c .call)) (Granted n o e) → Changed Q s c f (outcomeOf s c (Granted n o e))
-  unfolding Of Asked outcomeOf replyTo
-  rewritten n o (stored w q) k = inr (inl (refl, (k .0, (k .1 .0, k .1 .1 ∙ q))))
-  rewritten n o (truncated m r q) k = inr (inr (refl, (k .0, (k .1 .0, rw q at (k .1 .1)))))
-
-  decided : {d : Decision} → Fit (Granting s h c) d → Fit (Asked Q s c (c .call)) d → Stays s h c f (storeAfter s c d) → Changed Q s c f (outcomeOf s c d)
-  unfolding outcomeOf storeAfter
-  decided (granting n o e g) k y = by (effect-leaves s h c f g y)
+  decided : {d : Decision} → Fit (Granting Q s h c) d → Stays Q s h c f (storeAfter s c d) → Changed Q s c f (outcomeOf s c d)
+  unfolding outcomeOf storeAfter replyTo
+  decided (granting n o e g) y = by (effect-leaves Q s h c f g y)
     where
-      by : Kept NotLinksOrBits f (tablesOf s) (tablesOf (carryOut c e s)) ⊎ Rewrites s h c f e → Changed Q s c f (outcomeOf s c (Granted n o e))
-      by (inl l) = inl (same-file s h c f (carryOut c e s) (effect-keeps s h c g) y l)
-      by (inr x) = rewritten n o x (fit-of k)
-  decided (refusing r i) k y = inl (unchanged s f)
+      by : Kept NotLinksOrBits f (tablesOf s) (tablesOf (carryOut c e s)) ⊎ Rewrites Q s h c f → Changed Q s c f (outcomeOf s c (Granted n o e))
+      by (inl l) = inl (same-file Q s h c f (carryOut c e s) (effect-keeps s h c g) y l)
+      by (inr (inl a)) = inr (inl (refl, a))
+      by (inr (inr a)) = inr (inr (refl, a))
+  decided (refusing r i) y = inl (unchanged s f)
 
-module _ (Q : List ℕ) (s : Store) (c : Call) (f : ℕ) where
+module _ (K : Fixed) (s : Store) (c : Call) (f : ℕ) where
   -- a call that leaves f as Stays says
-  staying : (P : Store → Type 0) → ((h : SoundStore s) (t : Store) → SoundStore t → P t → Stays s h c f t) → P (step Q s c .store) → Changed Q s c f (step Q s c)
+  staying : (P : Store → Type 0) → ((h : SoundStore s) (t : Store) → SoundStore t → P t → Stays (K .policy) s h c f t) → P (step K s c .store) → Changed (K .policy) s c f (step K s c)
   unfolding act outcomeOf
-  staying P y = step-by Q s c (λ x. P (x .store) → Changed Q s c f x)
-      (λ e p. let w = means-sound Q s .holds e in
-      let d = decide-fit Q s (w .1) c (w .0) in
-      decided Q s (w .1) c f d (decide-asked Q s c) (y (w .1) (storeAfter s c (decide Q (view s) c)) (after-sound s (w .1) c d) p))
+  staying P y = step-by K s c (λ x. P (x .store) → Changed (K .policy) s c f x)
+      (λ e p. let w = means-sound K s .holds e in
+      let d = decide-fit (K .policy) s (w .1) c (w .0) in
+      decided (K .policy) s (w .1) c f d (y (w .1) (storeAfter s c (decide (K .policy) (view s) c)) (after-sound s (w .1) c d) p))
       (λ _ _. inl (unchanged s f))
 
-  pub changed-by-write : word s f FILE-KIND ≡ PLAIN → (word (step Q s c .store) f FILE-KIND ≡ FREE → ⊥) → SameFile s (step Q s c .store) f ⊎ (WritesTo Q s c f ⊎ Truncates Q s c f)
+  pub changed-by-write : word s f FILE-KIND ≡ PLAIN → (word (step K s c .store) f FILE-KIND ≡ FREE → ⊥) → SameFile s (step K s c .store) f ⊎ (WritesTo K s c f ⊎ Truncates K s c f)
   unfolding tablesOf
   changed-by-write k = staying (λ t. word t f FILE-KIND ≡ FREE → ⊥) (λ h t _ a. record { used = a; was = λ _. k })
 
-  open-changed : IsOpen (step Q s c .store) f → SameFile s (step Q s c .store) f ⊎ (WritesTo Q s c f ⊎ Truncates Q s c f)
+  open-changed : IsOpen (step K s c .store) f → SameFile s (step K s c .store) f ⊎ (WritesTo K s c f ⊎ Truncates K s c f)
   open-changed = staying (λ t. IsOpen t f) (λ h t k o. record {
     used = λ z. omega (arith, z, open-plain t k f o);
     was = λ q. open-plain s h f (subst (λ (E : List ℕ). isOpen (tab OPEN-FILE-WIDTH E) (slot f) ≡ true) q o);
@@ -203,12 +196,12 @@ module _ (Q : List ℕ) (s : Store) (c : Call) (f : ℕ) where
 same-both : {s t u : Store} {f : ℕ} → SameFile s t f → SameFile t u f → SameFile s u f
 same-both a b = record { bytes = b .bytes ∙ a .bytes; kind = b .kind ∙ a .kind; owner = b .owner ∙ a .owner; label = b .label ∙ a .label; length = b .length ∙ a .length; version = b .version ∙ a .version }
 
-pub open-unwritten : (Q : List ℕ) (s : Store) (f : ℕ) (cs : List Call) → OpenAfterEach Q s f cs → Unwritten Q s f cs → SameFile s (final Q s cs) f
+pub open-unwritten : (K : Fixed) (s : Store) (f : ℕ) (cs : List Call) → OpenAfterEach K s f cs → Unwritten K s f cs → SameFile s (final K s cs) f
 unfolding OpenAfterEach Unwritten final
-open-unwritten Q s f [] t u = unchanged s f
-open-unwritten Q s f (c ∷ cs) t u = same-both (by (open-changed Q s c f (t .0))) (open-unwritten Q (step Q s c .store) f cs (t .1) (u .1 .1))
+open-unwritten K s f [] t u = unchanged s f
+open-unwritten K s f (c ∷ cs) t u = same-both (by (open-changed K s c f (t .0))) (open-unwritten K (step K s c .store) f cs (t .1) (u .1 .1))
   where
-    by : SameFile s (step Q s c .store) f ⊎ (WritesTo Q s c f ⊎ Truncates Q s c f) → SameFile s (step Q s c .store) f
+    by : SameFile s (step K s c .store) f ⊎ (WritesTo K s c f ⊎ Truncates K s c f) → SameFile s (step K s c .store) f
     by (inl e) = e
     by (inr (inl w)) = absurd (u .0 w)
     by (inr (inr w)) = absurd (u .1 .0 w)

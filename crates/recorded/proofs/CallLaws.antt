@@ -7,7 +7,7 @@ use native.Mathlib.Omega.{arith}
 use borrow.Author.Tests.{leb-true, leb-false}
 use lib.Dec.{leb}
 use lib.ListN.{length, take, drop, drop-of-length-le}
-use Rattle.rules.specs.Store.{store}
+use Rattle.rules.specs.Store.{fixed, store}
 use Rattle.rules.specs.Calls.{Call}
 use Rattle.rules.specs.Step.{step}
 use Rattle.rules.specs.declared.answer.Answer.{Answer}
@@ -40,7 +40,7 @@ module _ (m : ℕ) (X : List ℕ) {n : ℕ} (e : n ≡ min m (length X)) where
 
 module _ (n : Sizes) (F C E P Q : List ℕ) (c : Call) {f k e p : ℕ} (hf : f ≡ min (n .files) (length F)) (hk : k ≡ min (n .contents) (length C)) (he : e ≡ min (n .«open_files») (length E))
     (hp : p ≡ min (n .processes) (length P)) {q : List ℕ} (hq : q ≡ take (n .policy) Q) {a : Answer} {b F′ C′ E′ P′ : List ℕ}
-    (h : lent a b (store F′ C′ E′ P′) ≡ lentOf (step q (store (take f F) (take k C) (take e E) (take p P)) c)) where
+    (h : lent a b (store F′ C′ E′ P′) ≡ lentOf (step (fixed q) (store (take f F) (take k C) (take e E) (take p P)) c)) where
   pub called : lent a b (store (F′ ++ drop f F) (C′ ++ drop k C) (E′ ++ drop e E) (P′ ++ drop p P)) ≡ calledOn n Q (store F C E P) c
   unfolding calledOn
   called =

@@ -5,8 +5,8 @@ use mathlib.Core.List.{List, [], _∷_, _++_}
 use lib.Dec.{eqb, ltb}
 use lib.ListN.{length, getD, take, drop, replicate}
 use Rattle.rules.specs.Choice.{some}
-use Rattle.rules.specs.Store.{Store, store}
-use Rattle.rules.specs.Calls.{Call, callOf}
+use Rattle.rules.specs.Store.{Store, fixed, store}
+use Rattle.rules.specs.Calls.{Call, callOf, operationOf, uses}
 use Rattle.rules.specs.declared.request.Request.{Request}
 use Rattle.rules.specs.Step.{Outcome, step, answerOf}
 use Rattle.store.specs.Lent.{Lent, lent}
@@ -28,7 +28,7 @@ abbrev pub partLeft : Sizes → Store → Outcome → Lent
 partLeft n s o = lent (answerOf (o .reply)) (o .reply .buffer) (putBack n (o .store) s)
 
 unfoldable pub calledOn : Sizes → List ℕ → Store → Call → Lent
-calledOn n Q s c = partLeft n s (step (take (n .policy) Q) (partOf n s) c)
+calledOn n Q s c = partLeft n s (step (fixed (take (n .policy) Q)) (partOf n s) c)
 
 -- ---- the tables after a call
 
@@ -42,7 +42,7 @@ calledTables t c =
 
 -- what a read has read of the buffer after the call; other calls have read nothing
 unfoldable pub readOf : Request → List ℕ → List ℕ
-readOf c buffer = cond (eqb (c .call) 11) buffer []
+readOf c buffer = cond (uses (operationOf (c .call)) .reads) buffer []
 
 -- ---- a record's call: the size of the buffer, then the call as it is written down
 

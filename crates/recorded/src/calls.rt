@@ -16,6 +16,8 @@ use rules::answer::Answer;
 use rules::ids::Fd;
 use rules::ids::Pid;
 use rules::request::Request;
+use tables::calls::operation_of;
+use tables::calls::uses;
 use tables::parts::after;
 use tables::parts::upto;
 use tables::words::byte;
@@ -167,8 +169,8 @@ fn serve(s: Tables, c: Request, path: &[u8], data: &[u8], buffer: &mut [u8]) -> 
 fn read_of<'a>(c: Request, buffer: &'a [u8]) -> &'a [u8]
     ensures { λ r. ⌜ now r ≡ readOf c (now (buffer .entry)) ⌝ }
 {
-    let reads = c.call == 11;
-    if reads {
+    let parts = uses(operation_of(c.call));
+    if parts.reads {
         return buffer;
     }
     upto(buffer, 0)

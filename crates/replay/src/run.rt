@@ -1,7 +1,7 @@
 // A run of a script, under an allowance of calls and in the room of an output.
 ghost use mathlib.Core.Path.{_≡_};
 ghost use lib.ListN.{length};
-ghost use Rattle.rules.specs.Store.{store};
+ghost use Rattle.rules.specs.Store.{fixed, store};
 ghost use Rattle.script_rules.specs.Replay.{replay};
 ghost use Rattle.replay.specs.Runs.{left, leftBy};
 use script_rules::replayed::Reason;
@@ -33,7 +33,7 @@ pub fn replay(
     allowance: u32,
     output: &mut [u8],
 ) -> Replayed
-    ensures { λ r. ⌜ left r (now (output .exit)) (store (now (files .exit)) (now (contents .exit)) (now («open_files» .exit)) (now (processes .exit))) ≡ leftBy 0 0 (now (output .entry)) (replay allowance (now (policy .entry)) (now (script .entry)) (length (now (output .entry))) (store (now (files .entry)) (now (contents .entry)) (now («open_files» .entry)) (now (processes .entry)))) ⌝ }
+    ensures { λ r. ⌜ left r (now (output .exit)) (store (now (files .exit)) (now (contents .exit)) (now («open_files» .exit)) (now (processes .exit))) ≡ leftBy 0 0 (now (output .entry)) (replay allowance (fixed (now (policy .entry))) (now (script .entry)) (length (now (output .entry))) (store (now (files .entry)) (now (contents .entry)) (now («open_files» .entry)) (now (processes .entry)))) ⌝ }
 {
     let mut at: usize = 0;
     let mut written: usize = 0;

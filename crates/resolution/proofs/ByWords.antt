@@ -7,13 +7,14 @@ use lib.ListN.{take, drop}
 use lib.Seq.{getD-drop}
 use Rattle.rules.specs.Store.{tree, block, hidden, shownOf}
 use Rattle.rules.specs.Paths.{Name, span, notSlash}
+use Rattle.rules.specs.Walk.{lookup}
 use Rattle.rules.specs.declared.request.Subject.{Subject}
 use Rattle.rules.specs.declared.ids.Slot.{Slot}
+use Rattle.rules.specs.declared.decision.Intent.{Intent}
 use Rattle.tables.specs.NameWords.{lowWord, highWord}
 use Rattle.directories.proofs.ByWords.{Bytes, same-dirent}
-use Rattle.resolution.specs.declared.walk.Intent.{Intent}
 use Rattle.resolution.specs.PathNames.{nameAt}
-use Rattle.resolution.specs.Walks.{lookupFor, lookupBy}
+use Rattle.resolution.specs.Walks.{lookupBy}
 
 -- ---- bytes of parts
 
@@ -35,6 +36,6 @@ name-bytes p start h = take-bytes (span notSlash (drop start p)) (drop start p) 
 
 -- the k-th name is looked for in directory d
 pub by-words : (intent : Intent) (F C Q : List ℕ) (who : Subject) (d : Slot) (n : Name) (k : ℕ) → Bytes C → Bytes n
-    → lookupBy intent (tree F C) Q who d (lowWord n) (highWord n) k ≡ lookupFor intent (tree F C) Q who d n k
-unfolding lookupBy lookupFor
+    → lookupBy intent (tree F C) Q who d (lowWord n) (highWord n) k ≡ lookup intent (tree F C) Q who d n k
+unfolding lookupBy lookup
 by-words intent F C Q who d n k bc bn = rw (same-dirent (shownOf F C (d .0)) n (shown-bytes F C (d .0) bc) bn)

@@ -11,7 +11,7 @@ use Rattle.rules.specs.Store.{Store, store, tab, procOf, block}
 use Rattle.rules.specs.Sound.{policySound, sizesSound}
 use Rattle.rules.specs.Calls.{Call}
 use Rattle.rules.specs.Step.{Reply, act}
-use Rattle.rules.specs.Console.{console, consolePolicy, FARES, NOW, KEY}
+use Rattle.rules.specs.Console.{console, consoleFixed, consolePolicy, FARES, NOW, KEY}
 
 console-sizes : sizesSound console ≡ true
 unfolding computing
@@ -60,13 +60,13 @@ KEY-PATH = SLASH ∷ KEY
 -- the store after the calls, and the answer to one more
 unfoldable afterFrom : Store → List Call → Store
 afterFrom s [] = s
-afterFrom s (c ∷ cs) = afterFrom (act consolePolicy s c .store) cs
+afterFrom s (c ∷ cs) = afterFrom (act consoleFixed s c .store) cs
 
 abbrev after : List Call → Store
 after cs = afterFrom console cs
 
 abbrev answer : List Call → Call → Reply
-answer cs c = act consolePolicy (after cs) c .reply
+answer cs c = act consoleFixed (after cs) c .reply
 
 -- the bytes of /fares/now, slot 2
 abbrev fareBytes : Store → List ℕ

@@ -5,10 +5,14 @@ use Prim.Native.Nat.{ℕ, zero, suc, _+_, _-_, _≤_, _<_, _*_}
 use native.Mathlib.Nat.{not-suc-le-zero, le-of-suc-le-suc, add-zero, add-suc, suc-add}
 use native.Mathlib.Numerals.{add-one, sub-one}
 use native.Mathlib.Omega.{arith}
-use lib.ListN.{length, getD, set, take, drop, length-drop, drop-of-length-le}
+use lib.ListN.{length, getD, set, take, drop, length-drop, length-replicate, drop-of-length-le}
 use lib.Seq.{sets, set-out, drop-cons, drop-drop, getD-drop}
 use Rattle.rules.specs.Store.{zeros, puts}
 use Rattle.rules.specs.Directories.{padded}
+
+pub length-zeros : (n : ℕ) → length (zeros n) ≡ n
+unfolding zeros
+length-zeros n = length-replicate n 0
 
 -- a row written word by word is a run of stores
 pub puts-sets : (w : ℕ) (xs : List ℕ) (i k : ℕ) (vs : List ℕ) → puts w xs i k vs ≡ sets xs (w * i + k) vs

@@ -149,3 +149,53 @@ all-of-from p (suc k) i n e h =
 
 pub all-of : (p : ℕ → Bool) (i n : ℕ) → ((j : ℕ) → i ≤ j → j < n → p j ≡ true) → all p i n ≡ true
 all-of p i n h = all-of-from p (n - i) i n refl h
+
+-- ---- what a scan finds, and scans that agree
+
+first-passes-from : (p : ℕ → Bool) (k i n : ℕ) → n - i ≡ k → first p i n < n → p (first p i n) ≡ true
+first-passes-from p zero i n e h = absurd (out (first-done p i n refl (omega arith)))
+  where
+    out : n ≡ first p i n → ⊥
+    out q = omega (arith, h)
+first-passes-from p (suc k) i n e h = by (p i) refl (λ l. first-passes-from p k (i + 1) n (omega arith) l)
+  where
+    inside : i < n
+    inside = omega arith
+
+    by : (t : Bool) → p i ≡ t → (first p (i + 1) n < n → p (first p (i + 1) n) ≡ true) → p (first p i n) ≡ true
+    by true q rest = rw (← first-yes p i n refl inside q refl) q
+    by false q rest =
+        let r : first p (i + 1) n ≡ first p i n = first-no p i n refl inside q refl in
+        rw r at (rest (omega (arith, h)))
+
+-- what is found passes
+pub first-passes : (p : ℕ → Bool) (n : ℕ) → first p 0 n < n → p (first p 0 n) ≡ true
+first-passes p n h = first-passes-from p (n - 0) 0 n refl h
+
+pub first-most : (p : ℕ → Bool) (k i n : ℕ) → n - i ≡ k → i ≤ n → first p i n ≤ n
+first-most p zero i n e h = let d : n ≡ first p i n = first-done p i n refl (omega arith) in omega arith
+first-most p (suc k) i n e h = go (p i) refl (first-most p k (i + 1) n (omega arith) (omega arith))
+  where
+    inside : i < n
+    inside = omega arith
+
+    go : (b : Bool) → p i ≡ b → first p (i + 1) n ≤ n → first p i n ≤ n
+    go true q r = let d : i ≡ first p i n = first-yes p i n refl inside q refl in omega arith
+    go false q r = let d : first p (i + 1) n ≡ first p i n = first-no p i n refl inside q refl in omega arith
+
+all-same-from : (p q : ℕ → Bool) (k i n : ℕ) → n - i ≡ k → ((j : ℕ) → j < n → p j ≡ q j) → all p i n ≡ all q i n
+all-same-from p q zero i n e h =
+    let a : n ≤ i = omega arith in
+    sym (all-done p i n refl a) ∙ all-done q i n refl a
+all-same-from p q (suc k) i n e h = by (q i) refl (all-same-from p q k (i + 1) n (omega arith) h)
+  where
+    inside : i < n
+    inside = omega arith
+
+    by : (b : Bool) → q i ≡ b → all p (i + 1) n ≡ all q (i + 1) n → all p i n ≡ all q i n
+    by true c rest = sym (all-yes p i n refl inside (h i inside ∙ c) refl) ∙ rest ∙ all-yes q i n refl inside c refl
+    by false c rest = sym (all-no p i n refl inside (h i inside ∙ c) refl) ∙ all-no q i n refl inside c refl
+
+-- two tests that agree on each number agree on all
+pub all-same : (p q : ℕ → Bool) (n : ℕ) → ((j : ℕ) → j < n → p j ≡ q j) → all p 0 n ≡ all q 0 n
+all-same p q n h = all-same-from p q (n - 0) 0 n refl h

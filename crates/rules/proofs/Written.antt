@@ -12,11 +12,12 @@ use borrow.Author.Tests.{leb-true, eqb-true, le-leb}
 use Rattle.rules.specs.Choice.{every, some, implies}
 use Rattle.rules.specs.Layout.{PATH, NUMBER-MAX, SLASH}
 use Rattle.rules.specs.Store.{zeros}
-use Rattle.rules.specs.Calls.{Call, operationOf}
+use Rattle.rules.specs.Calls.{Call, operationOf, uses}
 use Rattle.rules.specs.declared.refusal.Refusal.the-variants.{Malformed}
 use Rattle.rules.specs.declared.request.Operation.{Operation}
 use Rattle.rules.specs.declared.request.Operation.the-variants as op
-use Rattle.rules.specs.Written.{BYTE, Bytes, Written, written, Parts, uses, partsOf, numberIf, textIf, capped, normalBy, normal, textsFit, canKeep, layout, encode, keep, Keeps, Refuses, Kept, NotWritten, numbersFit, accepted, parsed, decode}
+use Rattle.rules.specs.Written.{BYTE, Bytes, Written, written, partsOf, numberIf, textIf, capped, normalBy, normal, textsFit, canKeep, layout, encode, keep, Keeps, Refuses, Kept, NotWritten, numbersFit, accepted, parsed, decode}
+use Rattle.rules.specs.declared.request.Parts.{Parts}
 use Rattle.rules.specs.Computing.{computing}
 
 -- ---- lists of tests
@@ -36,7 +37,7 @@ three false b c e = absurd (false≢true e)
 
 -- ---- the normal form
 
-capped-most : (n : ℕ) → capped n ≤ NUMBER-MAX
+pub capped-most : (n : ℕ) → capped n ≤ NUMBER-MAX
 unfolding capped
 capped-most n = by (leb n NUMBER-MAX) refl
   where
@@ -53,7 +54,7 @@ unfolding implies numberIf
 number-unused true n = refl
 number-unused false n = refl
 
-number-same : (used : Bool) (n : ℕ) → implies (not used) (eqb n 0) ≡ true → numberIf used n ≡ n
+pub number-same : (used : Bool) (n : ℕ) → implies (not used) (eqb n 0) ≡ true → numberIf used n ≡ n
 unfolding implies numberIf
 number-same true n e = refl
 number-same false n e = sym (eqb-true n 0 e)

@@ -1,20 +1,22 @@
 -- "The seventeen calls": a call, its number, and its form.
 use Prim.Native.Nat.{ℕ}
+use mathlib.Core.Path.{_≡_}
 use mathlib.Core.Bool.{Bool, true, false, cond, not}
 use mathlib.Core.List.{List, [], _∷_}
 use lib.Dec.{eqb, leb}
 use Rattle.rules.specs.Choice.{every}
-use Rattle.rules.specs.Layout.{BLOCK}
+use Rattle.rules.specs.Layout.{BLOCK, PATH}
 use Rattle.rules.specs.Rights.{bitsKnown, modeOf, modeKnown}
 use Rattle.rules.specs.Paths.{pathOk, isRoot}
 use Rattle.rules.specs.declared.ids.Pid.{Pid}
 use Rattle.rules.specs.declared.ids.Fd.{Fd}
 use Rattle.rules.specs.declared.request.Request.{Request}
+use Rattle.rules.specs.declared.request.Parts.{Parts}
 use Rattle.rules.specs.declared.request.Operation.{Operation}
 use Rattle.rules.specs.declared.request.Operation.the-variants as op
 
 -- "its numbers, paths and bytes with the reader's buffer as lent". The number is a mode, bits, an index or a position; `data` is a write's
--- bytes or a second path. A read's size is the buffer's. Parts that a call does not use are not looked at.
+-- bytes or a second path. A read's size is the buffer's. Parts that a call does not use (`uses`) are not looked at.
 pub record Call : Type 0 where
   pub process : Pid
   pub call : ℕ
@@ -52,6 +54,47 @@ operationOf n =
 
 abbrev pub operation : Call → Operation
 operation c = operationOf (c .call)
+
+-- ---- which parts a call uses
+
+abbrev pub parts : (fd number : Bool) (path «data» : ℕ) → Parts
+parts fd number path «data» = record { fd = fd; number = number; path = path; «data» = «data»; reads = false }
+
+-- its number is the "size of the buffer to read into"
+abbrev pub reading : Parts → Parts
+reading u = record { fd = u .fd; number = u .number; path = u .path; «data» = u .«data»; reads = true }
+
+-- "paths of at most 64 bytes and data of at most 512": a second path is a path. Of an unknown call nothing is unused, its last text is data
+unfoldable pub uses : Operation → Parts
+uses op.Open = parts false true PATH 0
+uses op.Create = parts false true PATH 0
+uses op.MakeDirectory = parts false true PATH 0
+uses op.Unlink = parts false false PATH 0
+uses op.RemoveDirectory = parts false false PATH 0
+uses op.Link = parts false false PATH PATH
+uses op.List = parts false true PATH 0
+uses op.ChangeBits = parts false true PATH 0
+uses op.Stat = parts false false PATH 0
+uses op.Close = parts true false 0 0
+uses op.Read = reading (parts true true 0 0)
+uses op.Write = parts true false 0 BLOCK
+uses op.Seek = parts true true 0 0
+uses op.Duplicate = parts true false 0 0
+uses op.Fork = parts false false 0 0
+uses op.Exit = parts false false 0 0
+uses op.Execute = parts false false PATH 0
+uses op.Unknown = parts true true PATH BLOCK
+
+-- Two calls agree in what they use: their process, the call, and of these parts those that are used; and the same buffer is lent to both. A call
+-- that reads takes its buffer's size for its number.
+pub record Agree (u : Parts) (c d : Call) : Type 0 where
+  pub process : c .process ≡ d .process
+  pub call : c .call ≡ d .call
+  pub fd : u .fd ≡ true → c .fd ≡ d .fd
+  pub number : u .number ≡ true → u .reads ≡ false → c .number ≡ d .number
+  pub path : (u .path ≡ 0 → ⊥) → c .path ≡ d .path
+  pub «data» : (u .«data» ≡ 0 → ⊥) → c .«data» ≡ d .«data»
+  pub buffer : c .buffer ≡ d .buffer
 
 -- ---- the form (3): "unknown call or mode, bits over 7, bad path, position over 512, root given where barred"
 

@@ -7,10 +7,7 @@ use lib.Dec.{eqb, ltb}
 use Rattle.rules.specs.Choice.{every}
 use Rattle.rules.specs.Scan.{first}
 use Rattle.rules.specs.Layout.{SLOTS, OPEN-FILES, PROCESSES, DESCRIPTORS, FILE-KIND, FILE-LENGTH, FILE-LINKS, FILE-VERSION, FREE, OPEN-SLOT, OPEN-REFERENCES, PROCESS-USED, DIRENTS}
-use Rattle.rules.specs.Store.{Tree, Table, slot, pidOf, isPid, fdOf, ofdOf, isDirent, bitsAt, up}
-use Rattle.rules.specs.Paths.{Name}
-use Rattle.rules.specs.Directories.{direntOf}
-use Rattle.rules.specs.Sound.{isOpen, openBut}
+use Rattle.rules.specs.Store.{Table, slot, pidOf, isPid, fdOf, ofdOf, isDirent, bitsAt, openBut, isOpen, up}
 use Rattle.rules.specs.declared.ids.Slot.{Slot}
 use Rattle.rules.specs.declared.ids.Pid.{Pid}
 use Rattle.rules.specs.declared.ids.Fd.{Fd}
@@ -60,8 +57,9 @@ held desc p i = not (eqb (desc (p .0) (i .0)) 0)
 abbrev pub ofdHeld : Table → Pid → Fd → Ofd
 ofdHeld desc p i = ofdOf (desc (p .0) (i .0) - 1)
 
-abbrev pub nameAbsent : Tree → Slot → Name → Bool
-nameAbsent t d name = not (isDirent (direntOf (t .shown (d .0)) name))
+-- the entry of a new name is past the entries of its parent: the name is missing
+abbrev pub isAbsent : Location → Bool
+isAbsent at = not (isDirent (at .dirent))
 
 -- ---- "always the lowest free"; the number past the last where none is
 

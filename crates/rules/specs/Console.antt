@@ -3,7 +3,7 @@ use Prim.Native.Nat.{ℕ, zero, suc, _-_, _*_}
 use mathlib.Core.List.{List, [], _∷_, _++_}
 use lib.ListN.{length, replicate}
 use Rattle.rules.specs.Layout.{SLOTS, BLOCK, FILE-WIDTH, OPEN-FILE-WIDTH, OPEN-FILES, PROCESS-WIDTH, PROCESSES, LABELS, RIGHTS-SIZE, NO-TRANSITION}
-use Rattle.rules.specs.Store.{Store, store, zeros, slot}
+use Rattle.rules.specs.Store.{Store, store, Fixed, fixed, zeros, slot}
 use Rattle.rules.specs.Paths.{Name}
 use Rattle.rules.specs.Directories.{dirent}
 
@@ -52,3 +52,6 @@ console = consoleWith (1 ∷ 2 ∷ 3 ∷ 4 ∷ [])
 -- "Rights over label 0: 7, 7, 5; over label 3: 0, 2, 0; all else 0. No transitions"
 unfoldable pub consolePolicy : List ℕ
 consolePolicy = filled RIGHTS-SIZE (filled LABELS (7 ∷ []) ++ filled LABELS (7 ∷ 0 ∷ 0 ∷ 2 ∷ []) ++ filled LABELS (5 ∷ [])) ++ replicate RIGHTS-SIZE NO-TRANSITION
+
+abbrev pub consoleFixed : Fixed
+consoleFixed = fixed consolePolicy

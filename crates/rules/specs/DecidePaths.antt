@@ -7,10 +7,9 @@ use Rattle.rules.specs.Choice.{every}
 use Rattle.rules.specs.Layout.{SLOTS, OPEN-FILES, DESCRIPTORS, DIRENTS, FILE-OWNER, FILE-BITS, FILE-LABEL, FILE-LENGTH, FILE-LINKS, FILE-VERSION, PLAIN, DIRECTORY}
 use Rattle.rules.specs.Store.{Table, Tree, slot, isSlot, isFd, isOfd, isDirent, bitsAt, recordOf, up}
 use Rattle.rules.specs.Rights.{READ, WRITE, EXECUTE, owns, moved, modeOf, modeRights}
-use Rattle.rules.specs.Paths.{Name, names, lastName}
 use Rattle.rules.specs.Directories.{freeDirent, direntRanked}
-use Rattle.rules.specs.Walk.{isDirectory, isPlain, bitsAllow, labelAllows, walkPath, walkParent}
-use Rattle.rules.specs.Checks.{need, granted, after, nameAbsent, freeSlot, freeOfd, freeFd, gains, loses, freed, unnaming}
+use Rattle.rules.specs.Walk.{isDirectory, isPlain, bitsAllow, labelAllows, walkPath, walkNew}
+use Rattle.rules.specs.Checks.{need, granted, after, isAbsent, freeSlot, freeOfd, freeFd, gains, loses, freed, unnaming}
 use Rattle.rules.specs.declared.ids.Slot.{Slot}
 use Rattle.rules.specs.declared.ids.Pid.{Pid}
 use Rattle.rules.specs.declared.ids.Fd.{Fd}
@@ -95,15 +94,16 @@ created file who kind bits d s i = granted (s .0) (effect.Created (gains file d 
 unfoldable pub createRoom : Table → Subject → (kind : ℕ) → Bits → (d s : Slot) → Dirent → Decision
 createRoom file who kind bits d s i = need (isSlot s) TableFull (need (isDirent i) TableFull (created file who kind bits d s i))
 
-unfoldable pub createIn : List ℕ → Tree → Subject → (kind : ℕ) → Bits → Name → Slot → Decision
-createIn Q t who kind bits name d =
-    need (nameAbsent t d name) NameThere
-    (allowed (t .file) Q who d WRITE
-    (createRoom (t .file) who kind bits d (freeSlot (t .file)) (freeDirent (t .shown (d .0)))))
+-- at the new name's entry in its parent
+unfoldable pub createAt : List ℕ → Tree → Subject → (kind : ℕ) → Bits → Location → Decision
+createAt Q t who kind bits at =
+    need (isAbsent at) NameThere
+    (allowed (t .file) Q who (at .dir) WRITE
+    (createRoom (t .file) who kind bits (at .dir) (freeSlot (t .file)) (freeDirent (t .shown (at .dir .0)))))
 
 unfoldable pub decideCreate : List ℕ → Tree → Subject → (kind : ℕ) → BitsNumber → List ℕ → Decision
 decideCreate Q t who kind bitsNumber.OutOfRange path = Refused Malformed 0
-decideCreate Q t who kind (bitsNumber.Valid bits) path = after (walkParent t Q who path) (λ at. createIn Q t who kind bits (lastName (names path)) (at .slot))
+decideCreate Q t who kind (bitsNumber.Valid bits) path = after (walkNew t Q who path) (createAt Q t who kind bits)
 
 -- ---- 4. Unlink: "walk; plain (8); write on the parent (9, 10)"
 
@@ -144,14 +144,14 @@ linked file old d i = granted 0 (effect.Linked (gains file d i) old (up (file (o
 unfoldable pub linkRoom : Table → (old d : Slot) → Dirent → Decision
 linkRoom file old d i = need (isDirent i) TableFull (linked file old d i)
 
-unfoldable pub linkIn : List ℕ → Tree → Subject → Slot → Name → Slot → Decision
-linkIn Q t who old name d =
-    need (nameAbsent t d name) NameThere
-    (allowed (t .file) Q who d WRITE
-    (linkRoom (t .file) old d (freeDirent (t .shown (d .0)))))
+unfoldable pub linkAt : List ℕ → Tree → Subject → (old : Slot) → Location → Decision
+linkAt Q t who old at =
+    need (isAbsent at) NameThere
+    (allowed (t .file) Q who (at .dir) WRITE
+    (linkRoom (t .file) old (at .dir) (freeDirent (t .shown (at .dir .0)))))
 
 abbrev pub linkNew : List ℕ → Tree → Subject → List ℕ → Slot → Decision
-linkNew Q t who new old = after (walkParent t Q who new) (λ at. linkIn Q t who old (lastName (names new)) (at .slot))
+linkNew Q t who new old = after (walkNew t Q who new) (linkAt Q t who old)
 
 unfoldable pub linkTo : List ℕ → Tree → Subject → List ℕ → Slot → Decision
 linkTo Q t who new old = need (isPlain (t .file) old) WrongKind (linkNew Q t who new old)

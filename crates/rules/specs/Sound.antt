@@ -9,13 +9,11 @@ use Rattle.rules.specs.Scan.{all, any, count, total, first}
 use Rattle.rules.specs.Layout.{SLOTS, BLOCK, DIRENT-WIDTH, DIRENTS, NAME, NAMES, OPEN-FILES, PROCESSES, DESCRIPTORS, FILE-WIDTH, OPEN-FILE-WIDTH, PROCESS-WIDTH, RIGHTS-SIZE, NO-TRANSITION, SLASH}
 use Rattle.rules.specs.Layout.{FILE-KIND, FILE-OWNER, FILE-BITS, FILE-LABEL, FILE-LENGTH, FILE-LINKS, FILE-VERSION, FREE, PLAIN, DIRECTORY, OPEN-SLOT, OPEN-MODE, OPEN-OFFSET, OPEN-REFERENCES, PROCESS-USED, PROCESS-USER, PROCESS-LABEL}
 use Rattle.rules.specs.Layout.{KIND-MAX, USER-MAX, LABEL-MAX, WORD-MAX}
-use Rattle.rules.specs.Store.{Store, Table, Tree, View, view, slot, ofdOf}
+use Rattle.rules.specs.Store.{Store, Fixed, Table, Tree, View, view, slot, isOpen}
 use Rattle.rules.specs.Rights.{rightsKnown, bitsKnown, modeOf, modeKept}
 use Rattle.rules.specs.Paths.{Name, isDots, sameName}
 use Rattle.rules.specs.Directories.{direntAt, direntSlot, isEmpty, isPadding}
 use Rattle.rules.specs.Walk.{isDirectory, isPlain}
-use Rattle.rules.specs.declared.ids.Slot.{Slot}
-use Rattle.rules.specs.declared.ids.Ofd.{Ofd}
 
 -- ---- sizes: "Lent tables of another size are 1"
 
@@ -37,14 +35,21 @@ policySound Q = every (eqb (length Q) (RIGHTS-SIZE + RIGHTS-SIZE) ∷ all (right
 
 -- ---- a file's record: "all fields in range"; "A free record is zero but for its stamp"
 
+-- what says who may do what: owner, bits and label
+unfoldable pub accessFree : Table → ℕ → Bool
+accessFree file s = every (eqb (file s FILE-OWNER) 0 ∷ eqb (file s FILE-BITS) 0 ∷ eqb (file s FILE-LABEL) 0 ∷ [])
+
 unfoldable pub recordFree : Table → ℕ → Bool
-recordFree file s =
-    every (eqb (file s FILE-OWNER) 0 ∷ eqb (file s FILE-BITS) 0 ∷ eqb (file s FILE-LABEL) 0 ∷ eqb (file s FILE-LENGTH) 0 ∷ eqb (file s FILE-LINKS) 0 ∷ [])
+recordFree file s = every (accessFree file s ∷ eqb (file s FILE-LENGTH) 0 ∷ eqb (file s FILE-LINKS) 0 ∷ [])
+
+unfoldable pub accessSound : Table → ℕ → Bool
+accessSound file s = every (leb (file s FILE-OWNER) USER-MAX ∷ bitsKnown (file s FILE-BITS) ∷ leb (file s FILE-LABEL) LABEL-MAX ∷ [])
+
+unfoldable pub fieldsSound : Table → ℕ → Bool
+fieldsSound file s = every (leb (file s FILE-KIND) KIND-MAX ∷ accessSound file s ∷ leb (file s FILE-VERSION) WORD-MAX ∷ [])
 
 unfoldable pub recordSound : Table → ℕ → Bool
-recordSound file s =
-    every (leb (file s FILE-KIND) KIND-MAX ∷ leb (file s FILE-OWNER) USER-MAX ∷ bitsKnown (file s FILE-BITS) ∷ leb (file s FILE-LABEL) LABEL-MAX
-    ∷ leb (file s FILE-VERSION) WORD-MAX ∷ implies (eqb (file s FILE-KIND) FREE) (recordFree file s) ∷ [])
+recordSound file s = every (fieldsSound file s ∷ implies (eqb (file s FILE-KIND) FREE) (recordFree file s) ∷ [])
 
 -- ---- a directory's entries
 
@@ -123,18 +128,6 @@ directorySound t d =
 
 -- ---- open files
 
--- open file e, another than x, is on slot s
-unfoldable pub isOn : Table → Ofd → Slot → ℕ → Bool
-isOn openFiles x s e = every (not (eqb e (x .0)) ∷ not (eqb (openFiles e OPEN-REFERENCES) 0) ∷ eqb (openFiles e OPEN-SLOT) (s .0) ∷ [])
-
--- slot s is open, but for open file x
-unfoldable pub openBut : Table → Ofd → Slot → Bool
-openBut openFiles x s = any (isOn openFiles x s) 0 OPEN-FILES
-
--- slot s is open: there is no open file 32
-abbrev pub isOpen : Table → Slot → Bool
-isOpen openFiles s = openBut openFiles (ofdOf OPEN-FILES) s
-
 -- "a plain file's length at most 512"; "each plain file named or open"; "A plain file's bytes past its length are 0"
 unfoldable pub plainSound : Tree → (openFiles : Table) → ℕ → Bool
 plainSound t openFiles s =
@@ -183,12 +176,18 @@ descSound desc p i = leb (desc p i) OPEN-FILES
 unfoldable pub descFree : Table → ℕ → ℕ → Bool
 descFree desc p i = eqb (desc p i) 0
 
+-- who it is: user and label
+unfoldable pub subjectFree : Table → ℕ → Bool
+subjectFree proc p = every (eqb (proc p PROCESS-USER) 0 ∷ eqb (proc p PROCESS-LABEL) 0 ∷ [])
+
 unfoldable pub procFree : (proc desc : Table) → ℕ → Bool
-procFree proc desc p = every (eqb (proc p PROCESS-USER) 0 ∷ eqb (proc p PROCESS-LABEL) 0 ∷ all (descFree desc p) 0 DESCRIPTORS ∷ [])
+procFree proc desc p = every (subjectFree proc p ∷ all (descFree desc p) 0 DESCRIPTORS ∷ [])
+
+unfoldable pub subjectSound : Table → ℕ → Bool
+subjectSound proc p = every (leb (proc p PROCESS-USER) USER-MAX ∷ leb (proc p PROCESS-LABEL) LABEL-MAX ∷ [])
 
 unfoldable pub procUsed : (proc desc : Table) → ℕ → Bool
-procUsed proc desc p =
-    every (eqb (proc p PROCESS-USED) 1 ∷ leb (proc p PROCESS-USER) USER-MAX ∷ leb (proc p PROCESS-LABEL) LABEL-MAX ∷ all (descSound desc p) 0 DESCRIPTORS ∷ [])
+procUsed proc desc p = every (eqb (proc p PROCESS-USED) 1 ∷ subjectSound proc p ∷ all (descSound desc p) 0 DESCRIPTORS ∷ [])
 
 unfoldable pub procSound : (proc desc : Table) → ℕ → Bool
 procSound proc desc p = cond (eqb (proc p PROCESS-USED) 0) (procFree proc desc p) (procUsed proc desc p)
@@ -203,5 +202,5 @@ tablesSound v =
 unfoldable pub storeSound : Store → Bool
 storeSound s = cond (sizesSound s) (tablesSound (view s)) false
 
-unfoldable pub sound : List ℕ → Store → Bool
-sound Q s = every (policySound Q ∷ storeSound s ∷ [])
+unfoldable pub sound : Fixed → Store → Bool
+sound K s = every (policySound (K .policy) ∷ storeSound s ∷ [])

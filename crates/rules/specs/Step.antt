@@ -4,7 +4,7 @@ use mathlib.Core.Bool.{cond}
 use mathlib.Core.List.{List, [], _∷_}
 use lib.ListN.{length, take, drop}
 use lib.Seq.{sets}
-use Rattle.rules.specs.Store.{Store, Tree, view, block}
+use Rattle.rules.specs.Store.{Store, Fixed, Tree, view, block}
 use Rattle.rules.specs.Refusals.{refusalNumber, GRANTED}
 use Rattle.rules.specs.Directories.{direntName, padded}
 use Rattle.rules.specs.Calls.{Call}
@@ -67,29 +67,29 @@ unfoldable pub outcomeOf : Store → Call → Decision → Outcome
 outcomeOf s c d = record { reply = replyTo s c d; store = storeAfter s c d }
 
 -- a call on a store and a policy that are known to be sound
-unfoldable pub act : List ℕ → Store → Call → Outcome
-act Q s c = outcomeOf s c (decide Q (view s) c)
+unfoldable pub act : Fixed → Store → Call → Outcome
+act K s c = outcomeOf s c (decide (K .policy) (view s) c)
 
 -- a call: refused with 1 where the store or the policy is not sound
-unfoldable pub step : List ℕ → Store → Call → Outcome
-step Q s c = cond (sound Q s) (act Q s c) (record { reply = refusedReply Unsound 0 c; store = s })
+unfoldable pub step : Fixed → Store → Call → Outcome
+step K s c = cond (sound K s) (act K s c) (record { reply = refusedReply Unsound 0 c; store = s })
 
 -- ---- a list of calls: all the answers in order, and the last store
 
-unfoldable pub answers : List ℕ → Store → List Call → List Reply
-answers Q s [] = []
-answers Q s (c ∷ cs) = step Q s c .reply ∷ answers Q (step Q s c .store) cs
+unfoldable pub answers : Fixed → Store → List Call → List Reply
+answers K s [] = []
+answers K s (c ∷ cs) = step K s c .reply ∷ answers K (step K s c .store) cs
 
-unfoldable pub final : List ℕ → Store → List Call → Store
-final Q s [] = s
-final Q s (c ∷ cs) = final Q (step Q s c .store) cs
+unfoldable pub final : Fixed → Store → List Call → Store
+final K s [] = s
+final K s (c ∷ cs) = final K (step K s c .store) cs
 
 pub record Session : Type 0 where
   pub replies : List Reply
   pub store : Store
 
-abbrev pub run : List ℕ → Store → List Call → Session
-run Q s cs = record { replies = answers Q s cs; store = final Q s cs }
+abbrev pub run : Fixed → Store → List Call → Session
+run K s cs = record { replies = answers K s cs; store = final K s cs }
 
 -- ---- the answer as it crosses to C: the name and the fields padded with 0
 

@@ -1,11 +1,13 @@
 -- The store as lent, four flat lists; what the rules may look at, the view; and the changes that a call makes.
 use Prim.Native.Nat.{ℕ, zero, suc, _+_, _*_, _%_, _^_}
-use mathlib.Core.Bool.{Bool, true, false, cond}
+use mathlib.Core.Bool.{Bool, true, false, cond, not}
 use mathlib.Core.List.{List, [], _∷_, _++_}
 use lib.Dec.{eqb, ltb}
 use lib.ListN.{length, getD, take, drop, set, replicate}
 use lib.Seq.{sets}
-use Rattle.rules.specs.Layout.{SLOTS, OPEN-FILES, PROCESSES, DIRENTS, BLOCK, FILE-WIDTH, FILE-KIND, FILE-OWNER, FILE-BITS, FILE-LABEL, FILE-LENGTH, FILE-LINKS, FILE-VERSION, PLAIN, OPEN-FILE-WIDTH, PROCESS-WIDTH, PROCESS-DESCRIPTOR, PROCESS-USER, PROCESS-LABEL, DESCRIPTORS}
+use Rattle.rules.specs.Choice.{every}
+use Rattle.rules.specs.Scan.{any}
+use Rattle.rules.specs.Layout.{OPEN-SLOT, OPEN-REFERENCES, SLOTS, OPEN-FILES, PROCESSES, DIRENTS, BLOCK, FILE-WIDTH, FILE-KIND, FILE-OWNER, FILE-BITS, FILE-LABEL, FILE-LENGTH, FILE-LINKS, FILE-VERSION, PLAIN, OPEN-FILE-WIDTH, PROCESS-WIDTH, PROCESS-DESCRIPTOR, PROCESS-USER, PROCESS-LABEL, DESCRIPTORS}
 use Rattle.rules.specs.declared.decision.Record.{Record}
 use Rattle.rules.specs.declared.ids.Slot.{Slot}
 use Rattle.rules.specs.declared.ids.Pid.{Pid}
@@ -16,7 +18,14 @@ use Rattle.rules.specs.declared.rights.Bits.{Bits}
 use Rattle.rules.specs.declared.rights.OpenMode.{OpenMode}
 use Rattle.rules.specs.declared.request.Subject.{Subject}
 
--- "Files", "Contents", "Open entries", "Processes". No call changes the policy, so it stands beside the store.
+-- What no call changes, and so stands beside the store: the policy.
+pub record Fixed : Type 0 where
+  pub policy : List ℕ
+
+abbrev pub fixed : List ℕ → Fixed
+fixed Q = record { policy = Q }
+
+-- "Files", "Contents", "Open entries", "Processes".
 pub record Store : Type 0 where
   pub files : List ℕ
   pub contents : List ℕ
@@ -112,6 +121,20 @@ tree F C = record { file = tab FILE-WIDTH F; shown = shownOf F C }
 
 abbrev pub view : Store → View
 view s = record { tree = tree (s .files) (s .contents); openFiles = tab OPEN-FILE-WIDTH (s .openFiles); proc = procOf (s .processes); desc = descOf (s .processes) }
+
+-- ---- which files are open
+
+-- open file e, another than x, is on slot s
+unfoldable pub isOn : Table → Ofd → Slot → ℕ → Bool
+isOn openFiles x s e = every (not (eqb e (x .0)) ∷ not (eqb (openFiles e OPEN-REFERENCES) 0) ∷ eqb (openFiles e OPEN-SLOT) (s .0) ∷ [])
+
+-- slot s is open, but for open file x
+unfoldable pub openBut : Table → Ofd → Slot → Bool
+openBut openFiles x s = any (isOn openFiles x s) 0 OPEN-FILES
+
+-- slot s is open: there is no open file 32
+abbrev pub isOpen : Table → Slot → Bool
+isOpen openFiles s = openBut openFiles (ofdOf OPEN-FILES) s
 
 -- who asks: process p
 abbrev pub subjectOf : Table → Pid → Subject

@@ -6,13 +6,12 @@ use lib.Dec.{eqb, leb}
 use lib.ListN.{length, getD, take, drop}
 use Rattle.rules.specs.Choice.{every, implies}
 use Rattle.rules.specs.Layout.{BLOCK, PATH, NUMBER-MAX}
-use Rattle.rules.specs.Calls.{Call, operationOf}
+use Rattle.rules.specs.Calls.{Call, operationOf, uses}
 use Rattle.rules.specs.declared.ids.Pid.{Pid}
 use Rattle.rules.specs.declared.ids.Fd.{Fd}
 use Rattle.rules.specs.declared.refusal.Refusal.{Refusal}
 use Rattle.rules.specs.declared.refusal.Refusal.the-variants.{Malformed}
-use Rattle.rules.specs.declared.request.Operation.{Operation}
-use Rattle.rules.specs.declared.request.Operation.the-variants as op
+use Rattle.rules.specs.declared.request.Parts.{Parts}
 
 -- how many values a byte has
 abbrev pub BYTE : ℕ
@@ -32,13 +31,9 @@ pub record Written : Type 0 where
   pub path : List ℕ
   pub «data» : List ℕ
 
--- the call whose number is the "size of the buffer to read into"
-abbrev pub CALL-READ : ℕ
-CALL-READ = 11
-
 -- "its number, that is mode, bits, index, position or size of the buffer to read into"
 unfoldable pub numberOf : Call → ℕ
-numberOf c = cond (eqb (c .call) CALL-READ) (length (c .buffer)) (c .number)
+numberOf c = cond (uses (operationOf (c .call)) .reads) (length (c .buffer)) (c .number)
 
 abbrev pub written : Call → Written
 written c = record { process = c .process; call = c .call; fd = c .fd; number = numberOf c; path = c .path; «data» = c .«data» }
@@ -46,39 +41,7 @@ written c = record { process = c .process; call = c .call; fd = c .fd; number = 
 abbrev pub served : Written → (buffer : List ℕ) → Call
 served w buffer = record { process = w .process; call = w .call; fd = w .fd; number = w .number; path = w .path; «data» = w .«data»; buffer = buffer }
 
--- ---- which parts a call uses
-
--- whether it uses its descriptor and its number; of its path and its last text, the most bytes that a kept call has, 0 where it has none
-pub record Parts : Type 0 where
-  pub fd : Bool
-  pub number : Bool
-  pub path : ℕ
-  pub «data» : ℕ
-
-abbrev pub parts : (fd number : Bool) (path «data» : ℕ) → Parts
-parts fd number path «data» = record { fd = fd; number = number; path = path; «data» = «data» }
-
--- "paths of at most 64 bytes and data of at most 512": a second path is a path. Of an unknown call nothing is unused, its last text is data
-unfoldable pub uses : Operation → Parts
-uses op.Open = parts false true PATH 0
-uses op.Create = parts false true PATH 0
-uses op.MakeDirectory = parts false true PATH 0
-uses op.Unlink = parts false false PATH 0
-uses op.RemoveDirectory = parts false false PATH 0
-uses op.Link = parts false false PATH PATH
-uses op.List = parts false true PATH 0
-uses op.ChangeBits = parts false true PATH 0
-uses op.Stat = parts false false PATH 0
-uses op.Close = parts true false 0 0
-uses op.Read = parts true true 0 0
-uses op.Write = parts true false 0 BLOCK
-uses op.Seek = parts true true 0 0
-uses op.Duplicate = parts true false 0 0
-uses op.Fork = parts false false 0 0
-uses op.Exit = parts false false 0 0
-uses op.Execute = parts false false PATH 0
-uses op.Unknown = parts true true PATH BLOCK
-
+-- the parts that it uses
 abbrev pub partsOf : Written → Parts
 partsOf w = uses (operationOf (w .call))
 

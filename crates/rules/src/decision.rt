@@ -16,6 +16,12 @@ pub struct Location {
     pub slot: Slot,
 }
 
+// What a path is walked for: the file that it names; or a new name in its parent, which may be there or not.
+pub enum Intent {
+    Find,
+    Create,
+}
+
 // A walk reaches a location, or stops with a refusal at a name of the path, counted from 1: the paper's stop number.
 pub enum Walk {
     Reached(Location),

@@ -32,6 +32,16 @@ pub enum Operation {
     Unknown,
 }
 
+// Which parts a call uses: its descriptor, its number; of its path and its last text, the most bytes that a kept call has, 0 where it has none;
+// and whether it reads into a buffer, whose size is then its number.
+pub struct Parts {
+    pub fd: bool,
+    pub number: bool,
+    pub path: usize,
+    pub data: usize,
+    pub reads: bool,
+}
+
 // Who asks.
 pub struct Subject {
     pub user: u32,

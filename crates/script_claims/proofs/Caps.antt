@@ -1,8 +1,8 @@
--- The caps of `askedBy` show in no answer: the process, the descriptor, the call's number and the last text, one after the other.
+-- The caps of `askedBy` show in no answer: the process, the call's number, the descriptor and the last text, one after the other. A call that does not
+-- use what is capped does not look at it (`unused-unseen`); one that uses it is refused, before and after.
 use Prim.Native.Nat.{ℕ, _+_, _≤_, _<_}
-use mathlib.Core.Path.{_≡_, refl, _∙_}
-use mathlib.Core.Bool.{Bool, true, false, cond}
-use mathlib.Core.Logic.{inl, inr}
+use mathlib.Core.Path.{_≡_, refl, sym, _∙_}
+use mathlib.Core.Bool.{Bool, true, false, cond, false≢true}
 use mathlib.Core.List.{List, [], _∷_}
 use native.Mathlib.Decide.{decLe}
 use native.Mathlib.Omega.{arith}
@@ -13,204 +13,210 @@ use lib.Seq.{length-take-le, take-all}
 use Rattle.rules.specs.Choice.{every}
 use Rattle.rules.specs.Layout.{BLOCK, PROCESSES, DESCRIPTORS, PATH, OPEN-MODE}
 use Rattle.rules.specs.Rights.{writes}
-use Rattle.rules.specs.Store.{Store, Table, pidOf, fdOf, modeAt, view, descOf}
+use Rattle.rules.specs.Store.{Store, Fixed, Table, pidOf, fdOf, modeAt, view, descOf}
 use Rattle.rules.specs.Paths.{shapeOk, pathOk}
-use Rattle.rules.specs.Calls.{Call, operationOf, formOk, pathBelowRoot}
+use Rattle.rules.specs.Calls.{Call, operationOf, uses, Agree, formOk, pathBelowRoot}
 use Rattle.rules.specs.Written.{Written}
 use Rattle.rules.specs.Checks.{need, inUse, held, ofdHeld}
 use Rattle.rules.specs.Decide.{decideClose, decideRead, decideWrite, writeOpen, writeSome, writeFile, decideSeek, decideDuplicate, decideOwn, decide}
 use Rattle.rules.specs.Step.{replyTo, storeAfter, outcomeOf, act, step}
-use Rattle.rules.specs.declared.ids.Pid.{Pid}
-use Rattle.rules.specs.declared.ids.Fd.{Fd}
 use Rattle.rules.specs.declared.ids.Ofd.{Ofd}
 use Rattle.rules.specs.declared.refusal.Refusal.the-variants.{NoProcess, Malformed, NotHeld, WrongDirection, TooLong}
 use Rattle.rules.specs.declared.request.Operation.{Operation}
 use Rattle.rules.specs.declared.request.Operation.the-variants as op
 use Rattle.rules.specs.declared.decision.Decision.{Decision}
 use Rattle.rules.specs.declared.decision.Decision.the-variants.{Refused}
+use Rattle.rules.proofs.Passed.{Fit, granting, refusing, need-fit}
+use Rattle.rules.proofs.Unused.{unused-unseen}
 use Rattle.script_rules.specs.Replay.{BYTE-MAX, asByte, UNKNOWN, readsTooMuch, callFor, bytesFor, askedBy}
 use Rattle.script_claims.specs.Claims.{whole}
-use Rattle.script_claims.proofs.Quiet.{asks, Quiet, Plain, outcome-same, quiet-need, quiet-own}
 
--- ---- a number over 255
+-- what is capped stays, or it is over the cap, and so is what it becomes
+data Cap {A : Type 0} (Over : A → Type 0) (x y : A) : Type 0 where
+  stays : x ≡ y → Cap Over x y
+  over : Over x → Over y → Cap Over x y
 
--- it stays, or it is 255 or more, and so is what it becomes: no process, descriptor or call has such a number
-data Capped (n : ℕ) : ℕ → Type 0 where
-  stays : Capped n n
-  over : {m : ℕ} → BYTE-MAX ≤ n → BYTE-MAX ≤ m → Capped n m
+either : {A B : Type 0} {Over : A → Type 0} {x y : A} → Cap Over x y → (x ≡ y → B) → (Over x → Over y → B) → B
+either (stays e) f g = f e
+either (over h k) f g = g h k
 
-capped : (n : ℕ) → Capped n (asByte n)
+-- ---- a number: no process, descriptor or call has one as large
+
+abbrev Large : ℕ → Type 0
+Large n = BYTE-MAX ≤ n
+
+large : (n : ℕ) → Cap Large n (asByte n)
 unfolding asByte
-capped n = go (decLe n BYTE-MAX)
+large n = go (decLe n BYTE-MAX)
   where
-    go : Dec (n ≤ BYTE-MAX) → Capped n (cond (leb n BYTE-MAX) n BYTE-MAX)
-    go (yes l) = rw (le-leb n BYTE-MAX l) stays
-    go (no g) = rw (lt-leb n BYTE-MAX (omega arith)) (over {m = BYTE-MAX} (omega arith) (omega arith))
+    go : Dec (n ≤ BYTE-MAX) → Cap Large n (cond (leb n BYTE-MAX) n BYTE-MAX)
+    go (yes l) = stays (rw (le-leb n BYTE-MAX l))
+    go (no g) = rw (lt-leb n BYTE-MAX (omega arith)) (over (omega arith) (omega arith))
 
-module _ (Q : List ℕ) (s : Store) where
-  -- ---- the process
+large-call : (w : Written) → Cap Large (whole w .call) (callFor w)
+unfolding callFor
+large-call w = go (readsTooMuch w)
+  where
+    go : (t : Bool) → Cap Large (cond t UNKNOWN (w .call)) (cond t UNKNOWN (asByte (w .call)))
+    go true = stays refl
+    go false = large (w .call)
 
-  no-process : (p : ℕ) → BYTE-MAX ≤ p → inUse (view s .proc) (pidOf p) ≡ false
+unknown : (n : ℕ) → Large n → operationOf n ≡ op.Unknown
+unfolding operationOf
+unknown n h = simp no
+  where
+    no : (k : ℕ) → ltb k BYTE-MAX ≡ true → eqb n k ≡ false
+    no k l = ne-eqb n k (λ e. omega (arith, ltb-true k BYTE-MAX l))
+
+-- ---- the last text: none as long is a path, or can be written
+
+abbrev Long : List ℕ → Type 0
+Long b = BLOCK < length b
+
+long : (w : Written) → Cap Long (w .«data») (bytesFor w)
+unfolding bytesFor
+long w = go (decLe (length (w .«data»)) (BLOCK + 1))
+  where
+    go : Dec (length (w .«data») ≤ BLOCK + 1) → Cap Long (w .«data») (take (BLOCK + 1) (w .«data»))
+    go (yes l) = stays (sym (take-all (BLOCK + 1) (w .«data») l))
+    go (no g) = over (omega arith) (omega (arith, length-take-le (BLOCK + 1) (w .«data») (omega arith)))
+
+not-path : (b : List ℕ) → Long b → pathBelowRoot b ≡ false
+unfolding pathBelowRoot pathOk shapeOk every
+not-path b h = rw (le-leb 1 (length b) (omega arith), lt-leb (length b) PATH (omega arith))
+
+not-link : (path b : List ℕ) → Long b → every (pathOk path ∷ pathBelowRoot b ∷ []) ≡ false
+unfolding every
+not-link path b h = rw (not-path b h) (go (pathOk path))
+  where
+    go : (t : Bool) → cond t false false ≡ false
+    go true = refl
+    go false = refl
+
+too-long : (file openFiles : Table) (e : Ofd) (at n : ℕ) → BLOCK < n → writeFile file openFiles e at n ≡ Refused TooLong 0
+unfolding writeFile need
+too-long file openFiles e at n h = rw (lt-leb (at + n) BLOCK (omega arith))
+
+-- ---- calls that differ in what is capped
+
+module _ (K : Fixed) (s : Store) (k : ℕ) (path buffer : List ℕ) where
+  abbrev asks : (p n i : ℕ) → List ℕ → Call
+  asks p n i b = record { process = pidOf p; call = n; fd = fdOf i; number = k; path = path; «data» = b; buffer = buffer }
+
+  -- a call's form, and then its own checks
+  abbrev formed : Call → Operation → Decision
+  formed c o = need (formOk o k path (c .«data»)) Malformed (decideOwn (K .policy) (view s) c o)
+
+  -- nothing is granted
+  abbrev Refuses : Decision → Type 0
+  Refuses x = Fit (λ n o e. ⊥) x
+
+  refused-same : (c d : Call) (x : Decision) → c .buffer ≡ d .buffer → Refuses x → outcomeOf s c x ≡ outcomeOf s d x
+  unfolding outcomeOf replyTo storeAfter
+  refused-same c d x e (granting n o f g) = absurd g
+  refused-same c d x e (refusing r j) = rw e
+
+  -- two calls o agree in what they use, or are refused alike
+  data Alike (c d : Call) (o : Operation) : Type 0 where
+    agree : Agree (uses o) c d → Alike c d o
+    refuse : (x : Decision) → Refuses x → formed c o ≡ x → formed d o ≡ x → Alike c d o
+
+  alike-same : (p n m i j : ℕ) (a b : List ℕ) (o : Operation) → operationOf n ≡ o → operationOf m ≡ o → Alike (asks p n i a) (asks p m j b) o → step K s (asks p n i a) ≡ step K s (asks p m j b)
+  unfolding step act decide
+  alike-same p n m i j a b o e f (agree h) = unused-unseen K s _ _ (rw e h)
+  alike-same p n m i j a b o e f (refuse x r g h) = rw (e, f, g, h, refused-same (asks p n i a) (asks p m j b) _ refl (need-fit (inUse (view s .proc) (pidOf p)) NoProcess x (λ _. r)))
+
+  -- ---- the process, and the call's number
+
+  no-process : (p : ℕ) → Large p → inUse (view s .proc) (pidOf p) ≡ false
   unfolding inUse every
   no-process p h = rw (le-ltb p PROCESSES (omega arith))
 
-  process-same : (p p′ n : ℕ) (i : Fd) (k : ℕ) (path bytes buffer : List ℕ) → Capped p p′ → act Q s (asks (pidOf p) n i k path bytes buffer) ≡ act Q s (asks (pidOf p′) n i k path bytes buffer)
-  unfolding act decide need outcomeOf replyTo storeAfter
-  process-same p p′ n i k path bytes buffer stays = refl
-  process-same p p′ n i k path bytes buffer (over h g) = rw (no-process _ h, no-process _ g)
+  process-same : (p q n i : ℕ) (b : List ℕ) → Cap Large p q → step K s (asks p n i b) ≡ step K s (asks q n i b)
+  unfolding step act decide need outcomeOf replyTo storeAfter
+  process-same p q n i b (stays e) = rw e
+  process-same p q n i b (over h g) = rw (no-process p h, no-process q g)
 
-  -- ---- the call's number
+  call-same : (p n m i : ℕ) (b : List ℕ) → Cap Large n m → step K s (asks p n i b) ≡ step K s (asks p m i b)
+  unfolding formOk need
+  call-same p n m i b (stays e) = rw e
+  call-same p n m i b (over h g) = alike-same p n m i i b b op.Unknown (unknown n h) (unknown m g) (refuse (Refused Malformed 0) (refusing Malformed 0) refl refl)
 
-  unknown : (n : ℕ) → BYTE-MAX ≤ n → operationOf n ≡ op.Unknown
-  unfolding operationOf
-  unknown n h = simp no
-    where
-      no : (k : ℕ) → ltb k BYTE-MAX ≡ true → eqb n k ≡ false
-      no k l = ne-eqb n k (λ e. omega (arith, ltb-true k BYTE-MAX l))
+  -- ---- the descriptor, and the last text
 
-  call-same : (p : Pid) (n n′ : ℕ) (i : Fd) (k : ℕ) (path bytes buffer : List ℕ) → Capped n n′ → act Q s (asks p n i k path bytes buffer) ≡ act Q s (asks p n′ i k path bytes buffer)
-  unfolding act decide decideOwn formOk
-  call-same p n n′ i k path bytes buffer stays = refl
-  call-same p n n′ i k path bytes buffer (over h g) = rw (unknown n h, unknown n′ g) (outcome-same s p n n′ i i k path bytes bytes buffer _ (inr refl))
-
-  -- ---- the descriptor
-
-  not-held : (p : Pid) (i : ℕ) → BYTE-MAX ≤ i → held (view s .desc) p (fdOf i) ≡ false
+  not-held : (p i : ℕ) → Large i → held (view s .desc) (pidOf p) (fdOf i) ≡ false
   unfolding held descOf
   not-held p i h = rw (le-ltb i DESCRIPTORS (omega arith))
 
-  module _ (p : Pid) (n : ℕ) (k : ℕ) (path bytes buffer : List ℕ) (i i′ : ℕ) (h : BYTE-MAX ≤ i) (g : BYTE-MAX ≤ i′) where
-    abbrev by : ℕ → Call
-    by j = asks p n (fdOf j) k path bytes buffer
-
-    own-same : (o : Operation) → decideOwn Q (view s) (by i) o ≡ decideOwn Q (view s) (by i′) o
-    unfolding decideOwn decideClose decideRead decideWrite decideSeek decideDuplicate need
-    own-same op.Open = refl
-    own-same op.Create = refl
-    own-same op.MakeDirectory = refl
-    own-same op.Unlink = refl
-    own-same op.RemoveDirectory = refl
-    own-same op.Link = refl
-    own-same op.List = refl
-    own-same op.ChangeBits = refl
-    own-same op.Stat = refl
-    own-same op.Close = rw (not-held p i h, not-held p i′ g)
-    own-same op.Read = rw (not-held p i h, not-held p i′ g)
-    own-same op.Write = rw (not-held p i h, not-held p i′ g)
-    own-same op.Seek = rw (not-held p i h, not-held p i′ g)
-    own-same op.Duplicate = rw (not-held p i h, not-held p i′ g)
-    own-same op.Fork = refl
-    own-same op.Exit = refl
-    own-same op.Execute = refl
-    own-same op.Unknown = refl
-
-    by-same : act Q s (by i) ≡ act Q s (by i′)
-    unfolding act decide
-    by-same = rw (own-same (operationOf n)) (outcome-same s p n n (fdOf i) (fdOf i′) k path bytes bytes buffer _ (inr refl))
-
-  fd-same : (p : Pid) (n i i′ k : ℕ) (path bytes buffer : List ℕ) → Capped i i′ → act Q s (asks p n (fdOf i) k path bytes buffer) ≡ act Q s (asks p n (fdOf i′) k path bytes buffer)
-  fd-same p n i i′ k path bytes buffer stays = refl
-  fd-same p n i i′ k path bytes buffer (over h g) = by-same p n k path bytes buffer _ _ h g
-
-  -- ---- the last text
-
-  -- what is over 512 bytes is no path
-  not-path : (b : List ℕ) → BLOCK < length b → pathBelowRoot b ≡ false
-  unfolding pathBelowRoot pathOk shapeOk every
-  not-path b h = rw (le-leb 1 (length b) (omega arith), lt-leb (length b) PATH (omega arith))
-
-  not-link : (path b : List ℕ) → BLOCK < length b → every (pathOk path ∷ pathBelowRoot b ∷ []) ≡ false
-  unfolding every
-  not-link path b h = rw (not-path b h) (go (pathOk path))
-    where
-      go : (t : Bool) → cond t false false ≡ false
-      go true = refl
-      go false = refl
-
-  too-long : (file openFiles : Table) (e : Ofd) (at n : ℕ) → BLOCK < n → writeFile file openFiles e at n ≡ Refused TooLong 0
-  unfolding writeFile need
-  too-long file openFiles e at n h = rw (lt-leb (at + n) BLOCK (omega arith))
-
   -- what becomes of a write of too much
-  unwritten : Pid → Fd → Decision
-  unwritten p i = need (held (view s .desc) p i) NotHeld (need (writes (modeAt (view s .openFiles (ofdHeld (view s .desc) p i .0) OPEN-MODE))) WrongDirection (Refused TooLong 0))
+  unwritten : (p i : ℕ) → Decision
+  unwritten p i = need (held (view s .desc) (pidOf p) (fdOf i)) NotHeld (need (writes (modeAt (view s .openFiles (ofdHeld (view s .desc) (pidOf p) (fdOf i) .0) OPEN-MODE))) WrongDirection (Refused TooLong 0))
 
-  unwritten-quiet : (p : Pid) (i : Fd) → Quiet (unwritten p i)
+  unwritten-refuses : (p i : ℕ) → Refuses (unwritten p i)
   unfolding unwritten
-  unwritten-quiet p i = quiet-need _ _ _ (quiet-need _ _ _ tt)
+  unwritten-refuses p i = need-fit _ _ _ (λ _. need-fit _ _ _ (λ _. refusing TooLong 0))
 
-  write-refused : (p : Pid) (i : Fd) (n : ℕ) → BLOCK < n → decideWrite (view s .tree .file) (view s .openFiles) (view s .desc) p i n ≡ unwritten p i
-  unfolding unwritten decideWrite writeOpen writeSome
-  write-refused p i n h = rw (ne-eqb n 0 (λ e. omega arith), too-long _ _ _ _ n h)
+  module _ (p n i j : ℕ) (a b : List ℕ) (fd : Cap Large i j) (text : Cap Long a b) where
+    abbrev Same : Operation → Type 0
+    Same o = Alike (asks p n i a) (asks p n j b) o
 
-  module _ (p : Pid) (n : ℕ) (i : Fd) (k : ℕ) (path buffer b b′ : List ℕ) (h : BLOCK < length b) (g : BLOCK < length b′) where
-    abbrev with : List ℕ → Call
-    with x = asks p n i k path x buffer
+    agrees : {o : Operation} → (uses o .fd ≡ true → i ≡ j) → ((uses o .«data» ≡ 0 → ⊥) → a ≡ b) → Same o
+    agrees f d = agree (record { process = refl; call = refl; fd = λ u. rw (f u); number = λ u r. refl; path = λ u. refl; «data» = d; buffer = refl })
 
-    -- the call's form, and then its own checks
-    abbrev formed : Operation → List ℕ → Decision
-    formed o x = need (formOk o k path x) Malformed (decideOwn Q (view s) (with x) o)
+    -- neither is used
+    neither : {o : Operation} → uses o .fd ≡ false → uses o .«data» ≡ 0 → Same o
+    neither f z = agrees (λ u. absurd (false≢true (sym f ∙ u))) (λ u. absurd (u z))
 
-    quietly : (d : Decision) → Quiet d → outcomeOf s (with b) d ≡ outcomeOf s (with b′) d
-    quietly d q = outcome-same s p n n i i k path b b′ buffer d (inl q)
+    -- the descriptor is used, alone: a call of good form (t) is refused for it
+    holds : {o : Operation} → uses o .«data» ≡ 0 → (t : Bool) → ((l : ℕ) (x : List ℕ) → Large l → formed (asks p n l x) o ≡ need t Malformed (Refused NotHeld 0)) → Same o
+    holds z t f = either fd (λ e. agrees (λ u. e) (λ u. absurd (u z))) (λ h g. refuse _ (need-fit t Malformed (Refused NotHeld 0) (λ _. refusing NotHeld 0)) (f i a h) (f j b g))
 
-    plainly : (o : Operation) → Plain o → outcomeOf s (with b) (formed o b) ≡ outcomeOf s (with b′) (formed o b)
-    plainly o q = quietly (formed o b) (quiet-need _ _ _ (quiet-own Q (view s) (with b) o q))
+    links : Same op.Link
+    unfolding uses formOk need
+    links = either text (λ e. agrees (λ u. absurd (false≢true u)) (λ u. e)) (λ h g. refuse (Refused Malformed 0) (refusing Malformed 0) (rw (not-link path a h)) (rw (not-link path b g)))
 
-    formed-same : (o : Operation) → outcomeOf s (with b) (formed o b) ≡ outcomeOf s (with b′) (formed o b′)
-    unfolding formOk decideOwn need
-    formed-same op.Open = plainly op.Open tt
-    formed-same op.Create = plainly op.Create tt
-    formed-same op.MakeDirectory = plainly op.MakeDirectory tt
-    formed-same op.Unlink = plainly op.Unlink tt
-    formed-same op.RemoveDirectory = plainly op.RemoveDirectory tt
-    formed-same op.Link = rw (not-link path b h, not-link path b′ g) (quietly (Refused Malformed 0) tt)
-    formed-same op.List = plainly op.List tt
-    formed-same op.ChangeBits = plainly op.ChangeBits tt
-    formed-same op.Stat = plainly op.Stat tt
-    formed-same op.Close = plainly op.Close tt
-    formed-same op.Read = plainly op.Read tt
-    formed-same op.Write = rw (write-refused p i (length b) h, write-refused p i (length b′) g) (quietly _ (unwritten-quiet p i))
-    formed-same op.Seek = plainly op.Seek tt
-    formed-same op.Duplicate = plainly op.Duplicate tt
-    formed-same op.Fork = plainly op.Fork tt
-    formed-same op.Exit = plainly op.Exit tt
-    formed-same op.Execute = plainly op.Execute tt
-    formed-same op.Unknown = plainly op.Unknown tt
+    write-unheld : (l : ℕ) (t : List ℕ) → Large l → formed (asks p n l t) op.Write ≡ Refused NotHeld 0
+    unfolding formOk need decideOwn decideWrite
+    write-unheld l t h = rw (not-held p l h)
 
-    long-same : act Q s (with b) ≡ act Q s (with b′)
-    unfolding act decide need
-    long-same = go (inUse (view s .proc) p)
-      where
-        go : (t : Bool) → outcomeOf s (with b) (need t NoProcess (formed (operationOf n) b)) ≡ outcomeOf s (with b′) (need t NoProcess (formed (operationOf n) b′))
-        go true = formed-same (operationOf n)
-        go false = quietly (Refused NoProcess 0) tt
+    write-long : (l : ℕ) (t : List ℕ) → Long t → formed (asks p n l t) op.Write ≡ unwritten p l
+    unfolding formOk need decideOwn decideWrite writeOpen writeSome unwritten
+    write-long l t h = rw (ne-eqb (length t) 0 (λ e. omega arith), too-long _ _ _ _ (length t) h)
 
-  text-same : (p : Pid) (n : ℕ) (i : Fd) (k : ℕ) (path bytes buffer : List ℕ) → act Q s (asks p n i k path bytes buffer) ≡ act Q s (asks p n i k path (take (BLOCK + 1) bytes) buffer)
-  text-same p n i k path bytes buffer = go (decLe (length bytes) (BLOCK + 1))
-    where
-      go : Dec (length bytes ≤ BLOCK + 1) → act Q s (asks p n i k path bytes buffer) ≡ act Q s (asks p n i k path (take (BLOCK + 1) bytes) buffer)
-      go (yes l) = rw (take-all (BLOCK + 1) bytes l)
-      go (no g) = long-same p n i k path buffer bytes (take (BLOCK + 1) bytes) (omega arith) (omega (arith, length-take-le (BLOCK + 1) bytes (omega arith)))
+    stores : Same op.Write
+    stores = either fd
+        (λ e. either text (λ f. agrees (λ u. e) (λ u. f)) (λ h g. refuse (unwritten p i) (unwritten-refuses p i) (write-long i a h) (rw e (write-long j b g))))
+        (λ h g. refuse (Refused NotHeld 0) (refusing NotHeld 0) (write-unheld i a h) (write-unheld j b g))
 
-  -- ---- all of them
+    alike : (o : Operation) → Same o
+    unfolding uses formOk need decideOwn decideClose decideRead decideSeek decideDuplicate
+    alike op.Open = neither refl refl
+    alike op.Create = neither refl refl
+    alike op.MakeDirectory = neither refl refl
+    alike op.Unlink = neither refl refl
+    alike op.RemoveDirectory = neither refl refl
+    alike op.Link = links
+    alike op.List = neither refl refl
+    alike op.ChangeBits = neither refl refl
+    alike op.Stat = neither refl refl
+    alike op.Close = holds refl true (λ l x h. rw (not-held p l h))
+    alike op.Read = holds refl true (λ l x h. rw (not-held p l h))
+    alike op.Write = stores
+    alike op.Seek = holds refl (leb k BLOCK) (λ l x h. rw (not-held p l h))
+    alike op.Duplicate = holds refl true (λ l x h. rw (not-held p l h))
+    alike op.Fork = neither refl refl
+    alike op.Exit = neither refl refl
+    alike op.Execute = neither refl refl
+    alike op.Unknown = refuse (Refused Malformed 0) (refusing Malformed 0) refl refl
 
-  call-capped : (w : Written) → Capped (whole w .call) (callFor w)
-  unfolding callFor
-  call-capped w = go (readsTooMuch w)
-    where
-      go : (t : Bool) → Capped (cond t UNKNOWN (w .call)) (cond t UNKNOWN (asByte (w .call)))
-      go true = stays
-      go false = capped (w .call)
+    rest-same : step K s (asks p n i a) ≡ step K s (asks p n j b)
+    rest-same = alike-same p n n i j a b (operationOf n) refl refl (alike (operationOf n))
 
-  act-same : (w : Written) → act Q s (whole w) ≡ act Q s (askedBy w)
-  unfolding askedBy bytesFor
-  act-same w =
-      process-same _ _ _ _ _ _ _ _ (capped (w .process .0))
-      ∙ call-same _ _ _ _ _ _ _ _ (call-capped w)
-      ∙ fd-same _ _ _ _ _ _ _ _ (capped (w .fd .0))
-      ∙ text-same _ _ _ _ _ _ _
+-- ---- all of them
 
-  pub caps-unseen : (w : Written) → step Q s (askedBy w) ≡ step Q s (whole w)
-  unfolding step askedBy
-  caps-unseen w = rw (act-same w)
+pub caps-unseen : (K : Fixed) (s : Store) (w : Written) → step K s (askedBy w) ≡ step K s (whole w)
+unfolding askedBy
+caps-unseen K s w = sym (
+    process-same K s _ _ _ _ _ _ _ _ (large (w .process .0))
+    ∙ call-same K s _ _ _ _ _ _ _ _ (large-call w)
+    ∙ rest-same K s _ _ _ _ _ _ _ _ _ (large (w .fd .0)) (long w))

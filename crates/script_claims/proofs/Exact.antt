@@ -12,8 +12,10 @@ use lib.Seq.{split-at, drop-drop, length-take-le, getD-take, ext-getD}
 use Rattle.rules.specs.Choice.{implies}
 use Rattle.rules.specs.Layout.{NUMBER-MAX}
 use Rattle.rules.specs.Paths.{sameAt}
-use Rattle.rules.specs.Written.{Written, Parts, partsOf, numberIf, textIf, capped, normalBy, normal, numbersFit}
+use Rattle.rules.specs.Written.{Written, partsOf, textIf, capped, normalBy, normal, numbersFit}
+use Rattle.rules.specs.declared.request.Parts.{Parts}
 use Rattle.rules.proofs.Scans.{all-at}
+use Rattle.rules.proofs.Written.{number-same}
 use Rattle.script_rules.specs.Text.{NEWLINE, isDigit, numberOk, decimal, hexOk, bytesOf, hexOf}
 use Rattle.script_rules.specs.Blocks.{keyOf, inText, hasKey, afterKey, textLength, textOf, lineOk, afterLine, lineFor, fromCall, fromFd, fromArg, fromPath, fromData, afterBlock, numberLineOk, dataLineOk, numberIn, blockOf, partsOk, textsUsed, linesOk, blockOk, printedBlock, printed, blocks, afterBlocks}
 use Rattle.script_rules.specs.declared.line.Line.{Line}
@@ -63,11 +65,6 @@ data-exact S e =
 
 -- ---- what is read is in the normal form
 
-number-used : (used : Bool) (n : ℕ) → implies (not used) (eqb n 0) ≡ true → numberIf used n ≡ n
-unfolding implies numberIf
-number-used true n e = refl
-number-used false n e = sym (eqb-true n 0 e)
-
 text-used : (most : ℕ) (t : List ℕ) → implies (eqb most 0) (eqb (length t) 0) ≡ true → textIf most t ≡ t
 unfolding implies textIf
 text-used most t e = go (eqb most 0) t e
@@ -83,7 +80,7 @@ normal-exact u w h e =
     let p = every-split (numbersFit u w) _ e in
     let n = every-split (implies (not (u .fd)) (eqb (w .fd .0) 0)) _ (p .0) in
     let t = every-split (implies (eqb (u .path) 0) (eqb (length (w .path)) 0)) _ (every-split (textsUsed u w) [] (p .1) .0) in
-    rw (le-leb (w .number) NUMBER-MAX h, number-used (u .fd) (w .fd .0) (n .0), number-used (u .number) (w .number) (every-split _ [] (n .1) .0), text-used (u .path) (w .path) (t .0), text-used (u .«data») (w .«data») (every-split _ [] (t .1) .0))
+    rw (le-leb (w .number) NUMBER-MAX h, number-same (u .fd) (w .fd .0) (n .0), number-same (u .number) (w .number) (every-split _ [] (n .1) .0), text-used (u .path) (w .path) (t .0), text-used (u .«data») (w .«data») (every-split _ [] (t .1) .0))
 
 -- ---- a block, and a script
 
@@ -91,6 +88,7 @@ normal-exact u w h e =
 joined : (a b c d e f R : List ℕ) {S T U W X Y : List ℕ} → S ≡ a ++ T → T ≡ b ++ U → U ≡ c ++ W → W ≡ d ++ X → X ≡ e ++ Y → Y ≡ f ++ R → a ++ (b ++ (c ++ (d ++ (e ++ f)))) ++ R ≡ S
 joined a b c d e f R s t u w x y = rw (s, t, u, w, x, y) (simp append-assoc)
 
+-- each line is what is printed for its text, the texts are in the normal form, and the six lines are joined
 block-exact : (S : List ℕ) → blockOk S ≡ true → (printedBlock (normal (blockOf S)) ++ afterBlock S ≡ S)
 unfolding blockOk linesOk printedBlock
 block-exact S e =

@@ -5,6 +5,7 @@ use mathlib.Core.Bool.{false}
 use mathlib.Core.List.{List, [], _∷_}
 use native.Mathlib.Omega.{arith}
 use lib.ListN.{length, length-append}
+use Rattle.rules.specs.Store.{Fixed}
 use Rattle.rules.specs.Step.{answers}
 use Rattle.script_rules.specs.Blocks.{blockOk, blocks, afterBlocks}
 use Rattle.script_rules.specs.Replay.{nextCall}
@@ -18,11 +19,11 @@ unfolding afterBlocks
 none-broken zero S b u = ap length u
 none-broken (suc k) S b u = ap length (rw b at u)
 
-module _ (Q : List ℕ) where
-  abbrev Whole : OfRuns Q
-  Whole n S at room s r = (k : ℕ) → Unbroken k S → k ≤ n → length (texts (answers Q s (asked (blocks k S)))) ≤ room → Ended r × (r .calls ≡ asked (blocks k S))
+module _ (K : Fixed) where
+  abbrev Whole : OfRuns K
+  Whole n S at room s r = (k : ℕ) → Unbroken k S → k ≤ n → length (texts (answers K s (asked (blocks k S)))) ≤ room → Ended r × (r .calls ≡ asked (blocks k S))
 
-  stops : WhereStopped Q Whole
+  stops : WhereStopped K Whole
   unfolding afterBlocks blocks asked texts answers
   stops n S at room s why (ended e) zero u l f = (refl, refl)
   stops n S at room s why (ended e) (suc k) u l f = (refl, rw (e, no-block))
@@ -32,12 +33,12 @@ module _ (Q : List ℕ) where
   stops n S at room s why (full b x) zero u l f = absurd (omega (arith, ap length u, block-kept S [] b .shorter))
   stops n S at room s why (full b x) (suc k) u l f = absurd (omega (arith, simp length-append at (rw b at f)))
 
-  takes : WhereTaken Q Whole
+  takes : WhereTaken K Whole
   unfolding afterBlocks blocks asked texts answers
   takes n S at room s b h ih zero u l f = absurd (omega (arith, ap length u, block-kept S [] b .shorter))
   takes n S at room s b h ih (suc k) u l f =
       let r = ih k (rw b at u) (omega arith) (omega (arith, simp length-append at (rw b at f))) in
       (r .0, rw b (ap (λ cs. nextCall S ∷ cs) (r .1)))
 
-  pub whole-run : Always Q Whole
-  whole-run = every-run Q Whole stops takes
+  pub whole-run : Always K Whole
+  whole-run = every-run K Whole stops takes

@@ -9,6 +9,5 @@ pub mod Texts
 pub mod Printed
 pub mod ExactTexts
 pub mod Exact
-pub mod Quiet
 pub mod Caps
 pub mod Proved

@@ -74,6 +74,7 @@ data-line : (S : List ℕ) → dataLineOk S ≡ true → lineOk line.Data S ≡ 
 unfolding dataLineOk
 data-line S e = every-split (lineOk line.Data S) _ e .0
 
+-- line by line: a line's text is the same, and what is left after it is that of A, with B after it
 pub block-kept : (A B : List ℕ) → blockOk A ≡ true → KeptBlock A B
 unfolding blockOk linesOk numberLineOk dataLineOk
 block-kept A B e =

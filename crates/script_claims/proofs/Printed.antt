@@ -4,8 +4,8 @@ use mathlib.Core.Path.{_≡_, refl, _∙_, ap}
 use mathlib.Core.Bool.{Bool, true, false, not, cond}
 use mathlib.Core.List.{List, [], _∷_, _++_, map, append-assoc}
 use native.Mathlib.Omega.{arith}
-use borrow.Author.Tests.{eq-eqb, leb-true}
-use lib.Dec.{eqb, leb}
+use borrow.Author.Tests.{eq-eqb}
+use lib.Dec.{eqb}
 use lib.ListN.{length, getD, drop, List·getD-append}
 use lib.Seq.{take-append-seam, drop-append-seam, getD-append-seam}
 use Rattle.rules.specs.Choice.{every, implies}
@@ -13,6 +13,7 @@ use Rattle.rules.specs.Layout.{NUMBER-MAX}
 use Rattle.rules.specs.Paths.{sameAt}
 use Rattle.rules.specs.Written.{Bytes, Written, partsOf, numberIf, textIf, capped, normalBy, normal, numbersFit}
 use Rattle.rules.proofs.Scans.{all-of}
+use Rattle.rules.proofs.Written.{capped-most}
 use Rattle.script_rules.specs.Text.{NEWLINE, notNewline, isDigit, isLetter, isHex, decimal, hexOf}
 use Rattle.script_rules.specs.Blocks.{keyOf, inText, hasKey, textOf, lineOk, afterLine, lineFor, fromCall, fromFd, fromArg, fromPath, fromData, afterBlock, numberLineOk, dataLineOk, blockOf, partsOk, textsUsed, linesOk, blockOk, printedBlock, printed, Scriptable, blocks, afterBlocks}
 use Rattle.script_rules.specs.declared.line.Line.{Line}
@@ -94,14 +95,6 @@ block-reads S w h e =
     }
 
 -- ---- the normal form can be printed
-
-capped-most : (n : ℕ) → capped n ≤ NUMBER-MAX
-unfolding capped
-capped-most n = by (leb n NUMBER-MAX) refl
-  where
-    by : (t : Bool) → leb n NUMBER-MAX ≡ t → cond t n NUMBER-MAX ≤ NUMBER-MAX
-    by true e = leb-true n NUMBER-MAX e
-    by false e = omega arith
 
 -- what is unused is 0 or empty, and else as it was
 number-if : (used : Bool) (n most : ℕ) → n ≤ most → (numberIf used n ≤ most) × (implies (not used) (eqb (numberIf used n) 0) ≡ true)

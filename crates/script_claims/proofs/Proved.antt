@@ -10,18 +10,18 @@ use Rattle.script_claims.proofs.Cut.{cut, again, roomier, cut-anywhere}
 
 pub claims : Claims
 claims = record {
-  cut = λ n m Q A B at room s e. cut Q B n A at room s e m .1;
-  ended-next = λ n Q A at room s e. cut Q [] n A at room s e 0 .0;
-  cut-anywhere = λ k n p q Q. cut-anywhere Q k n p q;
-  allowed-again = λ n m Q S at room s e. again Q n S at room s .1 e m;
-  room-again = λ n Q S at room more s. roomier Q n S at room s .1 more;
-  run-calls = λ n Q S at room s. own Q n S at room s .calls;
-  run-next = λ n Q S at room s. own Q n S at room s .next;
-  run-text = λ n Q S at room s. own Q n S at room s .text;
-  run-store = λ n Q S at room s. own Q n S at room s .store;
-  run-allowed = λ n Q S at room s. own Q n S at room s .allowed;
-  run-fits = λ n Q S at room s. own Q n S at room s .fits;
-  whole-run = λ n k Q S at room s. whole-run Q n S at room s k;
+  cut = λ n m K A B at room s e. cut K B n A at room s e m .1;
+  ended-next = λ n K A at room s e. cut K [] n A at room s e 0 .0;
+  cut-anywhere = λ k n p q K. cut-anywhere K k n p q;
+  allowed-again = λ n m K S at room s e. again K n S at room s .1 e m;
+  room-again = λ n K S at room more s. roomier K n S at room s .1 more;
+  run-calls = λ n K S at room s. own K n S at room s .calls;
+  run-next = λ n K S at room s. own K n S at room s .next;
+  run-text = λ n K S at room s. own K n S at room s .text;
+  run-store = λ n K S at room s. own K n S at room s .store;
+  run-allowed = λ n K S at room s. own K n S at room s .allowed;
+  run-fits = λ n K S at room s. own K n S at room s .fits;
+  whole-run = λ n k K S at room s. whole-run K n S at room s k;
   printed-back = λ n ws h l. round-trip n ws h l .0;
   printed-whole = λ n ws h l. round-trip n ws h l .1;
   printed-only = printed-only;

@@ -15,6 +15,7 @@ use Rattle.rules.proofs.Scans.{all-at}
 use Rattle.rules.specs.Written.{Bytes}
 use Rattle.script_rules.specs.Computing.{computing}
 use Rattle.script_rules.specs.Text.{NEWLINE, notNewline, ZERO, isDigit, digitsFrom, numberOf, leads, numberOk, digits, decimal, isHex, hexValue, bytesOf, hexOk, hexDigit, hexOf}
+use Rattle.script_rules.proofs.Texts.{length-hex}
 use Rattle.script_claims.proofs.Lists.{every-split, Pass, pass-append}
 
 -- ---- numbers
@@ -125,14 +126,9 @@ hexOf-back (b ∷ bs) h =
     let e : b / 16 * 16 + b % 16 ≡ b = omega arith in
     rw (hex-value (b / 16) (omega (arith, h 0)), hex-value (b % 16) (omega arith), e, hexOf-back bs (λ i. h (suc i)))
 
-hexOf-length : (bs : List ℕ) → length (hexOf bs) ≡ 2 * length bs
-unfolding hexOf
-hexOf-length [] = refl
-hexOf-length (b ∷ bs) = omega (arith, hexOf-length bs)
-
 pub hexOf-ok : (bs : List ℕ) → hexOk (hexOf bs) ≡ true
 unfolding hexOk
-hexOf-ok bs = eq-eqb (length (hexOf bs) % 2) 0 (omega (arith, hexOf-length bs))
+hexOf-ok bs = eq-eqb (length (hexOf bs) % 2) 0 (omega (arith, length-hex bs))
 
 -- ---- paths
 

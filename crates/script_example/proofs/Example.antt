@@ -1,16 +1,15 @@
 -- R-1's example, by computation. A run tests each store that a call finds; here each test is computed once, on the quick view of the cases, and the calls
 -- are then made by `act`.
-use Prim.Native.Nat.{ℕ, zero, suc, _+_, _-_}
+use Prim.Native.Nat.{ℕ, suc, _+_, _-_}
 use mathlib.Core.Path.{_≡_, refl, sym, ap, _∙_, subst}
 use mathlib.Core.Bool.{Bool, true, cond, not}
 use mathlib.Core.List.{List, _∷_}
 use lib.Dec.{eqb, ltb}
 use lib.ListN.{length}
-use Rattle.rules.specs.Store.{Store}
+use Rattle.rules.specs.Store.{Store, Fixed}
 use Rattle.rules.specs.Step.{Outcome, act, step}
-use Rattle.rules.specs.Console.{console, consolePolicy}
-use Rattle.cases.proofs.Quick.{cut, quickShown, entries, named, tally, quickLinks, quickSlot, quickTables, quickSound}
-use Rattle.cases.proofs.Lines.{sound-of, step-act}
+use Rattle.rules.specs.Console.{console, consoleFixed}
+use Rattle.cases.proofs.Quick.{quick, quickSound, sound-of, step-act}
 use Rattle.cases.proofs.Cases.{policy-sound, console-sound}
 use Rattle.script_rules.specs.Computing.{computing}
 use Rattle.script_rules.specs.Blocks.{blockOk, afterBlock}
@@ -34,58 +33,58 @@ onward S at = at + (length S - length (afterBlock S))
 abbrev left : (room : ℕ) → Outcome → ℕ
 left room x = room - length (replyText (x .reply))
 
-turn : (n : ℕ) (Q S : List ℕ) (at room : ℕ) (s : Store) → run (suc n) Q S at room s ≡ turned S at room s (step Q s (nextCall S)) (run n Q (afterBlock S) (onward S at) (left room (step Q s (nextCall S))) (step Q s (nextCall S) .store))
+turn : (n : ℕ) (K : Fixed) (S : List ℕ) (at room : ℕ) (s : Store) → run (suc n) K S at room s ≡ turned S at room s (step K s (nextCall S)) (run n K (afterBlock S) (onward S at) (left room (step K s (nextCall S))) (step K s (nextCall S) .store))
 unfolding run turned
-turn n Q S at room s = refl
+turn n K S at room s = refl
 
 turn-by :
-    (n : ℕ) (Q S : List ℕ) (at room : ℕ) (s : Store) (x : Outcome) (r : Run) → step Q s (nextCall S) ≡ x → run n Q (afterBlock S) (onward S at) (left room x) (x .store) ≡ r →
-    run (suc n) Q S at room s ≡ turned S at room s x r
-turn-by n Q S at room s x r e q =
-    turn n Q S at room s
-    ∙ subst (λ (y : Outcome). turned S at room s y (run n Q (afterBlock S) (onward S at) (left room y) (y .store)) ≡ turned S at room s x r)
+    (n : ℕ) (K : Fixed) (S : List ℕ) (at room : ℕ) (s : Store) (x : Outcome) (r : Run) → step K s (nextCall S) ≡ x → run n K (afterBlock S) (onward S at) (left room x) (x .store) ≡ r →
+    run (suc n) K S at room s ≡ turned S at room s x r
+turn-by n K S at room s x r e q =
+    turn n K S at room s
+    ∙ subst (λ (y : Outcome). turned S at room s y (run n K (afterBlock S) (onward S at) (left room y) (y .store)) ≡ turned S at room s x r)
     (sym e) (ap (turned S at room s x) q)
 
 -- ---- the two calls
 
 abbrev opened : Outcome
-opened = act consolePolicy console (nextCall SCRIPT)
+opened = act consoleFixed console (nextCall SCRIPT)
 
 abbrev REST : List ℕ
 REST = afterBlock SCRIPT
 
 abbrev read : Outcome
-read = act consolePolicy (opened .store) (nextCall REST)
+read = act consoleFixed (opened .store) (nextCall REST)
 
 -- opens all that is computed with
 unfoldable computed : Bool
-unfolding computing turned cut quickShown entries named tally quickLinks quickSlot quickTables quickSound
+unfolding computing turned quick
 computed = true
 
 opened-sound : quickSound (opened .store) ≡ true
 unfolding computed
 opened-sound = refl
 
-opens : step consolePolicy console (nextCall SCRIPT) ≡ opened
-opens = step-act console (nextCall SCRIPT) (sound-of policy-sound console console-sound)
+opens : step consoleFixed console (nextCall SCRIPT) ≡ opened
+opens = step-act consoleFixed console (nextCall SCRIPT) (sound-of consoleFixed policy-sound console console-sound)
 
-reads : step consolePolicy (opened .store) (nextCall REST) ≡ read
-reads = step-act (opened .store) (nextCall REST) (sound-of policy-sound (opened .store) opened-sound)
+reads : step consoleFixed (opened .store) (nextCall REST) ≡ read
+reads = step-act consoleFixed (opened .store) (nextCall REST) (sound-of consoleFixed policy-sound (opened .store) opened-sound)
 
 abbrev room : ℕ
 room = length OUTPUT
 
 -- the run by `act`
 abbrev end : Run
-end = run 0 consolePolicy (afterBlock REST) (onward REST (onward SCRIPT 0)) (left (left room opened) read) (read .store)
+end = run 0 consoleFixed (afterBlock REST) (onward REST (onward SCRIPT 0)) (left (left room opened) read) (read .store)
 
 abbrev acted : Run
 acted = turned SCRIPT 0 room console opened (turned REST (onward SCRIPT 0) (left room opened) (opened .store) read end)
 
-is-acted : run 2 consolePolicy SCRIPT 0 room console ≡ acted
+is-acted : run 2 consoleFixed SCRIPT 0 room console ≡ acted
 is-acted =
-    turn-by 1 consolePolicy SCRIPT 0 room console opened _ opens
-    (turn-by 0 consolePolicy REST (onward SCRIPT 0) (left room opened) (opened .store) read end reads refl)
+    turn-by 1 consoleFixed SCRIPT 0 room console opened _ opens
+    (turn-by 0 consoleFixed REST (onward SCRIPT 0) (left room opened) (opened .store) read end reads refl)
 
 computes : shown acted ≡ 2 ∷ length SCRIPT ∷ 1 ∷ OUTPUT
 unfolding computed

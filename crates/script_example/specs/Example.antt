@@ -5,7 +5,7 @@ use Prim.Native.String.{String}
 use mathlib.Core.Path.{_≡_}
 use mathlib.Core.List.{List, [], _∷_}
 use lib.ListN.{length}
-use Rattle.rules.specs.Console.{console, consolePolicy}
+use Rattle.rules.specs.Console.{console, consoleFixed}
 use Rattle.script_rules.specs.Reasons.{reasonNumber}
 use Rattle.script_rules.specs.Replay.{Run, replay}
 
@@ -26,4 +26,4 @@ shown r = length (r .calls) ∷ r .next ∷ reasonNumber (r .reason) ∷ r .text
 
 -- two calls, all the script, its end; in just the room that the output takes
 abbrev pub Example : Type 0
-Example = shown (replay 2 consolePolicy SCRIPT (length OUTPUT) console) ≡ 2 ∷ length SCRIPT ∷ 1 ∷ OUTPUT
+Example = shown (replay 2 consoleFixed SCRIPT (length OUTPUT) console) ≡ 2 ∷ length SCRIPT ∷ 1 ∷ OUTPUT

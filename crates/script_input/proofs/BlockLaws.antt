@@ -1,27 +1,24 @@
 -- A block as the code reads it is the rules' block.
-use Prim.Native.Nat.{ℕ, zero, suc, _+_, _-_, _≤_, _<_, min}
+use Prim.Native.Nat.{ℕ, _-_, _≤_, _<_}
 use mathlib.Core.Path.{_≡_, refl, sym, _∙_}
-use mathlib.Core.Bool.{Bool, true, false, cond, not, false≢true}
+use mathlib.Core.Bool.{Bool, true, false, cond, false≢true}
 use mathlib.Core.List.{List, [], _∷_}
 use native.Mathlib.Omega.{arith}
-use borrow.Author.Tests.{leb-true, leb-false, le-leb, lt-leb, ne-eqb}
-use lib.Dec.{eqb, leb}
+use borrow.Author.Tests.{leb-true, leb-false, ne-eqb}
+use lib.Dec.{leb}
 use lib.ListN.{length, take}
-use Rattle.rules.specs.Choice.{every, implies}
+use Rattle.rules.specs.Choice.{every}
 use Rattle.rules.specs.Layout.{NUMBER-MAX}
-use Rattle.rules.specs.Calls.{operationOf}
-use Rattle.rules.specs.Written.{Written, uses}
-use Rattle.rules.specs.declared.request.Operation.{Operation}
+use Rattle.rules.specs.Calls.{operationOf, uses, Call, callOf}
 use Rattle.rules.specs.declared.request.Operation.the-variants as op
-use Rattle.rules.specs.Calls.{Call, callOf}
 use Rattle.rules.specs.Store.{zeros}
-use Rattle.rules.specs.Written.{Parts, partsOf, numbersFit, capped}
+use Rattle.rules.specs.Written.{partsOf, capped}
 use Rattle.script_rules.specs.Text.{numberOk, leads, bytesOf}
-use Rattle.script_rules.specs.Blocks.{textOf, lineOk, numberIn, numberLineOk, dataLineOk, linesOk, textsUsed, partsOk, blockOf, blockOk, fromCall, fromFd, fromArg, fromPath, fromData}
-use Rattle.script_rules.specs.Replay.{asByte, reads, readsTooMuch, callFor, roomFor, bytesFor, askedBy}
+use Rattle.script_rules.specs.Blocks.{textOf, lineOk, numberIn, numberLineOk, linesOk, partsOk, blockOf, blockOk, fromCall, fromFd, fromArg, fromPath, fromData}
+use Rattle.script_rules.specs.Replay.{asByte, readsTooMuch, callFor, roomFor, bytesFor, askedBy}
 use Rattle.script_rules.specs.declared.line.Line.{Line}
 use Rattle.script_rules.specs.declared.line.Line.the-variants as line
-use Rattle.script_input.specs.Read.{NO-NUMBER, numberRead, numbersRead, numbered, numbersOk, usedBy, numbersUsed, lengthsUsed, partsUsed, readOk, requestFor}
+use Rattle.script_input.specs.Read.{numberRead, numbersRead, numbered, numbersOk, readOk, requestFor}
 
 -- ---- numbers over 255
 
@@ -100,16 +97,6 @@ module _ (l : Line) (S : List ℕ) where
       by true e = rw (number-read e, e) (number-small e)
       by false e = rw e
 
--- ---- unused parts
-
-not-not : (b : Bool) → not (not b) ≡ b
-not-not true = refl
-not-not false = refl
-
-parts-same : (u : Parts) (w : Written) → partsUsed (record { fd = u .fd; number = u .number; path = not (eqb (u .path) 0); «data» = not (eqb (u .«data») 0) }) (record { process = w .process .0; call = w .call; fd = w .fd .0; number = w .number }) (length (w .path)) (length (w .«data»)) ≡ partsOk u w
-unfolding partsUsed numbersUsed lengthsUsed partsOk numbersFit textsUsed
-parts-same u w = rw (not-not (eqb (u .path) 0), not-not (eqb (u .«data») 0))
-
 -- ---- a block
 
 regroup : (a b c d p q x y : Bool) → (a ≡ true → b ≡ true → c ≡ true → d ≡ true → x ≡ y) → every (every (a ∷ b ∷ c ∷ d ∷ []) ∷ p ∷ q ∷ x ∷ []) ≡ every (every (a ∷ b ∷ c ∷ d ∷ p ∷ q ∷ []) ∷ y ∷ [])
@@ -124,10 +111,9 @@ regroup false b c d p q x y f = refl
 
 module _ (S : List ℕ) where
   read-parts : numberLineOk line.Proc S ≡ true → numberLineOk line.Call (fromCall S) ≡ true → numberLineOk line.Fd (fromFd S) ≡ true → numberLineOk line.Arg (fromArg S) ≡ true
-      → partsUsed (usedBy (operationOf (numberRead line.Call (fromCall S)))) (numbersRead S) (length (textOf line.Path (fromPath S))) (length (bytesOf (textOf line.Data (fromData S)))) ≡ partsOk (partsOf (blockOf S)) (blockOf S)
+      → partsOk (uses (operationOf (numberRead line.Call (fromCall S)))) (numbered (numbersRead S) (textOf line.Path (fromPath S)) (bytesOf (textOf line.Data (fromData S)))) ≡ partsOk (partsOf (blockOf S)) (blockOf S)
   read-parts a b c d =
       rw (number-read line.Proc S a, number-read line.Call (fromCall S) b, number-read line.Fd (fromFd S) c, number-read line.Arg (fromArg S) d)
-      (parts-same (partsOf (blockOf S)) (blockOf S))
 
   -- the code and the rules agree on what is broken
   pub block-read : readOk (numbersRead S) (fromPath S) (fromData S) ≡ blockOk S
@@ -156,7 +142,7 @@ module _ (S : List ℕ) (ok : blockOk S ≡ true) where
   number-kept = rw (number-small line.Arg (fromArg S) (lines-ok .3))
 
   pub call-asked : callOf (requestFor (numbersRead S)) (textOf line.Path (fromPath S)) (take 513 (bytesOf (textOf line.Data (fromData S)))) (zeros (roomFor (numbered (numbersRead S) [] []))) ≡ askedBy (blockOf S)
-  unfolding askedBy bytesFor callFor roomFor readsTooMuch reads
+  unfolding askedBy bytesFor callFor roomFor readsTooMuch
   call-asked =
       rw
       (number-read line.Proc S (lines-ok .0), number-read line.Call (fromCall S) (lines-ok .1), number-read line.Fd (fromFd S) (lines-ok .2), number-read line.Arg (fromArg S) (lines-ok .3), number-kept)

@@ -1,22 +1,20 @@
 -- A block as the code reads it: its numbers, each 65,536 where its line is broken, and the lines of its texts.
 use Prim.Native.Nat.{ℕ, min}
-use mathlib.Core.Bool.{Bool, true, false, cond, not}
+use mathlib.Core.Bool.{Bool, cond}
 use mathlib.Core.List.{List, [], _∷_}
 use lib.Dec.{eqb, leb}
-use lib.ListN.{length}
 use Rattle.rules.specs.Choice.{every, implies}
 use Rattle.rules.specs.Layout.{NUMBER-MAX}
-use Rattle.rules.specs.Calls.{operationOf}
-use Rattle.rules.specs.Written.{Written, uses, capped}
-use Rattle.rules.specs.declared.request.Operation.{Operation}
+use Rattle.rules.specs.Calls.{operationOf, uses}
+use Rattle.rules.specs.Written.{Written, capped}
+use Rattle.rules.specs.declared.request.Parts.{Parts}
 use Rattle.rules.specs.declared.request.Request.{Request}
 use Rattle.script_rules.specs.Text.{bytesOf}
-use Rattle.script_rules.specs.Blocks.{textOf, lineOk, numberIn, numberLineOk, dataLineOk, fromCall, fromFd, fromArg}
+use Rattle.script_rules.specs.Blocks.{textOf, lineOk, numberIn, numberLineOk, dataLineOk, partsOk, fromCall, fromFd, fromArg}
 use Rattle.script_rules.specs.Replay.{asByte, callFor}
 use Rattle.script_rules.specs.declared.line.Line.{Line}
 use Rattle.script_rules.specs.declared.line.Line.the-variants as line
 use Rattle.script_input.specs.declared.blocks.Numbers.{Numbers}
-use Rattle.script_input.specs.declared.blocks.Used.{Used}
 
 abbrev pub NO-NUMBER : ℕ
 NO-NUMBER = 65536
@@ -34,19 +32,9 @@ numbered n path bytes = record { process = record { 0 = n .process }; call = n .
 unfoldable pub numbersOk : Numbers → Bool
 numbersOk n = every (leb (n .process) NUMBER-MAX ∷ leb (n .call) NUMBER-MAX ∷ leb (n .fd) NUMBER-MAX ∷ leb (n .number) NUMBER-MAX ∷ [])
 
--- which parts a call uses
-abbrev pub usedBy : Operation → Used
-usedBy o = record { fd = uses o .fd; number = uses o .number; path = not (eqb (uses o .path) 0); «data» = not (eqb (uses o .«data») 0) }
-
--- parts that are unused are 0 or empty; p and b are the lengths of the texts
-unfoldable pub numbersUsed : Used → Numbers → Bool
-numbersUsed u n = every (implies (not (u .fd)) (eqb (n .fd) 0) ∷ implies (not (u .number)) (eqb (n .number) 0) ∷ [])
-
-unfoldable pub lengthsUsed : Used → ℕ → ℕ → Bool
-lengthsUsed u p b = every (implies (not (u .path)) (eqb p 0) ∷ implies (not (u .«data»)) (eqb b 0) ∷ [])
-
-unfoldable pub partsUsed : Used → Numbers → ℕ → ℕ → Bool
-partsUsed u n p b = every (numbersUsed u n ∷ lengthsUsed u p b ∷ [])
+-- a text that is unused is empty: p and b are the lengths of the texts
+unfoldable pub lengthsUsed : Parts → (p b : ℕ) → Bool
+lengthsUsed u p b = every (implies (eqb (u .path) 0) (eqb p 0) ∷ implies (eqb (u .«data») 0) (eqb b 0) ∷ [])
 
 -- a block with the numbers n, from its path's line on, from its data's line on
 unfoldable pub readOk : Numbers → (P D : List ℕ) → Bool
@@ -55,7 +43,7 @@ readOk n P D =
     (numbersOk n
     ∷ lineOk line.Path P
     ∷ dataLineOk D
-    ∷ partsUsed (usedBy (operationOf (n .call))) n (length (textOf line.Path P)) (length (bytesOf (textOf line.Data D)))
+    ∷ partsOk (uses (operationOf (n .call))) (numbered n (textOf line.Path P) (bytesOf (textOf line.Data D)))
     ∷ [])
 
 -- the numbers of the call that it asks for

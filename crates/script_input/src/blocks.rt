@@ -1,16 +1,17 @@
 // A block: six lines.
 ghost use mathlib.Core.Path.{_≡_};
-ghost use mathlib.Core.Bool.{not};
+ghost use mathlib.Core.List.{[], _∷_};
 ghost use Prim.Native.Nat.{min};
 ghost use lib.ListN.{length};
-ghost use Rattle.rules.specs.Choice.{implies};
-ghost use Rattle.rules.specs.Calls.{operationOf};
+ghost use Rattle.rules.specs.Choice.{every, implies};
+ghost use Rattle.rules.specs.Calls.{operationOf, uses};
+ghost use Rattle.rules.specs.Written.{numbersFit};
 ghost use Rattle.script_rules.specs.Text.{numberOk, bytesOf, hexOk};
-ghost use Rattle.script_rules.specs.Blocks.{textOf, numberIn, numberLineOk, dataLineOk, fromPath};
+ghost use Rattle.script_rules.specs.Blocks.{textOf, numberIn, numberLineOk, dataLineOk, partsOk, fromPath};
 ghost use Rattle.script_rules.specs.declared.line.Line.the-variants as line;
-ghost use Rattle.script_input.specs.Read.{NO-NUMBER, numberRead, numbersRead, numbersOk, usedBy, numbersUsed, lengthsUsed, partsUsed, readOk};
+ghost use Rattle.script_input.specs.Read.{NO-NUMBER, numberRead, numbersRead, numbered, numbersOk, lengthsUsed, readOk};
 use crate::requests::as_byte;
-use rules::request::Operation;
+use rules::request::Parts;
 use script_rules::line::Line;
 use script_text::lines::after_line;
 use script_text::lines::line_ok;
@@ -20,6 +21,7 @@ use script_text::numbers::NUMBER_MAX;
 use script_text::numbers::number_of;
 use script_text::numbers::number_ok;
 use tables::calls::operation_of;
+use tables::calls::uses;
 
 // A block's numbers, each `NO_NUMBER` where its line is broken.
 pub struct Numbers {
@@ -27,14 +29,6 @@ pub struct Numbers {
     pub call: u32,
     pub fd: u32,
     pub number: u32,
-}
-
-// Which parts a call uses.
-pub struct Used {
-    pub fd: bool,
-    pub number: bool,
-    pub path: bool,
-    pub data: bool,
 }
 
 fn number_text_ok(s: &[u8], l: Line) -> bool
@@ -136,72 +130,36 @@ pub fn bytes_count(t: &[u8]) -> usize
     t.len() / 2
 }
 
-fn parts(fd: bool, number: bool, path: bool, data: bool) -> Used
-    ensures { λ r. ⌜ r ≡ record { fd = fd; number = number; path = path; «data» = «data» } ⌝ }
-{
-    Used {
-        fd: fd,
-        number: number,
-        path: path,
-        data: data,
-    }
-}
-
-fn used_by(o: Operation) -> Used
-    ensures { λ r. ⌜ r ≡ usedBy o ⌝ }
-{
-    match o {
-        Operation::Open => parts(false, true, true, false),
-        Operation::Create => parts(false, true, true, false),
-        Operation::MakeDirectory => parts(false, true, true, false),
-        Operation::Unlink => parts(false, false, true, false),
-        Operation::RemoveDirectory => parts(false, false, true, false),
-        Operation::Link => parts(false, false, true, true),
-        Operation::List => parts(false, true, true, false),
-        Operation::ChangeBits => parts(false, true, true, false),
-        Operation::Stat => parts(false, false, true, false),
-        Operation::Close => parts(true, false, false, false),
-        Operation::Read => parts(true, true, false, false),
-        Operation::Write => parts(true, false, false, true),
-        Operation::Seek => parts(true, true, false, false),
-        Operation::Duplicate => parts(true, false, false, false),
-        Operation::Fork => parts(false, false, false, false),
-        Operation::Exit => parts(false, false, false, false),
-        Operation::Execute => parts(false, false, true, false),
-        Operation::Unknown => parts(true, true, true, true),
-    }
-}
-
 // A part that is unused is 0.
-fn left_out(used: bool, zero: bool) -> bool
-    ensures { λ r. ⌜ r ≡ implies (not used) zero ⌝ }
+fn left_out(unused: bool, zero: bool) -> bool
+    ensures { λ r. ⌜ r ≡ implies unused zero ⌝ }
 {
-    if !used {
+    if unused {
         return zero;
     }
     true
 }
 
-fn numbers_used(u: Used, n: Numbers) -> bool
-    ensures { λ r. ⌜ r ≡ numbersUsed u n ⌝ }
+fn numbers_used(u: Parts, n: Numbers) -> bool
+    ensures { λ r. ⌜ r ≡ numbersFit u (numbered n [] []) ⌝ }
 {
-    if !left_out(u.fd, n.fd == 0) {
+    if !left_out(!u.fd, n.fd == 0) {
         return false;
     }
-    left_out(u.number, n.number == 0)
+    left_out(!u.number, n.number == 0)
 }
 
-fn lengths_used(u: Used, p: usize, b: usize) -> bool
+fn lengths_used(u: Parts, p: usize, b: usize) -> bool
     ensures { λ r. ⌜ r ≡ lengthsUsed u p b ⌝ }
 {
-    if !left_out(u.path, p == 0) {
+    if !left_out(u.path == 0, p == 0) {
         return false;
     }
-    left_out(u.data, b == 0)
+    left_out(u.data == 0, b == 0)
 }
 
-fn parts_used(u: Used, n: Numbers, p: usize, b: usize) -> bool
-    ensures { λ r. ⌜ r ≡ partsUsed u n p b ⌝ }
+fn parts_used(u: Parts, n: Numbers, p: usize, b: usize) -> bool
+    ensures { λ r. ⌜ r ≡ every (numbersFit u (numbered n [] []) ∷ lengthsUsed u p b ∷ []) ⌝ }
 {
     if !numbers_used(u, n) {
         return false;
@@ -210,9 +168,9 @@ fn parts_used(u: Used, n: Numbers, p: usize, b: usize) -> bool
 }
 
 fn parts_ok(n: Numbers, p: &[u8], d: &[u8]) -> bool
-    ensures { λ r. ⌜ r ≡ partsUsed (usedBy (operationOf (n .call))) n (length (textOf line.Path (now (p .entry)))) (length (bytesOf (textOf line.Data (now (d .entry))))) ⌝ }
+    ensures { λ r. ⌜ r ≡ partsOk (uses (operationOf (n .call))) (numbered n (textOf line.Path (now (p .entry))) (bytesOf (textOf line.Data (now (d .entry))))) ⌝ }
 {
-    let u = used_by(operation_of(as_byte(n.call)));
+    let u = uses(operation_of(as_byte(n.call)));
     parts_used(
         u,
         n,

@@ -12,12 +12,11 @@ use rules::ids::Fd;
 use rules::ids::Pid;
 use rules::request::Request;
 use script_text::numbers::NUMBER_MAX;
+use tables::calls::operation_of;
+use tables::calls::uses;
 use tables::layout::BLOCK;
 
-// The call that reads.
-const READ: u32 = 11;
-
-// The most that it may ask for in a script.
+// The most that a read may ask for in a script.
 const READ_MAX: u32 = BLOCK as u32;
 
 // No process, call or descriptor has a number over 255: all such are as 255.
@@ -44,7 +43,7 @@ fn as_number(n: u32) -> u16
 fn is_read(n: Numbers) -> bool
     ensures { λ r. ⌜ r ≡ reads (numbered n [] []) ⌝ }
 {
-    n.call == READ
+    uses(operation_of(as_byte(n.call))).reads
 }
 
 fn reads_too_much(n: Numbers) -> bool

@@ -13,7 +13,7 @@ use Rattle.script_rules.specs.Text.{digits, decimal, hexOf, little}
 use Rattle.script_rules.specs.Answers.{statBytes, fieldBytes, dataOf, answerText, lineWith, ANSWER, VALUE, DATA}
 use borrow.Author.Tests.{le-leb, lt-leb}
 use Rattle.script_output.specs.Writes.{Room, Wrote, dataHex, linesOf, writes, written}
-use Rattle.script_output.proofs.HexLaws.{length-hex}
+use Rattle.script_rules.proofs.Texts.{length-hex}
 
 pub hex-append : (xs ys : List ℕ) → hexOf (xs ++ ys) ≡ hexOf xs ++ hexOf ys
 unfolding hexOf

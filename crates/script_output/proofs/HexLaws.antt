@@ -1,18 +1,14 @@
 -- Laws of hex as it is written.
 use Prim.Native.Nat.{ℕ, suc, _+_, _*_, _/_, _%_, _≤_, _<_}
-use mathlib.Core.Path.{_≡_, refl}
-use mathlib.Core.List.{List, [], _∷_}
+use mathlib.Core.Path.{_≡_}
+use mathlib.Core.List.{List, _∷_}
 use native.Mathlib.Numerals.{add-one}
 use native.Mathlib.Omega.{arith}
 use lib.ListN.{length, getD, set, drop, drop-of-length-le}
 use lib.Seq.{sets, drop-cons}
 use Rattle.script_rules.specs.Text.{hexOf, hexDigit}
+use Rattle.script_rules.proofs.Texts.{length-hex}
 use Rattle.script_output.specs.Writes.{Room, Wrote}
-
-pub length-hex : (bs : List ℕ) → length (hexOf bs) ≡ 2 * length bs
-unfolding hexOf
-length-hex [] = refl
-length-hex (b ∷ bs) = omega (arith, length-hex bs)
 
 -- ---- writing: i bytes are written
 

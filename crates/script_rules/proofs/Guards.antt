@@ -8,10 +8,10 @@ use mathlib.Core.Bool.{Bool, true, false}
 use mathlib.Core.List.{List, [], _∷_, _++_}
 use lib.ListN.{length, replicate}
 use Rattle.rules.specs.Choice.{every, some}
-use Rattle.rules.specs.Store.{store}
+use Rattle.rules.specs.Store.{store, fixed}
 use Rattle.rules.specs.Written.{Written}
 use Rattle.rules.specs.Step.{act}
-use Rattle.rules.specs.Console.{console, consolePolicy}
+use Rattle.rules.specs.Console.{console, consoleFixed}
 use Rattle.rules.specs.declared.answer.Answer.{Answer}
 use Rattle.script_rules.specs.Computing.{computing}
 use Rattle.script_rules.specs.Text.{numberOk, decimal, hexOf, bytesOf}
@@ -143,7 +143,7 @@ largest-read = refl
 
 -- "read size (at most 512, else 3)", "3, after 2"
 answered : String → ℕ
-answered s = act consolePolicy console (askedBy (blockOf (bytes s))) .reply .refusal
+answered s = act consoleFixed console (askedBy (blockOf (bytes s))) .reply .refusal
 
 larger-read : answered "proc=2\ncall=11\nfd=0\narg=513\npath=\ndata=\n" ∷ answered "proc=9\ncall=11\nfd=0\narg=513\npath=\ndata=\n" ∷ [] ≡ 3 ∷ 2 ∷ []
 unfolding computing answered
@@ -174,7 +174,7 @@ abbrev shown : Run → List ℕ
 shown r = length (r .calls) ∷ r .next ∷ reasonNumber (r .reason) ∷ r .text
 
 ran : (allowance : ℕ) → List ℕ → (room : ℕ) → List ℕ
-ran n S room = shown (run n [] S 0 room (store [] [] [] []))
+ran n S room = shown (run n (fixed []) S 0 room (store [] [] [] []))
 
 -- 23 bytes
 REFUSED : List ℕ

@@ -1,2 +1,3 @@
--- What the rules of scripts are held to.
+-- What the rules of scripts are held to, and laws of them.
 pub mod Guards
+pub mod Texts

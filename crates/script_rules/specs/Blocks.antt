@@ -10,7 +10,8 @@ use Rattle.rules.specs.Scan.{all}
 use Rattle.rules.specs.Layout.{NUMBER-MAX}
 use Rattle.rules.specs.Store.{pidOf, fdOf}
 use Rattle.rules.specs.Paths.{span, sameAt}
-use Rattle.rules.specs.Written.{BYTE, Written, Parts, partsOf, numbersFit, normal}
+use Rattle.rules.specs.Written.{BYTE, Written, partsOf, numbersFit, normal}
+use Rattle.rules.specs.declared.request.Parts.{Parts}
 use Rattle.script_rules.specs.Text.{NEWLINE, notNewline, isDigit, isHex, numberOf, numberOk, decimal, bytesOf, hexOk, hexOf}
 use Rattle.script_rules.specs.declared.line.Line.{Line}
 use Rattle.script_rules.specs.declared.line.Line.the-variants as line

@@ -5,8 +5,8 @@ use Rattle.script_rules.specs.Text.{notNewline, isDigit, digitsFrom, lea
 use Rattle.script_rules.specs.Blocks.{hasKey, textOf, lineOk, afterLine, numberLineOk, dataLineOk, textsUsed, partsOk, linesOk, blockOk, printedBlock, printed, blocks, afterBlocks}
 use Rattle.script_rules.specs.Answers.{statBytes, fieldBytes, dataOf, answerText}
 use Rattle.script_rules.specs.Reasons.{reasonNumber}
-use Rattle.script_rules.specs.Replay.{asByte, reads, readsTooMuch, callFor, roomFor, bytesFor, askedBy, run}
+use Rattle.script_rules.specs.Replay.{asByte, readsTooMuch, callFor, roomFor, bytesFor, askedBy, run}
 
 unfoldable pub computing : Bool
-unfolding rules-computing notNewline isDigit digitsFrom leads numberOk digits isLetter isHex hexValue bytesOf hexOk hexDigit hexOf little hasKey textOf lineOk afterLine numberLineOk dataLineOk textsUsed partsOk linesOk blockOk printedBlock printed blocks afterBlocks statBytes fieldBytes dataOf answerText reasonNumber asByte reads readsTooMuch callFor roomFor bytesFor askedBy run
+unfolding rules-computing notNewline isDigit digitsFrom leads numberOk digits isLetter isHex hexValue bytesOf hexOk hexDigit hexOf little hasKey textOf lineOk afterLine numberLineOk dataLineOk textsUsed partsOk linesOk blockOk printedBlock printed blocks afterBlocks statBytes fieldBytes dataOf answerText reasonNumber asByte readsTooMuch callFor roomFor bytesFor askedBy run
 computing = true

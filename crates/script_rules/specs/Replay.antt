@@ -6,9 +6,9 @@ use lib.Dec.{eqb, ltb, leb}
 use lib.ListN.{length, take}
 use Rattle.rules.specs.Choice.{every}
 use Rattle.rules.specs.Layout.{BLOCK}
-use Rattle.rules.specs.Store.{Store, pidOf, fdOf, zeros}
+use Rattle.rules.specs.Store.{Store, Fixed, pidOf, fdOf, zeros}
 use Rattle.rules.specs.Calls.{Call}
-use Rattle.rules.specs.Written.{Written, CALL-READ}
+use Rattle.rules.specs.Written.{Written, partsOf}
 use Rattle.rules.specs.Step.{Reply, step, answerOf}
 use Rattle.script_rules.specs.Blocks.{blockOk, blockOf, afterBlock}
 use Rattle.script_rules.specs.Answers.{answerText}
@@ -24,8 +24,8 @@ BYTE-MAX = 255
 unfoldable pub asByte : ℕ → ℕ
 asByte n = cond (leb n BYTE-MAX) n BYTE-MAX
 
-unfoldable pub reads : Written → Bool
-reads w = eqb (w .call) CALL-READ
+abbrev pub reads : Written → Bool
+reads w = partsOf w .reads
 
 -- "read size (at most 512, else 3)"
 unfoldable pub readsTooMuch : Written → Bool
@@ -65,8 +65,8 @@ abbrev pub replyText : Reply → List ℕ
 replyText r = answerText (answerOf r) (r .buffer)
 
 -- what is written for it
-abbrev pub nextText : (Q S : List ℕ) → Store → List ℕ
-nextText Q S s = replyText (step Q s (nextCall S) .reply)
+abbrev pub nextText : Fixed → (S : List ℕ) → Store → List ℕ
+nextText K S s = replyText (step K s (nextCall S) .reply)
 
 -- ---- the run
 
@@ -87,15 +87,15 @@ took c text r = record { calls = c ∷ r .calls; text = text ++ r .text; next = 
 
 -- "It stops before the first of these that holds": n calls are still allowed, S is left of the script and begins at `at`, and so many bytes of the
 -- output are left
-unfoldable pub run : (n : ℕ) (Q S : List ℕ) (at room : ℕ) → Store → Run
-run zero Q S at room s = cond (eqb (length S) 0) (stopped reason.End at s) (stopped reason.Allowance at s)
-run (suc n) Q S at room s =
+unfoldable pub run : (n : ℕ) → Fixed → (S : List ℕ) (at room : ℕ) → Store → Run
+run zero K S at room s = cond (eqb (length S) 0) (stopped reason.End at s) (stopped reason.Allowance at s)
+run (suc n) K S at room s =
     cond (eqb (length S) 0) (stopped reason.End at s)
     (cond (not (blockOk S)) (stopped reason.Broken at s)
-    (cond (ltb room (length (nextText Q S s))) (stopped reason.Room at s)
-    (took (nextCall S) (nextText Q S s)
-    (run n Q (afterBlock S) (at + (length S - length (afterBlock S))) (room - length (nextText Q S s)) (step Q s (nextCall S) .store)))))
+    (cond (ltb room (length (nextText K S s))) (stopped reason.Room at s)
+    (took (nextCall S) (nextText K S s)
+    (run n K (afterBlock S) (at + (length S - length (afterBlock S))) (room - length (nextText K S s)) (step K s (nextCall S) .store)))))
 
 -- "The runner is allowed a number of calls": a script from its start, with an output of so many bytes
-abbrev pub replay : (allowance : ℕ) (Q S : List ℕ) (room : ℕ) → Store → Run
-replay allowance Q S room s = run allowance Q S 0 room s
+abbrev pub replay : (allowance : ℕ) → Fixed → (S : List ℕ) (room : ℕ) → Store → Run
+replay allowance K S room s = run allowance K S 0 room s

@@ -1,73 +1,59 @@
 -- Demand 3 of a script's runs, proved. A run sees nothing of a store but its answers, so on two stores that answer every list of calls alike it is the same.
-use Prim.Native.Nat.{ℕ, zero, suc, _+_, _-_}
-use mathlib.Core.Path.{_≡_, refl, ap}
-use mathlib.Core.Bool.{Bool, true, false, not, cond}
+use mathlib.Core.Path.{_≡_, ap}
 use mathlib.Core.List.{List, [], _∷_}
-use lib.Dec.{eqb, ltb}
+use borrow.Author.Tests.{ne-eqb}
 use lib.ListN.{length, getD, drop}
-use Rattle.rules.specs.Store.{Store}
+use Rattle.rules.specs.Store.{Store, Fixed}
 use Rattle.rules.specs.Calls.{Call}
 use Rattle.rules.specs.Step.{Reply, step, answers, final}
-use Rattle.script_rules.specs.Blocks.{blockOk, afterBlock}
-use Rattle.script_rules.specs.Replay.{Run, run, stopped, took, nextCall, nextText}
-use Rattle.script_rules.specs.declared.replayed.Reason.the-variants as reason
+use Rattle.script_rules.specs.Replay.{Run, run, took, nextCall, nextText, replyText}
+use Rattle.script_claims.proofs.Runs.{OfRuns, WhereStopped, WhereTaken, Always, ended, spent, broken, full, run-none, run-full, run-takes, every-run}
 use Rattle.script_claims.proofs.Proved.{claims}
 use Rattle.secrecy.specs.Claim.{Claimed}
 use Rattle.secrecy.proofs.Secrecy.{secrecy}
-use Rattle.script_secrecy.specs.Claim.{SameRuns, ScriptSecrecy}
+use Rattle.script_secrecy.specs.Claim.{ScriptSecrecy}
 
 -- the run r, but with t as its last store: what is claimed of all the rest is one equation
 abbrev leaving : Store → Run → Run
 leaving t r = record { calls = r .calls; text = r .text; next = r .next; reason = r .reason; store = t }
 
-module _ (Q : List ℕ) where
+module _ (K : Fixed) where
   -- every list of calls has the same answers
   abbrev Alike : Store → Store → Type 0
-  Alike s s′ = (cs : List Call) → answers Q s cs ≡ answers Q s′ cs
+  Alike s s′ = (cs : List Call) → answers K s cs ≡ answers K s′ cs
 
   module _ (s s′ : Store) (alike : Alike s s′) (c : Call) where
-    same-reply : step Q s c .reply ≡ step Q s′ c .reply
+    same-reply : step K s c .reply ≡ step K s′ c .reply
     unfolding answers
-    same-reply = ap (λ (rs : List Reply). getD rs 0 (step Q s c .reply)) (alike (c ∷ []))
+    same-reply = ap (λ (rs : List Reply). getD rs 0 (step K s c .reply)) (alike (c ∷ []))
 
-    alike-after : Alike (step Q s c .store) (step Q s′ c .store)
+    alike-after : Alike (step K s c .store) (step K s′ c .store)
     unfolding answers
     alike-after cs = ap (λ (rs : List Reply). drop 1 rs) (alike (c ∷ cs))
 
-  same-run : (n : ℕ) (S : List ℕ) (at room : ℕ) (s s′ t : Store) → Alike s s′ → leaving t (run n Q S at room s) ≡ leaving t (run n Q S at room s′)
+  -- the run r on s is the run on a store that is alike
+  abbrev SameRun : OfRuns K
+  SameRun n S at room s r = (s′ t : Store) → Alike s s′ → leaving t r ≡ leaving t (run n K S at room s′)
+
+  stops : WhereStopped K SameRun
   unfolding run
-  same-run zero S at room s s′ t alike = go (eqb (length S) 0)
-    where
-      turn : Bool → Store → Run
-      turn e u = cond e (stopped reason.End at u) (stopped reason.Allowance at u)
+  stops n S at room s why (ended e) s′ t alike = rw (e, run-none K n at room s′)
+  stops n S at room s why (spent x) s′ t alike = rw (ne-eqb (length S) 0 x)
+  stops n S at room s why (broken x b) s′ t alike = rw (ne-eqb (length S) 0 x, b)
+  stops n S at room s why (full {n = m} b x) s′ t alike = rw (run-full K m S at room s′ b (rw (← same-reply s s′ alike (nextCall S)) x))
 
-      go : (e : Bool) → leaving t (turn e s) ≡ leaving t (turn e s′)
-      go true = refl
-      go false = refl
-  same-run (suc n) S at room s s′ t alike =
-      rw (same-reply s s′ alike c) (go (eqb (length S) 0) (blockOk S) (ltb room (length text)) (same-run n _ _ _ _ _ t (alike-after s s′ alike c)))
-    where
-      c : Call
-      c = nextCall S
+  takes : WhereTaken K SameRun
+  takes n S at room s b f ih s′ t alike =
+      let same : nextText K S s ≡ nextText K S s′ = ap replyText (same-reply s s′ alike (nextCall S)) in
+      let rest = ih (step K s′ (nextCall S) .store) t (alike-after s s′ alike (nextCall S)) in
+      rw (run-takes K n S at room s′ b (rw (← same) f), ← same) (ap (took (nextCall S) (nextText K S s)) rest)
 
-      text : List ℕ
-      text = nextText Q S s′
-
-      rest : Store → Run
-      rest u = run n Q (afterBlock S) (at + (length S - length (afterBlock S))) (room - length text) (step Q u c .store)
-
-      turn : (e b f : Bool) → Store → Run
-      turn e b f u = cond e (stopped reason.End at u) (cond (not b) (stopped reason.Broken at u) (cond f (stopped reason.Room at u) (took c text (rest u))))
-
-      go : (e b f : Bool) → leaving t (rest s) ≡ leaving t (rest s′) → leaving t (turn e b f s) ≡ leaving t (turn e b f s′)
-      go true b f h = refl
-      go false false f h = refl
-      go false true true h = refl
-      go false true false h = ap (took c text) h
+  same-run : Always K SameRun
+  same-run = every-run K SameRun stops takes
 
 -- by demand 3 the answers are the same, so the runs are; their last stores are those of the list of calls (`run-store`), of which demand 3 speaks
 pub script-secrecy : ScriptSecrecy
-script-secrecy Q f s s′ h n S at room = record {
+script-secrecy K f s s′ h n S at room = record {
   same-calls = calls;
   same-text = ap (λ (x : Run). x .text) same;
   same-next = ap (λ (x : Run). x .next) same;
@@ -77,22 +63,22 @@ script-secrecy Q f s s′ h n S at room = record {
 }
   where
     r : Run
-    r = run n Q S at room s
+    r = run n K S at room s
 
     r′ : Run
-    r′ = run n Q S at room s′
+    r′ = run n K S at room s′
 
     same : leaving s r ≡ leaving s r′
-    same = same-run Q n S at room s s′ s (λ cs. secrecy Q f s s′ h cs .same-answers)
+    same = same-run K n S at room s s′ s (λ cs. secrecy K f s s′ h cs .same-answers)
 
     calls : r .calls ≡ r′ .calls
     calls = ap (λ (x : Run). x .calls) same
 
-    claimed : Claimed Q f s s′ (r .calls)
-    claimed = secrecy Q f s s′ h (r .calls)
+    claimed : Claimed K f s s′ (r .calls)
+    claimed = secrecy K f s s′ h (r .calls)
 
-    store : r .store ≡ final Q s (r .calls)
-    store = claims .run-store n Q S at room s
+    store : r .store ≡ final K s (r .calls)
+    store = claims .run-store n K S at room s
 
-    store′ : r′ .store ≡ final Q s′ (r .calls)
-    store′ = rw calls (claims .run-store n Q S at room s′)
+    store′ : r′ .store ≡ final K s′ (r .calls)
+    store′ = rw calls (claims .run-store n K S at room s′)

@@ -1,10 +1,10 @@
 -- Laws of one block: its call is made just where its answer has room.
-use Prim.Native.Nat.{ℕ, zero, suc, _+_, _-_, _*_, _≤_, _<_, min}
+use Prim.Native.Nat.{ℕ, zero, suc, _+_, _-_, _≤_, min}
 use mathlib.Core.Path.{_≡_, refl, sym, _∙_, ap}
-use mathlib.Core.Bool.{Bool, true, false, cond, false≢true}
+use mathlib.Core.Bool.{Bool, true, false, cond}
 use mathlib.Core.List.{List, []}
 use native.Mathlib.Omega.{arith}
-use borrow.Author.Tests.{leb-true, leb-false, eqb-true, eqb-false, ne-eqb}
+use borrow.Author.Tests.{leb-true, leb-false, eqb-true, eqb-false}
 use lib.Dec.{eqb, leb}
 use lib.ListN.{length, take, drop, replicate, length-take, length-replicate, take-append-drop}
 use lib.Seq.{sets, sets-eq, length-sets, length-take-le, take-all, take-append-seam}
@@ -12,7 +12,7 @@ use native.Mathlib.Nat.{not-suc-le-zero, le-of-suc-le-suc, le-of-lt, sub-zero}
 use Rattle.rules.proofs.Lists.{sets-append, sets-out}
 use Rattle.rules.specs.Choice.{every}
 use Rattle.rules.specs.Layout.{BLOCK}
-use Rattle.rules.specs.Store.{Store, zeros}
+use Rattle.rules.specs.Store.{Store, Fixed, zeros}
 use Rattle.rules.specs.Written.{Written as Asked}
 use Rattle.rules.specs.Calls.{Call}
 use Rattle.rules.specs.Step.{storeAfter, outcomeOf, step, answerOf}
@@ -40,13 +40,13 @@ use Rattle.script_turn.specs.Turns.{Served, served, servedBy, blockServe
 pub text-some : (a : Answer) (buffer : List ℕ) → 1 ≤ length (answerText a buffer)
 text-some a buffer = omega (arith, text-length a buffer)
 
-module _ (Q out : List ℕ) (at : ℕ) (s : Store) (c : Call) (d : Decision) (j : d ≡ judged Q s c) where
-  stepped : step Q s c ≡ outcomeOf s c d
-  stepped = step-judged Q s c ∙ rw j
+module _ (K : Fixed) (out : List ℕ) (at : ℕ) (s : Store) (c : Call) (d : Decision) (j : d ≡ judged K s c) where
+  stepped : step K s c ≡ outcomeOf s c d
+  stepped = step-judged K s c ∙ rw j
 
   module _ (a : Answer) (b : List ℕ) (said-so : said a b ≡ answeredBy s d (c .buffer)) where
     abbrev text : List ℕ
-    text = replyText (step Q s c .reply)
+    text = replyText (step K s c .reply)
 
     same-text : answerText a b ≡ text
     same-text =
@@ -62,12 +62,12 @@ module _ (Q out : List ℕ) (at : ℕ) (s : Store) (c : Call) (d : Decision) (j 
       some = rw same-text at (text-some a b)
 
       -- it has no room: nothing is done
-      pub unserved : eqb n 0 ≡ true → served 0 after s ≡ servedBy Q out at s c
+      pub unserved : eqb n 0 ≡ true → served 0 after s ≡ servedBy K out at s c
       unfolding servedBy
       unserved e = by (leb (length text) (length out - at)) refl wrote
         where
           by : (t : Bool) → leb (length text) (length out - at) ≡ t → writes n after ≡ cond t (writes (length text) (sets out at text)) (writes 0 out)
-              → served 0 after s ≡ cond (leb (length text) (length out - at)) (served (length text) (sets out at text) (step Q s c .store)) (served 0 out s)
+              → served 0 after s ≡ cond (leb (length text) (length out - at)) (served (length text) (sets out at text) (step K s c .store)) (served 0 out s)
           by true q v =
               let z : n ≡ 0 = eqb-true n 0 e in
               let x : n ≡ length text = ap (λ (r : Written). r .length) v in
@@ -77,15 +77,15 @@ module _ (Q out : List ℕ) (at : ℕ) (s : Store) (c : Call) (d : Decision) (j 
               not-both x z h = omega arith
           by false q v = rw (q, ap (λ (r : Written). r .output) v)
 
-      pub serves : eqb n 0 ≡ false → {t : Store} → t ≡ storeAfter s c d → served n after t ≡ servedBy Q out at s c
+      pub serves : eqb n 0 ≡ false → {t : Store} → t ≡ storeAfter s c d → served n after t ≡ servedBy K out at s c
       unfolding servedBy outcomeOf
       serves e {t} u = by (leb (length text) (length out - at)) refl wrote
         where
-          done : step Q s c .store ≡ t
+          done : step K s c .store ≡ t
           done = rw (stepped, u)
 
           by : (q : Bool) → leb (length text) (length out - at) ≡ q → writes n after ≡ cond q (writes (length text) (sets out at text)) (writes 0 out)
-              → served n after t ≡ cond (leb (length text) (length out - at)) (served (length text) (sets out at text) (step Q s c .store)) (served 0 out s)
+              → served n after t ≡ cond (leb (length text) (length out - at)) (served (length text) (sets out at text) (step K s c .store)) (served 0 out s)
           by true q v = rw (q, ap (λ (r : Written). r .output) v, ap (λ (r : Written). r .length) v, done)
           by false q v = absurd (eqb-false n 0 e (ap (λ (r : Written). r .length) v))
 
@@ -135,7 +135,7 @@ module _ (n : Numbers) (D : List ℕ) where
   pub buffer-lent : {size : ℕ} → size ≡ roomFor (numbered n [] []) → take (size - 0) (replicate 512 0) ≡ zeros (roomFor (numbered n [] []))
   buffer-lent {size} e = rw (sub-zero, ← e) (take-zeros size 512 (room-few (numbered n [] []) size e))
 
-  pub block-serves : (Q out P : List ℕ) (at : ℕ) (s : Store) (x : Served) (c : Request) (path bytes buffer : List ℕ)
+  pub block-serves : (K : Fixed) (out P : List ℕ) (at : ℕ) (s : Store) (x : Served) (c : Request) (path bytes buffer : List ℕ)
       → c ≡ requestFor n → path ≡ textOf line.Path P → bytes ≡ take (BLOCK + 1) (bytesOf (textOf line.Data D)) → buffer ≡ zeros (roomFor (numbered n [] []))
-      → x ≡ servedBy Q out at s (callOf c path bytes buffer) → x ≡ blockServed Q n P D out at s
-  block-serves Q out P at s x c path bytes buffer p q r t u = u ∙ rw (p, q, r, t)
+      → x ≡ servedBy K out at s (callOf c path bytes buffer) → x ≡ blockServed K n P D out at s
+  block-serves K out P at s x c path bytes buffer p q r t u = u ∙ rw (p, q, r, t)

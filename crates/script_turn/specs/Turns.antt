@@ -1,19 +1,18 @@
 -- One block of a script, as it leaves the output and the store.
 use Prim.Native.Nat.{ℕ, _+_, _-_}
-use mathlib.Core.Bool.{Bool, true, false, cond, not}
+use mathlib.Core.Bool.{cond}
 use mathlib.Core.List.{List, []}
-use lib.Dec.{eqb, ltb, leb}
+use lib.Dec.{eqb, leb}
 use lib.ListN.{length, take}
 use lib.Seq.{sets}
 use Rattle.rules.specs.Layout.{BLOCK}
-use Rattle.rules.specs.Store.{Store, zeros}
+use Rattle.rules.specs.Store.{Store, Fixed, zeros}
 use Rattle.rules.specs.Calls.{Call, callOf}
 use Rattle.rules.specs.Step.{step}
 use Rattle.script_rules.specs.Text.{bytesOf}
 use Rattle.script_rules.specs.Blocks.{textOf, blockOk, afterLine, afterBlock}
 use Rattle.script_rules.specs.Replay.{roomFor, nextCall, replyText, nextText}
 use Rattle.script_rules.specs.declared.line.Line.the-variants as line
-use Rattle.script_rules.specs.declared.replayed.Reason.{Reason}
 use Rattle.script_rules.specs.declared.replayed.Reason.the-variants as reason
 use Rattle.script_input.specs.Read.{numbered, readOk, requestFor}
 use Rattle.script_input.specs.declared.blocks.Numbers.{Numbers}
@@ -30,18 +29,18 @@ pub record Served : Type 0 where
 abbrev pub served : ℕ → List ℕ → Store → Served
 served n out s = record { length = n; output = out; store = s }
 
-unfoldable pub servedBy : (Q out : List ℕ) (at : ℕ) → Store → Call → Served
-servedBy Q out at s c =
-    cond (leb (length (replyText (step Q s c .reply))) (length out - at))
-    (served (length (replyText (step Q s c .reply))) (sets out at (replyText (step Q s c .reply))) (step Q s c .store))
+unfoldable pub servedBy : Fixed → (out : List ℕ) (at : ℕ) → Store → Call → Served
+servedBy K out at s c =
+    cond (leb (length (replyText (step K s c .reply))) (length out - at))
+    (served (length (replyText (step K s c .reply))) (sets out at (replyText (step K s c .reply))) (step K s c .store))
     (served 0 out s)
 
 -- the call with the numbers n, whose path's line P begins with and whose data's line D begins with
 abbrev pub callIn : Numbers → (P D : List ℕ) → Call
 callIn n P D = callOf (requestFor n) (textOf line.Path P) (take (BLOCK + 1) (bytesOf (textOf line.Data D))) (zeros (roomFor (numbered n [] [])))
 
-abbrev pub blockServed : List ℕ → Numbers → (P D out : List ℕ) (at : ℕ) → Store → Served
-blockServed Q n P D out at s = servedBy Q out at s (callIn n P D)
+abbrev pub blockServed : Fixed → Numbers → (P D out : List ℕ) (at : ℕ) → Store → Served
+blockServed K n P D out at s = servedBy K out at s (callIn n P D)
 
 -- ---- a turn: n calls are still allowed, S is left of the script, the output is written up to `at`
 
@@ -53,21 +52,21 @@ pub record Turned : Type 0 where
 abbrev pub turned : Turn → List ℕ → Store → Turned
 turned t out s = record { turn = t; output = out; store = s }
 
-unfoldable pub turnOf : (n : ℕ) (Q S out : List ℕ) (at : ℕ) → Store → Turned
-turnOf n Q S out at s =
+unfoldable pub turnOf : (n : ℕ) → Fixed → (S out : List ℕ) (at : ℕ) → Store → Turned
+turnOf n K S out at s =
     cond (eqb (length S) 0) (turned (turn.Stopped reason.End) out s)
     (cond (eqb n 0) (turned (turn.Stopped reason.Allowance) out s)
     (cond (blockOk S)
-    (cond (leb (length (nextText Q S s)) (length out - at))
-    (turned (turn.Answered (length S - length (afterBlock S)) (length (nextText Q S s))) (sets out at (nextText Q S s)) (step Q s (nextCall S) .store))
+    (cond (leb (length (nextText K S s)) (length out - at))
+    (turned (turn.Answered (length S - length (afterBlock S)) (length (nextText K S s))) (sets out at (nextText K S s)) (step K s (nextCall S) .store))
     (turned (turn.Stopped reason.Room) out s))
     (turned (turn.Stopped reason.Broken) out s)))
 
 -- the turn of a block as it is read: its numbers, its path's line on, its data's line on
-unfoldable pub blockTurn : (Q S : List ℕ) → Numbers → (P D out : List ℕ) (at : ℕ) → Store → Turned
-blockTurn Q S n P D out at s =
+unfoldable pub blockTurn : Fixed → (S : List ℕ) → Numbers → (P D out : List ℕ) (at : ℕ) → Store → Turned
+blockTurn K S n P D out at s =
     cond (readOk n P D)
-    (cond (eqb (blockServed Q n P D out at s .length) 0)
-    (turned (turn.Stopped reason.Room) (blockServed Q n P D out at s .output) (blockServed Q n P D out at s .store))
-    (turned (turn.Answered (length S - length (afterLine line.Data D)) (blockServed Q n P D out at s .length)) (blockServed Q n P D out at s .output) (blockServed Q n P D out at s .store)))
+    (cond (eqb (blockServed K n P D out at s .length) 0)
+    (turned (turn.Stopped reason.Room) (blockServed K n P D out at s .output) (blockServed K n P D out at s .store))
+    (turned (turn.Answered (length S - length (afterLine line.Data D)) (blockServed K n P D out at s .length)) (blockServed K n P D out at s .output) (blockServed K n P D out at s .store)))
     (turned (turn.Stopped reason.Broken) out s)

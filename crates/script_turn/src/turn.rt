@@ -2,7 +2,7 @@
 ghost use mathlib.Core.Path.{_≡_};
 ghost use Prim.Native.Nat.{_-_};
 ghost use lib.ListN.{length};
-ghost use Rattle.rules.specs.Store.{store};
+ghost use Rattle.rules.specs.Store.{fixed, store};
 ghost use Rattle.rules.specs.Calls.{callOf};
 ghost use Rattle.script_rules.specs.Blocks.{afterLine};
 ghost use Rattle.script_rules.specs.declared.line.Line.the-variants as line;
@@ -46,7 +46,7 @@ fn serve(
     output: &mut [u8],
     at: usize,
 ) -> usize
-    ensures { λ r. ⌜ served r (now (output .exit)) (store (now (files .exit)) (now (contents .exit)) (now («open_files» .exit)) (now (processes .exit))) ≡ servedBy (now (policy .entry)) (now (output .entry)) at (store (now (files .entry)) (now (contents .entry)) (now («open_files» .entry)) (now (processes .entry))) (callOf c (now (path .entry)) (now («data» .entry)) (now (buffer .entry))) ⌝ }
+    ensures { λ r. ⌜ served r (now (output .exit)) (store (now (files .exit)) (now (contents .exit)) (now («open_files» .exit)) (now (processes .exit))) ≡ servedBy (fixed (now (policy .entry))) (now (output .entry)) at (store (now (files .entry)) (now (contents .entry)) (now («open_files» .entry)) (now (processes .entry))) (callOf c (now (path .entry)) (now («data» .entry)) (now (buffer .entry))) ⌝ }
 {
     let d = judge(
         files,
@@ -82,7 +82,7 @@ fn serve_block(
     output: &mut [u8],
     at: usize,
 ) -> usize
-    ensures { λ r. ⌜ served r (now (output .exit)) (store (now (files .exit)) (now (contents .exit)) (now («open_files» .exit)) (now (processes .exit))) ≡ blockServed (now (policy .entry)) n (now (p .entry)) (now (d .entry)) (now (output .entry)) at (store (now (files .entry)) (now (contents .entry)) (now («open_files» .entry)) (now (processes .entry))) ⌝ }
+    ensures { λ r. ⌜ served r (now (output .exit)) (store (now (files .exit)) (now (contents .exit)) (now («open_files» .exit)) (now (processes .exit))) ≡ blockServed (fixed (now (policy .entry))) n (now (p .entry)) (now (d .entry)) (now (output .entry)) at (store (now (files .entry)) (now (contents .entry)) (now («open_files» .entry)) (now (processes .entry))) ⌝ }
 {
     let mut data = [0u8; BLOCK + 1];
     let count = read_bytes(text(d, Line::Data), &mut data);
@@ -133,7 +133,7 @@ fn take_block(
     output: &mut [u8],
     at: usize,
 ) -> Turn
-    ensures { λ r. ⌜ turned r (now (output .exit)) (store (now (files .exit)) (now (contents .exit)) (now («open_files» .exit)) (now (processes .exit))) ≡ blockTurn (now (policy .entry)) (now (s .entry)) n (now (p .entry)) (now (d .entry)) (now (output .entry)) at (store (now (files .entry)) (now (contents .entry)) (now («open_files» .entry)) (now (processes .entry))) ⌝ }
+    ensures { λ r. ⌜ turned r (now (output .exit)) (store (now (files .exit)) (now (contents .exit)) (now («open_files» .exit)) (now (processes .exit))) ≡ blockTurn (fixed (now (policy .entry))) (now (s .entry)) n (now (p .entry)) (now (d .entry)) (now (output .entry)) at (store (now (files .entry)) (now (contents .entry)) (now («open_files» .entry)) (now (processes .entry))) ⌝ }
 {
     if !block_ok(n, p, d) {
         return Turn::Stopped(Reason::Broken);
@@ -170,7 +170,7 @@ pub fn take_turn(
     output: &mut [u8],
     at: usize,
 ) -> Turn
-    ensures { λ r. ⌜ turned r (now (output .exit)) (store (now (files .exit)) (now (contents .exit)) (now («open_files» .exit)) (now (processes .exit))) ≡ turnOf n (now (policy .entry)) (now (s .entry)) (now (output .entry)) at (store (now (files .entry)) (now (contents .entry)) (now («open_files» .entry)) (now (processes .entry))) ⌝ }
+    ensures { λ r. ⌜ turned r (now (output .exit)) (store (now (files .exit)) (now (contents .exit)) (now («open_files» .exit)) (now (processes .exit))) ≡ turnOf n (fixed (now (policy .entry))) (now (s .entry)) (now (output .entry)) at (store (now (files .entry)) (now (contents .entry)) (now («open_files» .entry)) (now (processes .entry))) ⌝ }
 {
     let ended = s.len() == 0;
     if ended {

@@ -3,13 +3,13 @@ use mathlib.Core.Path.{_≡_, refl, sym, ap, _∙_, subst}
 use mathlib.Core.List.{List, [], _∷_}
 use mathlib.Core.Logic.{_≢_}
 use Prim.Native.Nat.{ℕ, zero, suc, _+_, _-_, _*_, _/_, _%_, _≤_, _<_, min}
-use native.Mathlib.Nat.{add-suc, div-add-mod', mod-lt}
+use native.Mathlib.Nat.{div-add-mod', mod-lt}
 use native.Mathlib.Omega.{arith}
 use native.Mathlib.Decide.{decLt, decLe, ℕ-discrete}
 use lib.ListN.{length, getD, drop, set, length-set, length-take, length-drop, List·getD-eq-default}
 use lib.Seq.{sets, getD-set-same, getD-set-other, getD-take, getD-drop, ext-getD}
 use Rattle.rules.specs.Layout.{BLOCK}
-use Rattle.rules.specs.Store.{block, puts}
+use Rattle.rules.specs.Store.{block}
 
 -- ---- one element, or some in a row, put anew
 
@@ -29,11 +29,6 @@ getD-sets-in l i (v ∷ vs) zero h g =
 getD-sets-in l i (v ∷ vs) (suc k) h g =
     let e : i + suc k ≡ suc i + k = omega arith in
     rw e (getD-sets-in (set l i v) (suc i) vs k (rw length-set (omega arith)) (omega arith))
-
--- a record's words are elements in a row
-pub puts-sets : (w : ℕ) (xs : List ℕ) (i k : ℕ) (vs : List ℕ) → puts w xs i k vs ≡ sets xs (w * i + k) vs
-puts-sets w xs i k [] = refl
-puts-sets w xs i k (v ∷ vs) = puts-sets w (set xs (w * i + k) v) i (suc k) vs ∙ ap (λ (j : ℕ). sets (set xs (w * i + k) v) j vs) (add-suc (w * i) k)
 
 -- ---- equal but for the places from a on and before b
 

@@ -10,10 +10,10 @@ use borrow.Author.Tests.{eqb-true, leb-true, ltb-true}
 use lib.Dec.{ltb}
 use lib.ListN.{length, getD, List·getD-eq-default}
 use Rattle.rules.specs.Layout.{SLOTS, BLOCK, FILE-WIDTH, OPEN-FILES, OPEN-FILE-WIDTH, PROCESSES, PROCESS-WIDTH, PROCESS-DESCRIPTOR, LABELS, LABEL-MAX, FILE-KIND, FILE-LABEL, FILE-LENGTH, PLAIN, DESCRIPTORS}
-use Rattle.rules.specs.Store.{Store, view, tab, descOf}
-use Rattle.rules.specs.Sound.{sound, storeSound, sizesSound, tablesSound, slotSound, recordSound, kindSound, plainSound}
+use Rattle.rules.specs.Store.{Store, Fixed, view, tab, descOf}
+use Rattle.rules.specs.Sound.{sound, storeSound, sizesSound, tablesSound, slotSound, accessSound, fieldsSound, recordSound, kindSound, plainSound}
 use Rattle.rules.proofs.Scans.{all-at}
-use Rattle.secrecy.proofs.Tests.{test, both}
+use Rattle.rules.proofs.Tests.{test, both}
 use Rattle.secrecy.proofs.Fit.{Based}
 
 -- no descriptor over 7 holds anything
@@ -25,7 +25,7 @@ desc-eight P p i ne = go (ltb i DESCRIPTORS) refl ne
     go true e h = ltb-true i DESCRIPTORS e
     go false e h = absurd (h refl)
 
-module _ (Q : List ℕ) (s : Store) (h : sound Q s ≡ true) where
+module _ (K : Fixed) (s : Store) (h : sound K s ≡ true) where
   parts : (sizesSound s ≡ true) × (tablesSound (view s) ≡ true)
   unfolding sound storeSound
   parts = both _ _ (test 1 _ h)
@@ -56,12 +56,12 @@ module _ (Q : List ℕ) (s : Store) (h : sound Q s ≡ true) where
 
   -- every program label is one of the sixteen
   pub small-label : (t : ℕ) → tab FILE-WIDTH (s .files) t FILE-LABEL < LABELS
-  unfolding recordSound
+  unfolding recordSound fieldsSound accessSound
   small-label t = go (decLt t SLOTS)
     where
       go : Dec (t < SLOTS) → tab FILE-WIDTH (s .files) t FILE-LABEL < LABELS
       go (yes lt) =
-          let l : tab FILE-WIDTH (s .files) t FILE-LABEL ≤ LABEL-MAX = leb-true _ _ (test 3 _ (record-sound t lt)) in
+          let l : tab FILE-WIDTH (s .files) t FILE-LABEL ≤ LABEL-MAX = leb-true _ _ (test 2 _ (test 1 _ (test 0 _ (record-sound t lt)))) in
           omega arith
       go (no ge) =
           let z : tab FILE-WIDTH (s .files) t FILE-LABEL ≡ 0 = List·getD-eq-default (s .files) 0 (omega (arith, files-size)) in

@@ -2,7 +2,6 @@
 pub mod Agree
 pub mod Tables
 pub mod Related
-pub mod Tests
 pub mod Fit
 pub mod Facts
 pub mod Kept

@@ -8,12 +8,13 @@ use Prim.Native.Nat.{ℕ, zero, suc, _+_, _*_, _≤_, _<_}
 use native.Mathlib.Omega.{arith}
 use native.Mathlib.Nat.{add-zero}
 use native.Mathlib.Decide.{ℕ-discrete}
-use lib.ListN.{length, getD, drop, set, length-replicate}
+use lib.ListN.{length, getD, drop, set}
 use lib.Seq.{sets}
 use Rattle.rules.specs.Scan.{iterate, repeat}
 use Rattle.rules.specs.Layout.{BLOCK, FILE-WIDTH, FILE-KIND, FILE-LENGTH, PLAIN, OPEN-FILE-WIDTH, OPEN-SLOT, OPEN-MODE, PROCESS-WIDTH, PROCESS-DESCRIPTOR, DESCRIPTORS, PROCESS-USED, PROCESS-LABEL}
 use Rattle.rules.specs.Rights.{reads}
 use Rattle.rules.specs.Store.{Store, View, store, tab, procOf, descOf, view, block, modeAt, hidden, shownOf, puts, zeros, Change, fileWord, fileTo, clearTo, bytesTo, openWord, openTo, openZero, descTo, procWord, procTo, procZero, change, applyAll}
+use Rattle.rules.proofs.Lists.{length-zeros}
 use Rattle.secrecy.proofs.Agree.{Agree, agree-sets, agree-clear, agree-block, agree-rest}
 use Rattle.secrecy.proofs.Tables.{Own, OwnWord, own-word, own-record, Unread, unread-word, unread-record, unread-zero, Labels, labels-desc, labels-word, labels-own, labels-zero}
 
@@ -75,10 +76,6 @@ Keeps reach f n (procWord p k x) = (k ≡ PROCESS-LABEL) × reach x
 Keeps reach f n (procTo p ws) = (length ws ≡ PROCESS-DESCRIPTOR) × (getD ws PROCESS-USED 0 ≡ 1 → reach (getD ws PROCESS-LABEL 0))
 Keeps reach f n (procZero p) = Unit {0}
 
-length-zeros : (n : ℕ) → length (zeros n) ≡ n
-unfolding zeros
-length-zeros n = length-replicate n 0
-
 module _ (reach : ℕ → Type 0) (f n L : ℕ) where
   -- the file is cut or freed: the stores are equal from here on
   clear-own : (s s′ : Store) (ws : List ℕ) → Apart f n s s′ → change (clearTo f ws) s ≡ change (clearTo f ws) s′
@@ -87,6 +84,7 @@ module _ (reach : ℕ → Type 0) (f n L : ℕ) where
       let q : sets (s .contents) (BLOCK * f + 0) (zeros BLOCK) ≡ sets (s′ .contents) (BLOCK * f + 0) (zeros BLOCK) = rw add-zero e in
       λ i. store (puts FILE-WIDTH (a .files i) f 0 ws) (q i) (a .openFiles i) (a .processes i)
 
+  -- a change is made in one table, whose part of the relation is kept, and the others stand; only where slot f itself is cleared the stores become equal
   pub change-keeps : (c : Change) (s s′ : Store) → Keeps reach f n c → Related reach f n L s s′ → Related reach f n L (change c s) (change c s′)
   unfolding Keeps
   change-keeps c s s′ h (same e) = same (ap (change c) e)

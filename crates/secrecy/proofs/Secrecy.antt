@@ -12,7 +12,7 @@ use lib.ListN.{List·getD-eq-default}
 use Rattle.rules.specs.Choice.{every, some}
 use Rattle.rules.specs.Layout.{SLOTS, BLOCK, FILE-WIDTH, OPEN-FILES, OPEN-FILE-WIDTH, PROCESSES, LABELS, FILE-KIND, FILE-LABEL, FILE-LENGTH, PLAIN, NO-TRANSITION, OPEN-MODE}
 use Rattle.rules.specs.Rights.{transition, moved}
-use Rattle.rules.specs.Store.{Store, view, tab, pidOf, ofdOf}
+use Rattle.rules.specs.Store.{Store, Fixed, view, tab, pidOf, ofdOf}
 use Rattle.rules.specs.Calls.{Call}
 use Rattle.rules.specs.Checks.{inUse, slotFree}
 use Rattle.rules.specs.Sound.{sound}
@@ -36,28 +36,28 @@ apart-of f s s′ small d = record {
 }
 
 -- no open file, of whatever number, reads the slot
-unread-of : (Q : List ℕ) (s : Store) (f : ℕ) → sound Q s ≡ true → (OpenForReading s f → ⊥) → Unread f (s .openFiles)
-unread-of Q s f h none e r q = go (decLt e OPEN-FILES)
+unread-of : (K : Fixed) (s : Store) (f : ℕ) → sound K s ≡ true → (OpenForReading s f → ⊥) → Unread f (s .openFiles)
+unread-of K s f h none e r q = go (decLt e OPEN-FILES)
   where
     go : Dec (e < OPEN-FILES) → ⊥
     go (yes lt) = none (record { ofd = ofdOf e; number = lt; mode = r; names = q })
     go (no ge) =
-        let z : tab OPEN-FILE-WIDTH (s .openFiles) e OPEN-MODE ≡ 0 = List·getD-eq-default (s .openFiles) 0 (omega (arith, open-files-size Q s h)) in
+        let z : tab OPEN-FILE-WIDTH (s .openFiles) e OPEN-MODE ≡ 0 = List·getD-eq-default (s .openFiles) 0 (omega (arith, open-files-size K s h)) in
         no-mode (rw z at r)
 
-labels-of : (Q : List ℕ) (s : Store) → sound Q s ≡ true → Labels (Reached Q s) (s .processes)
+labels-of : (K : Fixed) (s : Store) → sound K s ≡ true → Labels (Reached (K .policy) s) (s .processes)
 unfolding inUse every
-labels-of Q s h = record { room = processes-size Q s h; used = λ p lt u. held _ (record { process = pidOf p; used = simp (lt-ltb p PROCESSES lt, eq-eqb _ _ u); has = refl }) }
+labels-of K s h = record { room = processes-size K s h; used = λ p lt u. held _ (record { process = pidOf p; used = simp (lt-ltb p PROCESSES lt, eq-eqb _ _ u); has = refl }) }
 
-start : (Q : List ℕ) (f : ℕ) (s s′ : Store) → Supposed Q f s s′ → Related (Reached Q s) f (tab FILE-WIDTH (s .files) f FILE-LENGTH) (tab FILE-WIDTH (s .files) f FILE-LABEL) s s′
-start Q f s s′ h =
+start : (K : Fixed) (f : ℕ) (s s′ : Store) → Supposed K f s s′ → Related (Reached (K .policy) s) f (tab FILE-WIDTH (s .files) f FILE-LENGTH) (tab FILE-WIDTH (s .files) f FILE-LABEL) s s′
+start K f s s′ h =
     let plain : tab FILE-WIDTH (s .files) f FILE-KIND ≡ PLAIN = h .differ .plain in
-    let slot : f < SLOTS = plain-slot Q s (h .sound-one) f plain in
-    apart (apart-of f s s′ (plain-length Q s (h .sound-one) f plain) (h .differ))
+    let slot : f < SLOTS = plain-slot K s (h .sound-one) f plain in
+    apart (apart-of f s s′ (plain-length K s (h .sound-one) f plain) (h .differ))
     (record {
-      own = record { plain = plain; label = refl; within = omega arith; room = omega (arith, files-size Q s (h .sound-one)) };
-      unread = unread-of Q s f (h .sound-one) (h .not-open);
-      labels = labels-of Q s (h .sound-one);
+      own = record { plain = plain; label = refl; within = omega arith; room = omega (arith, files-size K s (h .sound-one)) };
+      unread = unread-of K s f (h .sound-one) (h .not-open);
+      labels = labels-of K s (h .sound-one);
     })
 
 -- the labels reached are closed under execute
@@ -92,33 +92,33 @@ last : (t : Bool) → cond t true false ≡ true → t ≡ true
 last true e = e
 last false e = e
 
-module _ (Q : List ℕ) (reach : ℕ → Type 0) (f n L : ℕ) (no-right : (l : ℕ) → reach l → mayRead Q l L ≡ false)
-    (closed-under : (l m : ℕ) → m < LABELS → reach l → reach (moved Q l m)) where
-  from-equal : (cs : List Call) (s s′ : Store) → s ≡ s′ → Claimed Q f s s′ cs
-  from-equal cs s s′ e = subst (λ (t : Store). Claimed Q f s t cs) e (record { same-answers = refl; same-stores = inl refl; equal-once-freed = λ _. refl })
+module _ (K : Fixed) (reach : ℕ → Type 0) (f n L : ℕ) (no-right : (l : ℕ) → reach l → mayRead (K .policy) l L ≡ false)
+    (closed-under : (l m : ℕ) → m < LABELS → reach l → reach (moved (K .policy) l m)) where
+  from-equal : (cs : List Call) (s s′ : Store) → s ≡ s′ → Claimed K f s s′ cs
+  from-equal cs s s′ e = subst (λ (t : Store). Claimed K f s t cs) e (record { same-answers = refl; same-stores = inl refl; equal-once-freed = λ _. refl })
 
-  run-alike : (cs : List Call) (s s′ : Store) → Related reach f n L s s′ → Claimed Q f s s′ cs
+  run-alike : (cs : List Call) (s s′ : Store) → Related reach f n L s s′ → Claimed K f s s′ cs
   unfolding answers final freed some
   run-alike [] s s′ (same e) = from-equal [] s s′ e
   run-alike [] s s′ (apart a z) = record { same-answers = refl; same-stores = inr (differ-of f n L s s′ a (z .own)); equal-once-freed = λ b. absurd (false≢true b) }
   run-alike (c ∷ cs) s s′ r =
-      let x : Alike reach f n L (step Q s c) (step Q s′ c) = step-alike Q reach f n L no-right closed-under c s s′ r in
-      go x (run-alike cs (step Q s c .store) (step Q s′ c .store) (x .stores))
+      let x : Alike reach f n L (step K s c) (step K s′ c) = step-alike K reach f n L no-right closed-under c s s′ r in
+      go x (run-alike cs (step K s c .store) (step K s′ c .store) (x .stores))
     where
-      go : Alike reach f n L (step Q s c) (step Q s′ c) → Claimed Q f (step Q s c .store) (step Q s′ c .store) cs → Claimed Q f s s′ (c ∷ cs)
+      go : Alike reach f n L (step K s c) (step K s′ c) → Claimed K f (step K s c .store) (step K s′ c .store) cs → Claimed K f s s′ (c ∷ cs)
       go x o = record {
         same-answers = ap₂ (λ (y : Reply) (ys : List Reply). y ∷ ys) (x .replies) (o .same-answers);
         same-stores = o .same-stores;
         equal-once-freed = once (x .stores);
       }
         where
-          once : Related reach f n L (step Q s c .store) (step Q s′ c .store)
-              → cond (slotFree (view (step Q s c .store) .tree .file) f) true (cond (freed Q f (step Q s c .store) cs) true false) ≡ true
-              → final Q (step Q s c .store) cs ≡ final Q (step Q s′ c .store) cs
-          once (same e) b = ap (λ (t : Store). final Q t cs) e
-          once (apart a z) b = o .equal-once-freed (last (freed Q f (step Q s c .store) cs) (rw (not-freed f n L (step Q s c .store) (z .own)) at b))
+          once : Related reach f n L (step K s c .store) (step K s′ c .store)
+              → cond (slotFree (view (step K s c .store) .tree .file) f) true (cond (freed K f (step K s c .store) cs) true false) ≡ true
+              → final K (step K s c .store) cs ≡ final K (step K s′ c .store) cs
+          once (same e) b = ap (λ (t : Store). final K t cs) e
+          once (apart a z) b = o .equal-once-freed (last (freed K f (step K s c .store) cs) (rw (not-freed f n L (step K s c .store) (z .own)) at b))
 
 -- ---- demand 3
 
 pub secrecy : Secrecy
-secrecy Q f s s′ h cs = run-alike Q (Reached Q s) f (tab FILE-WIDTH (s .files) f FILE-LENGTH) (tab FILE-WIDTH (s .files) f FILE-LABEL) (h .no-reader) (reach-closed Q s) cs s s′ (start Q f s s′ h)
+secrecy K f s s′ h cs = run-alike K (Reached (K .policy) s) f (tab FILE-WIDTH (s .files) f FILE-LENGTH) (tab FILE-WIDTH (s .files) f FILE-LABEL) (h .no-reader) (reach-closed (K .policy) s) cs s s′ (start K f s s′ h)

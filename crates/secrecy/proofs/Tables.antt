@@ -12,7 +12,8 @@ use Rattle.rules.specs.Choice.{some}
 use Rattle.rules.specs.Layout.{FILE-WIDTH, FILE-KIND, FILE-LABEL, FILE-LENGTH, PLAIN, OPEN-FILE-WIDTH, OPEN-SLOT, OPEN-MODE, PROCESSES, PROCESS-WIDTH, PROCESS-DESCRIPTOR, DESCRIPTORS, PROCESS-USED, PROCESS-LABEL}
 use Rattle.rules.specs.Rights.{reads}
 use Rattle.rules.specs.Store.{tab, procOf, modeAt, puts, zeros}
-use Rattle.secrecy.proofs.Agree.{getD-sets-before, getD-sets-past, getD-sets-in, puts-sets}
+use Rattle.rules.proofs.Lists.{puts-sets, length-zeros}
+use Rattle.secrecy.proofs.Agree.{getD-sets-before, getD-sets-past, getD-sets-in}
 
 -- ---- the files: slot f has a plain file with label L, not shorter than n
 
@@ -168,4 +169,4 @@ module _ (reach : ℕ → Type 0) (P : List ℕ) (old : Labels reach P) (p : ℕ
 
   pub labels-zero : Labels reach (sets P (PROCESS-WIDTH * p + 0) (zeros PROCESS-WIDTH))
   unfolding zeros
-  labels-zero = labels-sets (0 ∷ 0 ∷ 0 ∷ 0 ∷ 0 ∷ 0 ∷ 0 ∷ 0 ∷ 0 ∷ 0 ∷ 0 ∷ []) (omega arith) (omega arith) (λ z. absurd (omega arith))
+  labels-zero = labels-sets (zeros PROCESS-WIDTH) (omega (arith, length-zeros PROCESS-WIDTH)) (omega (arith, length-zeros PROCESS-WIDTH)) (λ z. absurd (omega arith))

@@ -1,5 +1,5 @@
 -- Demand 3, stated: what it supposes where the list of calls starts, and what it claims of the list. `secrecy` of proofs/Secrecy.antt proves it.
--- The policy Q stands beside the store and no call changes it: it is one and the same for both stores.
+-- What no call changes, K, stands beside the store: the policy is one and the same for both stores.
 use Prim.Native.Nat.{ℕ, _<_}
 use mathlib.Core.Path.{_≡_}
 use mathlib.Core.Bool.{Bool, true, false}
@@ -9,7 +9,7 @@ use lib.ListN.{length, drop}
 use Rattle.rules.specs.Choice.{some}
 use Rattle.rules.specs.Layout.{OPEN-FILES, LABELS, NO-TRANSITION, FILE-KIND, FILE-LABEL, FILE-LENGTH, PLAIN, OPEN-SLOT, OPEN-MODE}
 use Rattle.rules.specs.Rights.{READ, reads, covers, policyRights, transition}
-use Rattle.rules.specs.Store.{Store, view, block, modeAt, subjectOf}
+use Rattle.rules.specs.Store.{Store, Fixed, view, block, modeAt, subjectOf}
 use Rattle.rules.specs.Calls.{Call}
 use Rattle.rules.specs.Checks.{inUse, slotFree}
 use Rattle.rules.specs.Sound.{sound}
@@ -63,27 +63,27 @@ pub record OpenForReading (s : Store) (f : ℕ) : Type 0 where
 
 -- two sound stores that differ only in the file's bytes; no label that is held or can be reached may read the file's label; the file is not open for
 -- reading. The records are equal, so what is said of labels and open files of the one store holds of the other
-pub record Supposed (Q : List ℕ) (f : ℕ) (s s′ : Store) : Type 0 where
-  pub sound-one : sound Q s ≡ true
-  pub sound-other : sound Q s′ ≡ true
+pub record Supposed (K : Fixed) (f : ℕ) (s s′ : Store) : Type 0 where
+  pub sound-one : sound K s ≡ true
+  pub sound-other : sound K s′ ≡ true
   pub differ : DifferInBytes f s s′
-  pub no-reader : (l : ℕ) → Reached Q s l → mayRead Q l (recordField s f FILE-LABEL) ≡ false
+  pub no-reader : (l : ℕ) → Reached (K .policy) s l → mayRead (K .policy) l (recordField s f FILE-LABEL) ≡ false
   pub not-open : OpenForReading s f → ⊥
 
 -- ---- what is claimed of the list
 
 -- a call of the list has freed slot f. "The file is freed by the first call that frees its slot"
-unfoldable pub freed : List ℕ → ℕ → Store → List Call → Bool
-freed Q f s [] = false
-freed Q f s (c ∷ cs) = some (slotFree (view (step Q s c .store) .tree .file) f ∷ freed Q f (step Q s c .store) cs ∷ [])
+unfoldable pub freed : Fixed → ℕ → Store → List Call → Bool
+freed K f s [] = false
+freed K f s (c ∷ cs) = some (slotFree (view (step K s c .store) .tree .file) f ∷ freed K f (step K s c .store) cs ∷ [])
 
 -- "a single claim about the list and not one for each call: all the answers in order, and both stores at the end"; "the stores are equal from
 -- then on, also where the slot is given out again": after every list in which the file is freed, whatever comes after that call
-pub record Claimed (Q : List ℕ) (f : ℕ) (s s′ : Store) (cs : List Call) : Type 0 where
-  pub same-answers : answers Q s cs ≡ answers Q s′ cs
-  pub same-stores : (final Q s cs ≡ final Q s′ cs) ⊎ DifferInBytes f (final Q s cs) (final Q s′ cs)
-  pub equal-once-freed : freed Q f s cs ≡ true → final Q s cs ≡ final Q s′ cs
+pub record Claimed (K : Fixed) (f : ℕ) (s s′ : Store) (cs : List Call) : Type 0 where
+  pub same-answers : answers K s cs ≡ answers K s′ cs
+  pub same-stores : (final K s cs ≡ final K s′ cs) ⊎ DifferInBytes f (final K s cs) (final K s′ cs)
+  pub equal-once-freed : freed K f s cs ≡ true → final K s cs ≡ final K s′ cs
 
 -- "Demand 3's list may hold any of the seventeen calls, in any order and by any processes, refused and unknown ones included": any list
 abbrev pub Secrecy : Type 0
-Secrecy = (Q : List ℕ) (f : ℕ) (s s′ : Store) → Supposed Q f s s′ → (cs : List Call) → Claimed Q f s s′ cs
+Secrecy = (K : Fixed) (f : ℕ) (s s′ : Store) → Supposed K f s s′ → (cs : List Call) → Claimed K f s s′ cs

@@ -18,15 +18,17 @@ use Rattle.rules.specs.Directories.{dirent}
 use Rattle.rules.specs.Calls.{Call}
 use Rattle.rules.specs.Checks.{inUse}
 use Rattle.rules.specs.Sound.{sound}
-use Rattle.rules.specs.Console.{FARES, NOW, KEY, filled, consoleContents, consoleWith, consolePolicy}
+use Rattle.rules.specs.Console.{FARES, NOW, KEY, filled, consoleContents, consoleWith, consoleFixed, consolePolicy}
 use Rattle.rules.specs.declared.ids.Pid.{Pid}
 use Rattle.rules.proofs.Scans.{all-at}
+use Rattle.cases.proofs.Quick.{sound-of}
+use Rattle.cases.proofs.Cases.{policy-sound}
 use Rattle.secrecy.specs.Claim.{Reached, held, given, mayRead, OpenForReading, Supposed, Claimed}
 use Rattle.secrecy_cases.specs.Needed.{KEY-ONE, KEY-OTHER}
 use Rattle.secrecy.proofs.Agree.{Agree}
 use Rattle.secrecy.proofs.Tables.{Own, no-mode}
 use Rattle.secrecy.proofs.Related.{Apart}
-use Rattle.secrecy.proofs.Tests.{test}
+use Rattle.rules.proofs.Tests.{test}
 use Rattle.secrecy.proofs.Alike.{sound-same}
 use Rattle.secrecy_cases.proofs.Needed.{key-one-sound}
 use Rattle.secrecy.proofs.Secrecy.{differ-of, secrecy}
@@ -95,10 +97,10 @@ console-own : (k : List ℕ) → Own 3 4 3 (consoleWith k .files)
 unfolding computing
 console-own k = record { plain = refl; label = refl; within = omega arith; room = omega arith }
 
-console-sound : (k : List ℕ) → length k ≡ 4 → sound consolePolicy (consoleWith k) ≡ true
-console-sound k e =
-    sym (sound-same consolePolicy 3 4 3 (consoleWith KEY-ONE) (consoleWith k) (console-apart KEY-ONE k refl e) (console-own KEY-ONE))
-    ∙ key-one-sound
+sound-with : (k : List ℕ) → length k ≡ 4 → sound consoleFixed (consoleWith k) ≡ true
+sound-with k e =
+    sym (sound-same consoleFixed 3 4 3 (consoleWith KEY-ONE) (consoleWith k) (console-apart KEY-ONE k refl e) (console-own KEY-ONE))
+    ∙ sound-of consoleFixed policy-sound (consoleWith KEY-ONE) key-one-sound
 
 -- ---- who may read: the labels in use are 0, 1 and 2, there are no transitions, and none of the three has right 4 over label 3
 
@@ -166,19 +168,19 @@ nothing-open k o = no-mode (rw (getD-zeros (OPEN-FILES * OPEN-FILE-WIDTH) (OPEN-
 
 -- ---- all that is supposed
 
-pub console-supposed : (k k′ : List ℕ) → length k ≡ 4 → length k′ ≡ 4 → Supposed consolePolicy 3 (consoleWith k) (consoleWith k′)
+pub console-supposed : (k k′ : List ℕ) → length k ≡ 4 → length k′ ≡ 4 → Supposed consoleFixed 3 (consoleWith k) (consoleWith k′)
 console-supposed k k′ e e′ = record {
-  sound-one = console-sound k e;
-  sound-other = console-sound k′ e′;
+  sound-one = sound-with k e;
+  sound-other = sound-with k′ e′;
   differ = differ-of 3 4 3 (consoleWith k) (consoleWith k′) (console-apart k k′ e e′) (console-own k);
   no-reader = λ l r. rw (key-label k) (no-right l (reached-few k l r));
   not-open = nothing-open k;
 }
 
 -- so the answers to no list of calls depend on the key
-pub console-secrecy : (k k′ : List ℕ) → length k ≡ 4 → length k′ ≡ 4 → (cs : List Call) → Claimed consolePolicy 3 (consoleWith k) (consoleWith k′) cs
-console-secrecy k k′ e e′ cs = secrecy consolePolicy 3 (consoleWith k) (consoleWith k′) (console-supposed k k′ e e′) cs
+pub console-secrecy : (k k′ : List ℕ) → length k ≡ 4 → length k′ ≡ 4 → (cs : List Call) → Claimed consoleFixed 3 (consoleWith k) (consoleWith k′) cs
+console-secrecy k k′ e e′ cs = secrecy consoleFixed 3 (consoleWith k) (consoleWith k′) (console-supposed k k′ e e′) cs
 
 -- two keys that differ in every byte
-pub keys-supposed : Supposed consolePolicy 3 (consoleWith KEY-ONE) (consoleWith KEY-OTHER)
+pub keys-supposed : Supposed consoleFixed 3 (consoleWith KEY-ONE) (consoleWith KEY-OTHER)
 keys-supposed = console-supposed KEY-ONE KEY-OTHER refl refl

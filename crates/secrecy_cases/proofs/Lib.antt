@@ -1,4 +1,3 @@
 -- That demand 3 is not empty, Console; and that each of its suppositions is needed, Needed.
-pub mod Quick
 pub mod Needed
 pub mod Console

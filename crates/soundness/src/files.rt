@@ -4,7 +4,7 @@ ghost use lib.Dec.{eqb};
 ghost use Rattle.rules.specs.Choice.{implies};
 ghost use Rattle.rules.specs.Layout.{FILE-WIDTH, FILE-KIND, FREE, FILE-BITS};
 ghost use Rattle.rules.specs.Store.{tab};
-ghost use Rattle.rules.specs.Sound.{recordFree, recordSound};
+ghost use Rattle.rules.specs.Sound.{accessFree, recordFree, accessSound, fieldsSound, recordSound};
 ghost use Rattle.rules.specs.Rights.{bitsKnown};
 use crate::fields::at_most;
 use crate::fields::is_word;
@@ -25,8 +25,9 @@ use tables::layout::LABEL_MAX;
 use tables::layout::USER_MAX;
 use tables::layout::WORD_MAX;
 
-fn record_free(files: &[u32], s: Slot) -> bool
-    ensures { λ r. ⌜ r ≡ recordFree (tab FILE-WIDTH (now (files .entry))) (s .0) ⌝ }
+// Of a free record: what says who may do what.
+fn access_free(files: &[u32], s: Slot) -> bool
+    ensures { λ r. ⌜ r ≡ accessFree (tab FILE-WIDTH (now (files .entry))) (s .0) ⌝ }
 {
     if !is_word(files, FILE_WIDTH * (s.0 as usize) + FILE_OWNER, 0) {
         return false;
@@ -34,7 +35,13 @@ fn record_free(files: &[u32], s: Slot) -> bool
     if !is_word(files, FILE_WIDTH * (s.0 as usize) + FILE_BITS, 0) {
         return false;
     }
-    if !is_word(files, FILE_WIDTH * (s.0 as usize) + FILE_LABEL, 0) {
+    is_word(files, FILE_WIDTH * (s.0 as usize) + FILE_LABEL, 0)
+}
+
+fn record_free(files: &[u32], s: Slot) -> bool
+    ensures { λ r. ⌜ r ≡ recordFree (tab FILE-WIDTH (now (files .entry))) (s .0) ⌝ }
+{
+    if !access_free(files, s) {
         return false;
     }
     if !is_word(files, FILE_WIDTH * (s.0 as usize) + FILE_LENGTH, 0) {
@@ -59,23 +66,35 @@ fn bits_sound(files: &[u32], s: Slot) -> bool
     Bits::known(bits(files, s).0)
 }
 
-// The fields of slot s are in range.
-pub fn record_sound(files: &[u32], s: Slot) -> bool
-    ensures { λ r. ⌜ r ≡ recordSound (tab FILE-WIDTH (now (files .entry))) (s .0) ⌝ }
+fn access_sound(files: &[u32], s: Slot) -> bool
+    ensures { λ r. ⌜ r ≡ accessSound (tab FILE-WIDTH (now (files .entry))) (s .0) ⌝ }
 {
-    if !at_most(files, FILE_WIDTH * (s.0 as usize) + FILE_KIND, KIND_MAX) {
-        return false;
-    }
     if !at_most(files, FILE_WIDTH * (s.0 as usize) + FILE_OWNER, USER_MAX) {
         return false;
     }
     if !bits_sound(files, s) {
         return false;
     }
-    if !at_most(files, FILE_WIDTH * (s.0 as usize) + FILE_LABEL, LABEL_MAX) {
+    at_most(files, FILE_WIDTH * (s.0 as usize) + FILE_LABEL, LABEL_MAX)
+}
+
+// The fields of slot s are in range.
+fn fields_sound(files: &[u32], s: Slot) -> bool
+    ensures { λ r. ⌜ r ≡ fieldsSound (tab FILE-WIDTH (now (files .entry))) (s .0) ⌝ }
+{
+    if !at_most(files, FILE_WIDTH * (s.0 as usize) + FILE_KIND, KIND_MAX) {
         return false;
     }
-    if !at_most(files, FILE_WIDTH * (s.0 as usize) + FILE_VERSION, WORD_MAX) {
+    if !access_sound(files, s) {
+        return false;
+    }
+    at_most(files, FILE_WIDTH * (s.0 as usize) + FILE_VERSION, WORD_MAX)
+}
+
+pub fn record_sound(files: &[u32], s: Slot) -> bool
+    ensures { λ r. ⌜ r ≡ recordSound (tab FILE-WIDTH (now (files .entry))) (s .0) ⌝ }
+{
+    if !fields_sound(files, s) {
         return false;
     }
     free_sound(files, s)

@@ -4,7 +4,7 @@ ghost use lib.Dec.{eqb};
 ghost use Rattle.rules.specs.Scan.{all};
 ghost use Rattle.rules.specs.Store.{descOf, procOf};
 ghost use Rattle.rules.specs.Layout.{PROCESSES, DESCRIPTORS, PROCESS-USED};
-ghost use Rattle.rules.specs.Sound.{descSound, descFree, procFree, procUsed, procSound};
+ghost use Rattle.rules.specs.Sound.{descSound, descFree, subjectFree, procFree, subjectSound, procUsed, procSound};
 use crate::fields::at_most;
 use crate::fields::is_word;
 use rules::ids::Fd;
@@ -60,16 +60,32 @@ fn all_desc_free(processes: &[u32], p: Pid) -> bool
     true
 }
 
-fn proc_free(processes: &[u32], p: Pid) -> bool
-    ensures { λ r. ⌜ r ≡ procFree (procOf (now (processes .entry))) (descOf (now (processes .entry))) (p .0) ⌝ }
+fn subject_free(processes: &[u32], p: Pid) -> bool
+    ensures { λ r. ⌜ r ≡ subjectFree (procOf (now (processes .entry))) (p .0) ⌝ }
 {
     if !is_word(processes, PROCESS_WIDTH * (p.0 as usize) + PROCESS_USER, 0) {
         return false;
     }
-    if !is_word(processes, PROCESS_WIDTH * (p.0 as usize) + PROCESS_LABEL, 0) {
+    is_word(processes, PROCESS_WIDTH * (p.0 as usize) + PROCESS_LABEL, 0)
+}
+
+fn proc_free(processes: &[u32], p: Pid) -> bool
+    ensures { λ r. ⌜ r ≡ procFree (procOf (now (processes .entry))) (descOf (now (processes .entry))) (p .0) ⌝ }
+{
+    if !subject_free(processes, p) {
         return false;
     }
     all_desc_free(processes, p)
+}
+
+fn subject_sound(processes: &[u32], p: Pid) -> bool
+    ensures { λ r. ⌜ r ≡ subjectSound (procOf (now (processes .entry))) (p .0) ⌝ }
+{
+    let at = PROCESS_WIDTH * (p.0 as usize);
+    if !at_most(processes, at + PROCESS_USER, USER_MAX) {
+        return false;
+    }
+    at_most(processes, at + PROCESS_LABEL, LABEL_MAX)
 }
 
 fn proc_used(processes: &[u32], p: Pid) -> bool
@@ -78,18 +94,7 @@ fn proc_used(processes: &[u32], p: Pid) -> bool
     if !is_word(processes, PROCESS_WIDTH * (p.0 as usize) + PROCESS_USED, 1) {
         return false;
     }
-    if !at_most(
-        processes,
-        PROCESS_WIDTH * (p.0 as usize) + PROCESS_USER,
-        USER_MAX,
-    ) {
-        return false;
-    }
-    if !at_most(
-        processes,
-        PROCESS_WIDTH * (p.0 as usize) + PROCESS_LABEL,
-        LABEL_MAX,
-    ) {
+    if !subject_sound(processes, p) {
         return false;
     }
     all_desc_sound(processes, p)

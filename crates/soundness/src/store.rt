@@ -1,6 +1,6 @@
 // The whole test.
 ghost use mathlib.Core.Path.{_≡_};
-ghost use Rattle.rules.specs.Store.{view, store};
+ghost use Rattle.rules.specs.Store.{fixed, view, store};
 ghost use Rattle.rules.specs.Sound.{sizesSound, tablesSound, storeSound, sound};
 use crate::open_files::open_files_sound;
 use crate::policy::policy_sound;
@@ -63,7 +63,7 @@ pub fn sound(
     processes: &[u32],
     policy: &[u8],
 ) -> bool
-    ensures { λ r. ⌜ r ≡ sound (now (policy .entry)) (store (now (files .entry)) (now (contents .entry)) (now («open_files» .entry)) (now (processes .entry))) ⌝ }
+    ensures { λ r. ⌜ r ≡ sound (fixed (now (policy .entry))) (store (now (files .entry)) (now (contents .entry)) (now («open_files» .entry)) (now (processes .entry))) ⌝ }
 {
     if !policy_sound(policy) {
         return false;

@@ -1,9 +1,7 @@
 -- The stages of a call, put together, are the rules' call.
-use Prim.Native.Nat.{ℕ}
 use mathlib.Core.Path.{_≡_, refl}
 use mathlib.Core.Bool.{Bool, true, false}
-use mathlib.Core.List.{List}
-use Rattle.rules.specs.Store.{Store}
+use Rattle.rules.specs.Store.{Store, Fixed}
 use Rattle.rules.specs.Sound.{sound}
 use Rattle.rules.specs.Calls.{Call}
 use Rattle.rules.specs.Step.{replyTo, storeAfter, outcomeOf, act, step, answerOf}
@@ -13,11 +11,11 @@ use Rattle.reply.specs.Answers.{said, saidOf}
 use Rattle.stages.specs.Judged.{judged, answeredBy}
 
 -- a call is decided, answered and done
-pub step-judged : (Q : List ℕ) (s : Store) (c : Call) → step Q s c ≡ outcomeOf s c (judged Q s c)
+pub step-judged : (K : Fixed) (s : Store) (c : Call) → step K s c ≡ outcomeOf s c (judged K s c)
 unfolding step act judged outcomeOf replyTo storeAfter
-step-judged Q s c = by (sound Q s) refl
+step-judged K s c = by (sound K s) refl
   where
-    by : (t : Bool) → sound Q s ≡ t → step Q s c ≡ outcomeOf s c (judged Q s c)
+    by : (t : Bool) → sound K s ≡ t → step K s c ≡ outcomeOf s c (judged K s c)
     by true e = rw e
     by false e = rw e
 

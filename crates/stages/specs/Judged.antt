@@ -2,7 +2,7 @@
 use Prim.Native.Nat.{ℕ}
 use mathlib.Core.Bool.{cond}
 use mathlib.Core.List.{List}
-use Rattle.rules.specs.Store.{Store, view}
+use Rattle.rules.specs.Store.{Store, Fixed, view}
 use Rattle.rules.specs.Refusals.{refusalNumber}
 use Rattle.rules.specs.Sound.{sound}
 use Rattle.rules.specs.Calls.{Call}
@@ -13,8 +13,8 @@ use Rattle.rules.specs.declared.decision.Decision.the-variants.{Refused, Grante
 use Rattle.reply.specs.Answers.{Said, said, saidOf, plain}
 
 -- what is decided: 1 comes first
-unfoldable pub judged : List ℕ → Store → Call → Decision
-judged Q s c = cond (sound Q s) (decide Q (view s) c) (Refused Unsound 0)
+unfoldable pub judged : Fixed → Store → Call → Decision
+judged K s c = cond (sound K s) (decide (K .policy) (view s) c) (Refused Unsound 0)
 
 -- what is answered, and the buffer
 unfoldable pub answeredBy : Store → Decision → (buffer : List ℕ) → Said

@@ -3,7 +3,7 @@
 ghost use mathlib.Core.Path.{_≡_};
 ghost use mathlib.Core.List.{List};
 ghost use Prim.Native.Nat.{ℕ};
-ghost use Rattle.rules.specs.Store.{store};
+ghost use Rattle.rules.specs.Store.{fixed, store};
 ghost use Rattle.rules.specs.Step.{storeAfter};
 ghost use Rattle.rules.specs.Calls.{callOf};
 ghost use Rattle.reply.specs.Answers.{said};
@@ -30,7 +30,7 @@ pub fn judge(
     data: &[u8],
     buffer: &[u8],
 ) -> Decision
-    ensures { λ r. ⌜ r ≡ judged (now (policy .entry)) (store (now (files .entry)) (now (contents .entry)) (now («open_files» .entry)) (now (processes .entry))) (callOf c (now (path .entry)) (now («data» .entry)) (now (buffer .entry))) ⌝ }
+    ensures { λ r. ⌜ r ≡ judged (fixed (now (policy .entry))) (store (now (files .entry)) (now (contents .entry)) (now («open_files» .entry)) (now (processes .entry))) (callOf c (now (path .entry)) (now («data» .entry)) (now (buffer .entry))) ⌝ }
 {
     if !sound(files, contents, open_files, processes, policy) {
         return Decision::Refused(Refusal::Unsound, 0);

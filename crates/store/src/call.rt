@@ -1,6 +1,6 @@
 // A call: the soundness test, the decision, and what it does.
 ghost use mathlib.Core.Path.{_≡_};
-ghost use Rattle.rules.specs.Store.{store};
+ghost use Rattle.rules.specs.Store.{fixed, store};
 ghost use Rattle.rules.specs.Step.{outcomeOf, act, step};
 ghost use Rattle.rules.specs.Calls.{callOf};
 ghost use Rattle.store.specs.Lent.{lent, lentOf};
@@ -48,7 +48,7 @@ pub fn act(
     data: &[u8],
     buffer: &mut [u8],
 ) -> Answer
-    ensures { λ r. ⌜ lent r (now (buffer .exit)) (store (now (files .exit)) (now (contents .exit)) (now («open_files» .exit)) (now (processes .exit))) ≡ lentOf (act (now (policy .entry)) (store (now (files .entry)) (now (contents .entry)) (now («open_files» .entry)) (now (processes .entry))) (callOf c (now (path .entry)) (now («data» .entry)) (now (buffer .entry)))) ⌝ }
+    ensures { λ r. ⌜ lent r (now (buffer .exit)) (store (now (files .exit)) (now (contents .exit)) (now («open_files» .exit)) (now (processes .exit))) ≡ lentOf (act (fixed (now (policy .entry))) (store (now (files .entry)) (now (contents .entry)) (now («open_files» .entry)) (now (processes .entry))) (callOf c (now (path .entry)) (now («data» .entry)) (now (buffer .entry)))) ⌝ }
 {
     let d = decision::decide::decide_call(
         files,
@@ -86,7 +86,7 @@ pub fn call(
     data: &[u8],
     buffer: &mut [u8],
 ) -> Answer
-    ensures { λ r. ⌜ lent r (now (buffer .exit)) (store (now (files .exit)) (now (contents .exit)) (now («open_files» .exit)) (now (processes .exit))) ≡ lentOf (step (now (policy .entry)) (store (now (files .entry)) (now (contents .entry)) (now («open_files» .entry)) (now (processes .entry))) (callOf c (now (path .entry)) (now («data» .entry)) (now (buffer .entry)))) ⌝ }
+    ensures { λ r. ⌜ lent r (now (buffer .exit)) (store (now (files .exit)) (now (contents .exit)) (now («open_files» .exit)) (now (processes .exit))) ≡ lentOf (step (fixed (now (policy .entry))) (store (now (files .entry)) (now (contents .entry)) (now («open_files» .entry)) (now (processes .entry))) (callOf c (now (path .entry)) (now («data» .entry)) (now (buffer .entry)))) ⌝ }
 {
     if !soundness::store::sound(files, contents, open_files, processes, policy) {
         return refused_answer(Refusal::Unsound, 0);

@@ -1,7 +1,10 @@
-// The calls by their numbers.
+// The calls by their numbers, and which parts they use.
 ghost use mathlib.Core.Path.{_≡_};
-ghost use Rattle.rules.specs.Calls.{operationOf};
+ghost use Rattle.rules.specs.Calls.{operationOf, uses, parts, reading};
+use crate::layout::BLOCK;
+use crate::layout::PATH;
 use rules::request::Operation;
+use rules::request::Parts;
 
 // Which call a number names.
 pub fn operation_of(call: u8) -> Operation
@@ -26,5 +29,56 @@ pub fn operation_of(call: u8) -> Operation
         16 => Operation::Exit,
         17 => Operation::Execute,
         _ => Operation::Unknown,
+    }
+}
+
+fn parts(fd: bool, number: bool, path: usize, data: usize) -> Parts
+    ensures { λ r. ⌜ r ≡ parts fd number path «data» ⌝ }
+{
+    Parts {
+        fd: fd,
+        number: number,
+        path: path,
+        data: data,
+        reads: false,
+    }
+}
+
+// Its number is the size of a buffer to read into.
+fn reading(u: Parts) -> Parts
+    ensures { λ r. ⌜ r ≡ reading u ⌝ }
+{
+    Parts {
+        fd: u.fd,
+        number: u.number,
+        path: u.path,
+        data: u.data,
+        reads: true,
+    }
+}
+
+// Which parts a call uses.
+pub fn uses(o: Operation) -> Parts
+    ensures { λ r. ⌜ r ≡ uses o ⌝ }
+{
+    match o {
+        Operation::Open => parts(false, true, PATH, 0),
+        Operation::Create => parts(false, true, PATH, 0),
+        Operation::MakeDirectory => parts(false, true, PATH, 0),
+        Operation::Unlink => parts(false, false, PATH, 0),
+        Operation::RemoveDirectory => parts(false, false, PATH, 0),
+        Operation::Link => parts(false, false, PATH, PATH),
+        Operation::List => parts(false, true, PATH, 0),
+        Operation::ChangeBits => parts(false, true, PATH, 0),
+        Operation::Stat => parts(false, false, PATH, 0),
+        Operation::Close => parts(true, false, 0, 0),
+        Operation::Read => reading(parts(true, true, 0, 0)),
+        Operation::Write => parts(true, false, 0, BLOCK),
+        Operation::Seek => parts(true, true, 0, 0),
+        Operation::Duplicate => parts(true, false, 0, 0),
+        Operation::Fork => parts(false, false, 0, 0),
+        Operation::Exit => parts(false, false, 0, 0),
+        Operation::Execute => parts(false, false, PATH, 0),
+        Operation::Unknown => parts(true, true, PATH, BLOCK),
     }
 }

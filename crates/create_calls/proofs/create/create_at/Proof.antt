@@ -1,5 +1,5 @@
+use Rattle.rules.specs.DecidePaths.{createAt}
 use Rattle.rules.proofs.Choices.{steps}
-use Rattle.create_calls.specs.NewName.{createAt}
 use Rattle.create_calls.proofs.create.create_at.Statement.{statement}
 use Rattle.create_calls.proofs.create.create_at.Tie as tie
 

@@ -1,5 +1,5 @@
+use Rattle.rules.specs.DecidePaths.{linkAt}
 use Rattle.rules.proofs.Choices.{steps}
-use Rattle.create_calls.specs.NewName.{linkAt}
 use Rattle.create_calls.proofs.link.link_at.Statement.{statement}
 use Rattle.create_calls.proofs.link.link_at.Tie as tie
 

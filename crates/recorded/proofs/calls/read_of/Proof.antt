@@ -1,5 +1,4 @@
 use Rattle.recorded.specs.Called.{readOf}
-use Rattle.rules.proofs.Choices.{left, steps}
 use Rattle.recorded.proofs.calls.read_of.Statement.{statement}
 use Rattle.recorded.proofs.calls.read_of.Tie as tie
 
@@ -8,6 +7,8 @@ unfolding readOf
 read-of-spec =
     tie.close
     (tie.spec
-    (λ c. search steps)
     (λ c κs. tt)
-    (λ c. left _ _ _ _ (c .before .if1 .left) (c .upto .ensures)))
+    (λ c κs. tt)
+    (λ c. rw (← c .before .before .operation-of .ensures, ← c .before .uses .ensures, c .if1 .taken))
+    (λ c κs. tt)
+    (λ c. rw (← c .before .before .before .operation-of .ensures, ← c .before .before .uses .ensures, c .before .if1 .left) (c .upto .ensures)))

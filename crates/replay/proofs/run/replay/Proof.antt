@@ -1,10 +1,10 @@
 -- The invariant: the run of what is left of the script, after the calls answered, leaves what the whole run leaves.
-use Prim.Native.Nat.{ℕ, _+_, _-_, _≤_}
-use mathlib.Core.Path.{_≡_, refl, _∙_}
+use Prim.Native.Nat.{_-_, _≤_}
+use mathlib.Core.Path.{_≡_}
 use native.Mathlib.Omega.{arith}
 use borrow.Author.Needs.{needs}
 use lib.ListN.{length, drop}
-use Rattle.rules.specs.Store.{store}
+use Rattle.rules.specs.Store.{fixed, store}
 use Rattle.script_rules.specs.Replay.{run, replay}
 use Rattle.replay.specs.Runs.{leftBy}
 use Rattle.replay.proofs.RunLaws.{starts, stop-turn, answer-turn}
@@ -15,8 +15,8 @@ abbrev Inv-loop : tie.InvT-loop
 Inv-loop files₀ contents₀ opens₀ processes₀ policy script allowance output₀ at₀ written₀ allowed₀ files contents opens processes output at written allowed =
     (length files ≡ length files₀) × (length contents ≡ length contents₀) × (length opens ≡ length opens₀) × (length processes ≡ length processes₀) × (length output ≡ length output₀)
     × (allowed ≤ allowance) × (at ≤ length script) × (written ≤ length output)
-    × (leftBy (allowance - allowed) written output (run allowed policy (drop at script) at (length output - written) (store files contents opens processes))
-    ≡ leftBy 0 0 output₀ (replay allowance policy script (length output₀) (store files₀ contents₀ opens₀ processes₀)))
+    × (leftBy (allowance - allowed) written output (run allowed (fixed policy) (drop at script) at (length output - written) (store files contents opens processes))
+    ≡ leftBy 0 0 output₀ (replay allowance (fixed policy) script (length output₀) (store files₀ contents₀ opens₀ processes₀)))
 
 abbrev μ-loop : tie.MeasureT-loop
 μ-loop files₀ contents₀ opens₀ processes₀ policy script allowance output₀ at₀ written₀ allowed₀ files contents opens processes output at written allowed = allowed

@@ -1,32 +1,31 @@
 -- The walk calls itself. The measure is the number of names left.
 use Prim.Native.Nat.{ℕ, _+_, _-_, _^_, _≤_, _<_}
 use mathlib.Core.Path.{_≡_, sym, _∙_}
-use mathlib.Core.Bool.{Bool, true, false}
+use mathlib.Core.Bool.{Bool, true, false, cond}
 use mathlib.Core.Logic.{_⊎_, inl, inr}
-use mathlib.Core.List.{List, []}
-use native.Mathlib.Decide.{decLt}
+use mathlib.Core.List.{List, [], _∷_}
 use native.Mathlib.Omega.{arith}
 use borrow.Author.Needs.{needs}
 use borrow.Fn.Kinds.{In}
 use borrow.Fn.PlainCycle.{Measures, is, falls, and}
-use lib.ListN.{length, getD, take, drop, drop-of-length-le}
-use lib.Seq.{take-nil}
+use lib.ListN.{length, getD, take, drop}
 use Rattle.rules.specs.Store.{tree}
 use Rattle.rules.specs.Paths.{span, isSlash, notSlash, firstNames}
-use Rattle.rules.specs.Walk.{onReached}
+use Rattle.rules.specs.Walk.{lookup, walk, onReached}
 use Rattle.rules.specs.declared.request.Subject.{Subject}
 use Rattle.rules.specs.declared.refusal.Refusal.{Refusal}
 use Rattle.rules.specs.declared.decision.Location.{Location}
+use Rattle.rules.specs.declared.decision.Intent.{Intent}
+use Rattle.rules.specs.declared.decision.Intent.the-variants.{Find}
 use Rattle.rules.specs.declared.decision.Walk.{Walk}
 use Rattle.rules.specs.declared.decision.Walk.the-variants.{Reached, Stopped}
 use Rattle.rules.specs.declared.ids.Slot.{Slot}
-use Rattle.resolution.specs.declared.walk.Intent.{Intent}
 use Rattle.resolution.specs.declared.path_names.PathName.{PathName}
 use Rattle.resolution.specs.PathNames.{nameAt, nameFrom}
-use Rattle.resolution.specs.Walks.{here, isLast, lookupFor, lookupBy, walkFor, NameStarts}
+use Rattle.resolution.specs.Walks.{isLast, lookupBy, from, NameStarts}
 use Rattle.resolution.proofs.ByWords.{name-bytes, by-words}
 use Rattle.resolution.proofs.Names.{names-zero, no-names, more-names, no-slashes, some-names, skip-names}
-use Rattle.resolution.proofs.Walks.{find-is, walk-more, last-why, not-last}
+use Rattle.resolution.proofs.Walks.{walk-last, walk-more, last-why, not-last}
 use Rattle.resolution.proofs.walk.walk_from.Reads as walk-from
 use Rattle.resolution.proofs.walk.walk_from.Kinds as walk-from-kinds
 use Rattle.resolution.proofs.walk.+walk_from.Lts-walk_from as walk-from-lts
@@ -55,20 +54,14 @@ one-less l size next left t m z y = omega (arith, m, left-more l size next left 
 
 module _ (F C Q : List ℕ) (who : Subject) (p : List ℕ) (start left k : ℕ) (d : Slot) (intent : Intent) (n : NameStarts p start k left) where
   abbrev goal : Walk
-  goal = walkFor intent (tree F C) Q who d k (firstNames (left + 1) (drop start p))
+  goal = walk intent (tree F C) Q who (from d) k (firstNames (left + 1) (drop start p))
 
   own : start ≡ start + span isSlash (drop start p)
   own = omega (arith, n .no-slash)
 
   module _ (e : ℕ) (b : e ≡ start + span notSlash (drop start p)) (s : ℕ) (a : s ≡ e + span isSlash (drop e p)) where
-    -- the last name, or none: then its bytes are none
-    only : firstNames left (drop e p) ≡ [] → goal ≡ lookupFor intent (tree F C) Q who d (take (e - start) (drop start p)) k
-    unfolding walkFor
-    only q = by (decLt start (length p))
-      where
-        by : Dec (start < length p) → goal ≡ lookupFor intent (tree F C) Q who d (take (e - start) (drop start p)) k
-        by (yes h) = rw (more-names p start start own e b (left + 1) left h (omega arith), q)
-        by (no h) = let m : length p ≤ start = omega arith in rw (no-names p start start own (left + 1) m, drop-of-length-le p m, take-nil)
+    split : goal ≡ walk intent (tree F C) Q who (from d) k (take (e - start) (drop start p) ∷ firstNames left (drop e p))
+    split = rw (more-names p start start own e b (left + 1) left (n .inside) (omega arith))
 
     module _ (l : Bool) (z : l ≡ isLast (length p) s left) where
       module _ (y : l ≡ false) where
@@ -79,22 +72,22 @@ module _ (F C Q : List ℕ) (who : Subject) (p : List ℕ) (start left k : ℕ) 
         more = not-last (length p) s left (sym z ∙ y) .1
 
         starts : NameStarts p s (k + 1) (left - 1)
-        starts = record { inside = omega (arith, more); no-slash = no-slashes p e s a more; few = omega (arith, n .few, some) }
+        starts = record { inside = more; no-slash = no-slashes p e s a more; few = omega (arith, n .few, some) }
 
-      module _ (at : Intent) (i : at ≡ here l intent) (w : Walk) (v : w ≡ lookupFor at (tree F C) Q who d (take (e - start) (drop start p)) k) where
+      module _ (at : Intent) (i : at ≡ cond l intent Find) (w : Walk) (v : w ≡ lookup at (tree F C) Q who d (take (e - start) (drop start p)) k) where
         stop : l ≡ true → w ≡ goal
-        stop y = v ∙ rw (i, y) (sym (only (by (last-why (length p) s left (sym z ∙ y)))))
+        stop y = v ∙ rw (i, y, split, by (last-why (length p) s left (sym z ∙ y)), walk-last)
           where
             by : (left ≡ 0) ⊎ (length p ≤ s) → firstNames left (drop e p) ≡ []
             by (inl x) = rw x (names-zero (drop e p))
             by (inr x) = no-names p e s a left x
 
         module _ (y : l ≡ false) where
-          looked : goal ≡ onReached w (λ (to : Location). walkFor intent (tree F C) Q who (to .slot) (k + 1) (firstNames left (drop e p)))
+          looked : goal ≡ onReached w (λ (to : Location). walk intent (tree F C) Q who (from (to .slot)) (k + 1) (firstNames left (drop e p)))
           looked =
-              rw (more-names p start start own e b (left + 1) left (omega (arith, more y)) (omega arith), walk-more intent (tree F C) Q who d k _ _ (some-names p e s a (more y) left (left - 1) (omega (arith, some y))), v, i, y, find-is)
+              rw (split, walk-more intent (tree F C) Q who (from d) k _ _ (some-names p e s a (more y) left (left - 1) (omega (arith, some y))), v, i, y)
 
-          on : (to : Location) (r : Walk) → w ≡ Reached to → r ≡ walkFor intent (tree F C) Q who (to .slot) (k + 1) (firstNames (left - 1 + 1) (drop s p)) → r ≡ goal
+          on : (to : Location) (r : Walk) → w ≡ Reached to → r ≡ walk intent (tree F C) Q who (from (to .slot)) (k + 1) (firstNames (left - 1 + 1) (drop s p)) → r ≡ goal
           unfolding onReached
           on to r q x =
               let m : left - 1 + 1 ≡ left = omega (arith, some y) in
@@ -115,19 +108,19 @@ module _ (F C Q : List ℕ) (who : Subject) (p : List ℕ) (start left k : ℕ) 
   pub goes-on : l ≡ false → NameStarts p s (k + 1) (left - 1)
   goes-on = starts F C Q who p start left k d intent n (x .end) ends s a l z
 
-  module _ (bc : (j : ℕ) → getD C j 0 < 256) (bp : (j : ℕ) → getD p j 0 < 256) (at : Intent) (i : at ≡ here l intent) (w : Walk) (v : w ≡ lookupBy at (tree F C) Q who d (x .low) (x .high) k) where
-    named : w ≡ lookupFor at (tree F C) Q who d (take (x .end - start) (drop start p)) k
+  module _ (bc : (j : ℕ) → getD C j 0 < 256) (bp : (j : ℕ) → getD p j 0 < 256) (at : Intent) (i : at ≡ cond l intent Find) (w : Walk) (v : w ≡ lookupBy at (tree F C) Q who d (x .low) (x .high) k) where
+    named : w ≡ lookup at (tree F C) Q who d (take (x .end - start) (drop start p)) k
     named =
         let m : start + span notSlash (drop start p) - start ≡ span notSlash (drop start p) = omega arith in
         v ∙ rw (g, m) (by-words at F C Q who d (nameAt p start) k bc (name-bytes p start bp))
 
-    pub stops : l ≡ true → w ≡ walkFor intent (tree F C) Q who d k (firstNames (left + 1) (drop start p))
+    pub stops : l ≡ true → w ≡ walk intent (tree F C) Q who (from d) k (firstNames (left + 1) (drop start p))
     stops = stop F C Q who p start left k d intent n (x .end) ends s a l z at i w named
 
-    pub reaches : l ≡ false → (to : Location) (r : Walk) → w ≡ Reached to → r ≡ walkFor intent (tree F C) Q who (to .slot) (k + 1) (firstNames (left - 1 + 1) (drop s p)) → r ≡ walkFor intent (tree F C) Q who d k (firstNames (left + 1) (drop start p))
+    pub reaches : l ≡ false → (to : Location) (r : Walk) → w ≡ Reached to → r ≡ walk intent (tree F C) Q who (from (to .slot)) (k + 1) (firstNames (left - 1 + 1) (drop s p)) → r ≡ walk intent (tree F C) Q who (from d) k (firstNames (left + 1) (drop start p))
     reaches = on F C Q who p start left k d intent n (x .end) ends s a l z at i w named
 
-    pub refuses : l ≡ false → (r : Refusal) (j : ℕ) → w ≡ Stopped r j → Stopped r j ≡ walkFor intent (tree F C) Q who d k (firstNames (left + 1) (drop start p))
+    pub refuses : l ≡ false → (r : Refusal) (j : ℕ) → w ≡ Stopped r j → Stopped r j ≡ walk intent (tree F C) Q who (from d) k (firstNames (left + 1) (drop start p))
     refuses = refuse F C Q who p start left k d intent n (x .end) ends s a l z at i w named
 
 pub +walk-from-spec : {M : Type 1} → statement M

@@ -1,6 +1,7 @@
 use native.Mathlib.Omega.{arith}
 use borrow.Author.Needs.{needs}
-use Rattle.script_output.proofs.HexLaws.{length-hex, hex-room, hex-wrote}
+use Rattle.script_rules.proofs.Texts.{length-hex}
+use Rattle.script_output.proofs.HexLaws.{hex-room, hex-wrote}
 use Rattle.script_output.proofs.answers.write_hex.Statement.{statement}
 use Rattle.script_output.proofs.answers.write_hex.Tie as tie
 

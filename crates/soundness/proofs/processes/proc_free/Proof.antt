@@ -1,6 +1,5 @@
 use Rattle.rules.specs.Sound.{procFree}
 use Rattle.rules.proofs.Choices.{steps}
-use borrow.Author.Needs.{needs}
 use Rattle.soundness.proofs.processes.proc_free.Statement.{statement}
 use Rattle.soundness.proofs.processes.proc_free.Tie as tie
 
@@ -9,14 +8,6 @@ unfolding procFree
 proc-free-spec =
     tie.close
     (tie.spec
-    (λ c. search needs)
-    (λ c. search needs)
-    (λ c. search needs)
-    (λ c κs. tt)
-    (λ c. search steps)
-    (λ c. search needs)
-    (λ c. search needs)
-    (λ c. search needs)
     (λ c κs. tt)
     (λ c. search steps)
     (λ c κs. tt)

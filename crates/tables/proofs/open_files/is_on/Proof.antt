@@ -1,4 +1,4 @@
-use Rattle.rules.specs.Sound.{isOn}
+use Rattle.rules.specs.Store.{isOn}
 use Rattle.rules.proofs.Choices.{steps}
 use Rattle.tables.proofs.open_files.is_on.Statement.{statement}
 use Rattle.tables.proofs.open_files.is_on.Tie as tie

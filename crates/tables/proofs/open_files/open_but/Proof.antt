@@ -4,8 +4,7 @@ use borrow.Author.Needs.{needs}
 use Rattle.rules.specs.Layout.{OPEN-FILE-WIDTH, OPEN-FILES}
 use Rattle.rules.specs.Scan.{any}
 use Rattle.rules.proofs.Scans.{any-yes, any-no, any-done}
-use Rattle.rules.specs.Sound.{isOn, openBut}
-use Rattle.rules.specs.Store.{tab}
+use Rattle.rules.specs.Store.{isOn, openBut, tab}
 use Rattle.tables.proofs.open_files.open_but.Statement.{statement}
 use Rattle.tables.proofs.open_files.open_but.Tie as tie
 

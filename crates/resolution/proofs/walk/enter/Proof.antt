@@ -1,0 +1,16 @@
+use Rattle.rules.specs.Walk.{entered}
+use borrow.Author.Needs.{needs}
+use Rattle.resolution.proofs.walk.enter.Statement.{statement}
+use Rattle.resolution.proofs.walk.enter.Tie as tie
+
+pub enter-spec : {M : Type 1} → statement M
+unfolding entered
+enter-spec =
+    tie.close
+    (tie.spec
+    (λ c. search needs)
+    (λ c κs. tt)
+    (λ c. search needs)
+    (λ c κs. tt)
+    (λ c. simp (← c .reach-there .ensures, c .before .enum-told .given .1))
+    (λ c. simp (← c .reach .ensures, c .before .enum-told2 .given .1)))
