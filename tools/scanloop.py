@@ -25,11 +25,15 @@ mod = fn.replace('/', '.')
 if kind == 'count':
     laws = ['count-yes', 'count-no', 'count-done']
     needs = []
-    inv = f"(c .before .before .before .loop .inv .1) (c .before .before .loop-test .taken)"
+    inv = "(at-loop .loop .inv .1) (at-loop-test .loop-test .taken)"
     body = ['(λ c. omega arith)', '(λ c κs. search needs)', '(λ c. search needs)', '(λ c. search needs)', '(λ c. search needs)',
-            f'''(λ c. (⊎-elim (λ w. omega arith) (λ w. omega arith) (c .if1 .came),
-    ⊎-elim (λ w. cc (count-yes _ _ _ _ {inv} (w .0 .taken) (c .before .{call} .ensures)))
-    (λ w. cc (count-no _ _ _ _ {inv} (w .0 .left) (c .before .{call} .ensures))) (c .if1 .came)))''',
+            f'''(λ c.
+    let at-{call} = c .before in
+    let at-loop-test = at-{call} .before in
+    let at-loop = at-loop-test .before in
+    (⊎-elim (λ w. omega arith) (λ w. omega arith) (c .if1 .came),
+    ⊎-elim (λ w. cc (count-yes _ _ _ _ {inv} (w .0 .taken) (at-{call} .{call} .ensures)))
+    (λ w. cc (count-no _ _ _ _ {inv} (w .0 .left) (at-{call} .{call} .ensures))) (c .if1 .came)))''',
             '(λ c. count-done _ _ _ _ (c .before .loop .inv .1) (c .loop-test .left))']
 else:
     laws = {'all': ['all-yes', 'all-no', 'all-done'], 'any': ['any-yes', 'any-no', 'any-done'], 'first': ['first-yes', 'first-no', 'first-done']}[kind]

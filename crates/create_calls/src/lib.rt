@@ -1,4 +1,3 @@
 // The calls that make names: what they are answered, on the tables as they are. Nothing is written here.
 pub mod create;
-mod dirs;
 pub mod link;

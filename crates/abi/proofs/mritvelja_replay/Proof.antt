@@ -6,7 +6,14 @@ use Rattle.abi.proofs.mritvelja_replay.Statement.{statement}
 use Rattle.abi.proofs.mritvelja_replay.Tie as tie
 
 returns : tie.Need-returns
-returns c = rw (c .report-of .ensures) (ap (λ (l : Left). crossedBy l) (c .before .before .before .before .before .before .before .before .before .before .before .replay .ensures))
+returns c =
+    let before-c = c .before .before in
+    let before-c-2 = before-c .before .before in
+    let before-c-3 = before-c-2 .before .before in
+    let before-c-4 = before-c-3 .before .before in
+    let before-c-5 = before-c-4 .before .before in
+    let at-replay = before-c-5 .before in
+    rw (c .report-of .ensures) (ap (λ (l : Left). crossedBy l) (at-replay .replay .ensures))
 
 pub mritvelja-replay-spec : {M : Type 1} → statement M
 mritvelja-replay-spec =

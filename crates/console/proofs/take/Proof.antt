@@ -16,4 +16,9 @@ take-spec =
     (λ c κs. tt)
     (λ c κs. tt)
     (λ c κs. tt)
-    (λ c. left-of _ _ _ _ _ (c .before .before .before .before .before .is-silent .ensures) (c .before .before .before .before .if1 .left) (rw (c .take-kind .ensures, c .before .index-of .ensures, c .before .before .word .ensures))))
+    (λ c.
+    let at-index-of = c .before in
+    let at-word = at-index-of .before in
+    let at-if1 = at-word .before .before in
+    let at-is-silent = at-if1 .before in
+    left-of _ _ _ _ _ (at-is-silent .is-silent .ensures) (at-if1 .if1 .left) (rw (c .take-kind .ensures, at-index-of .index-of .ensures, at-word .word .ensures))))

@@ -18,4 +18,15 @@ replayed-spec =
     (λ c. search needs)
     (λ c κs. tt)
     (λ c. search needs)
-    (λ c. on-console _ _ _ _ _ _ (c .before .before .before .before .before .before .before .before .before .before .before .before .before .before .before .before .files .ensures) (c .before .before .before .before .before .before .before .before .before .before .before .before .before .before .before .contents .ensures) (c .before .before .before .before .before .before .before .before .before .before .before .before .before .before .processes .ensures) (c .before .before .before .before .before .before .before .before .before .before .before .before .before .policy .ensures) (c .before .before .before .before .before .before .replay .ensures)))
+    (λ c.
+    let before-c = c .before .before in
+    let before-c-2 = before-c .before .before in
+    let at-replay = before-c-2 .before .before in
+    let before-replay = at-replay .before .before in
+    let before-replay-2 = before-replay .before .before in
+    let before-replay-3 = before-replay-2 .before .before in
+    let at-policy = before-replay-3 .before in
+    let at-processes = at-policy .before in
+    let at-contents = at-processes .before in
+    let at-files = at-contents .before in
+    on-console _ _ _ _ _ _ (at-files .files .ensures) (at-contents .contents .ensures) (at-processes .processes .ensures) (at-policy .policy .ensures) (at-replay .replay .ensures)))

@@ -1,3 +1,4 @@
+-- An arm for each effect: the effect matched opens `carryOut` to one list of changes, which is what the one function called in the arm ensures.
 use Rattle.rules.specs.Effects.{carryOut}
 use borrow.Author.Needs.{needs}
 use Rattle.apply.proofs.carry.carry_out.Statement.{statement}
@@ -9,59 +10,137 @@ returns c buffer = rw (c .enum-told .given .1)
 
 returns-2 : tie.Need-returns-2
 unfolding carryOut
-returns-2 c buffer = rw (c .before .before .before .before .before .before .before .before .e .given .1) (c .before .before .before .before .open-file .ensures _ _)
+returns-2 c buffer =
+    let before-c = c .before .before in
+    let at-open-file = before-c .before .before in
+    let before-open-file = at-open-file .before .before in
+    let at-e = before-open-file .before .before in
+    rw (at-e .e .given .1) (at-open-file .open-file .ensures _ _)
 
 returns-3 : tie.Need-returns-3
 unfolding carryOut
-returns-3 c buffer = rw (c .before .before .before .before .before .before .before .before .before .before .before .before .before .before .e2 .given .1) (c .before .before .before .before .before .before .before .before .open-truncated .ensures)
+returns-3 c buffer =
+    let before-c = c .before .before in
+    let before-c-2 = before-c .before .before in
+    let before-c-3 = before-c-2 .before .before in
+    let at-open-truncated = before-c-3 .before .before in
+    let before-open-truncated = at-open-truncated .before .before in
+    let before-open-truncated-2 = before-open-truncated .before .before in
+    let at-e2 = before-open-truncated-2 .before .before in
+    rw (at-e2 .e2 .given .1) (at-open-truncated .open-truncated .ensures)
 
 returns-4 : tie.Need-returns-4
 unfolding carryOut
-returns-4 c buffer = rw (c .before .before .before .before .before .before .before .before .e3 .given .1) (c .before .before .before .before .create-file .ensures _ _)
+returns-4 c buffer =
+    let before-c = c .before .before in
+    let at-create-file = before-c .before .before in
+    let before-create-file = at-create-file .before .before in
+    let at-e3 = before-create-file .before .before in
+    rw (at-e3 .e3 .given .1) (at-create-file .create-file .ensures _ _)
 
 returns-5 : tie.Need-returns-5
 unfolding carryOut
-returns-5 c buffer = rw (c .before .before .before .before .before .before .before .before .e4 .given .1) (c .before .before .before .before .unlink-file .ensures _ _)
+returns-5 c buffer =
+    let before-c = c .before .before in
+    let at-unlink-file = before-c .before .before in
+    let before-unlink-file = at-unlink-file .before .before in
+    let at-e4 = before-unlink-file .before .before in
+    rw (at-e4 .e4 .given .1) (at-unlink-file .unlink-file .ensures _ _)
 
 returns-6 : tie.Need-returns-6
 unfolding carryOut
-returns-6 c buffer = rw (c .before .before .before .before .before .before .before .before .e5 .given .1) (c .before .before .before .before .remove-directory .ensures _ _)
+returns-6 c buffer =
+    let before-c = c .before .before in
+    let at-remove-directory = before-c .before .before in
+    let before-remove-directory = at-remove-directory .before .before in
+    let at-e5 = before-remove-directory .before .before in
+    rw (at-e5 .e5 .given .1) (at-remove-directory .remove-directory .ensures _ _)
 
 returns-7 : tie.Need-returns-7
 unfolding carryOut
-returns-7 c buffer = rw (c .before .before .before .before .before .before .before .before .e6 .given .1) (c .before .before .before .before .link-file .ensures _ _)
+returns-7 c buffer =
+    let before-c = c .before .before in
+    let at-link-file = before-c .before .before in
+    let before-link-file = at-link-file .before .before in
+    let at-e6 = before-link-file .before .before in
+    rw (at-e6 .e6 .given .1) (at-link-file .link-file .ensures _ _)
 
 returns-8 : tie.Need-returns-8
 unfolding carryOut
-returns-8 c buffer = rw (c .before .before .before .before .before .e7 .given .1) (c .before .before .change-bits .ensures _ _ _)
+returns-8 c buffer =
+    let at-change-bits = c .before .before in
+    let before-change-bits = at-change-bits .before .before in
+    let at-e7 = before-change-bits .before in
+    rw (at-e7 .e7 .given .1) (at-change-bits .change-bits .ensures _ _ _)
 
 returns-9 : tie.Need-returns-9
 unfolding carryOut
-returns-9 c buffer = rw (c .before .before .before .before .before .before .before .before .before .before .before .before .before .before .e8 .given .1) (c .before .before .before .before .before .before .before .before .close-descriptor .ensures)
+returns-9 c buffer =
+    let before-c = c .before .before in
+    let before-c-2 = before-c .before .before in
+    let before-c-3 = before-c-2 .before .before in
+    let at-close-descriptor = before-c-3 .before .before in
+    let before-close-descriptor = at-close-descriptor .before .before in
+    let before-close-descriptor-2 = before-close-descriptor .before .before in
+    let at-e8 = before-close-descriptor-2 .before .before in
+    rw (at-e8 .e8 .given .1) (at-close-descriptor .close-descriptor .ensures)
 
 returns-10 : tie.Need-returns-10
 unfolding carryOut
-returns-10 c buffer = rw (c .before .before .before .before .before .before .before .before .before .before .before .e9 .given .1) (c .before .before .before .before .before .before .write-bytes .ensures _)
+returns-10 c buffer =
+    let before-c = c .before .before in
+    let before-c-2 = before-c .before .before in
+    let at-write-bytes = before-c-2 .before .before in
+    let before-write-bytes = at-write-bytes .before .before in
+    let before-write-bytes-2 = before-write-bytes .before .before in
+    let at-e9 = before-write-bytes-2 .before in
+    rw (at-e9 .e9 .given .1) (at-write-bytes .write-bytes .ensures _)
 
 returns-11 : tie.Need-returns-11
 unfolding carryOut
-returns-11 c buffer = rw (c .before .before .before .before .before .e10 .given .1) (c .before .before .move-offset .ensures _ _ _)
+returns-11 c buffer =
+    let at-move-offset = c .before .before in
+    let before-move-offset = at-move-offset .before .before in
+    let at-e10 = before-move-offset .before in
+    rw (at-e10 .e10 .given .1) (at-move-offset .move-offset .ensures _ _ _)
 
 returns-12 : tie.Need-returns-12
 unfolding carryOut
-returns-12 c buffer = rw (c .before .before .before .before .before .before .before .before .e11 .given .1) (c .before .before .before .before .duplicate-descriptor .ensures _ _)
+returns-12 c buffer =
+    let before-c = c .before .before in
+    let at-duplicate-descriptor = before-c .before .before in
+    let before-duplicate-descriptor = at-duplicate-descriptor .before .before in
+    let at-e11 = before-duplicate-descriptor .before .before in
+    rw (at-e11 .e11 .given .1) (at-duplicate-descriptor .duplicate-descriptor .ensures _ _)
 
 returns-13 : tie.Need-returns-13
 unfolding carryOut
-returns-13 c buffer = rw (c .before .before .before .before .before .before .before .before .e12 .given .1) (c .before .before .before .before .fork .ensures _ _)
+returns-13 c buffer =
+    let before-c = c .before .before in
+    let at-fork = before-c .before .before in
+    let before-fork = at-fork .before .before in
+    let at-e12 = before-fork .before .before in
+    rw (at-e12 .e12 .given .1) (at-fork .fork .ensures _ _)
 
 returns-14 : tie.Need-returns-14
 unfolding carryOut
-returns-14 c buffer = rw (c .before .before .before .before .before .before .before .before .before .before .before .before .before .enum-told2 .given .1) (c .before .before .before .before .before .before .before .before .exit .ensures)
+returns-14 c buffer =
+    let before-c = c .before .before in
+    let before-c-2 = before-c .before .before in
+    let before-c-3 = before-c-2 .before .before in
+    let at-exit = before-c-3 .before .before in
+    let before-exit = at-exit .before .before in
+    let before-exit-2 = before-exit .before .before in
+    let at-enum-told2 = before-exit-2 .before in
+    rw (at-enum-told2 .enum-told2 .given .1) (at-exit .exit .ensures)
 
 returns-15 : tie.Need-returns-15
 unfolding carryOut
-returns-15 c buffer = rw (c .before .before .before .before .before .e13 .given .1) (c .before .before .relabel-process .ensures _ _ _)
+returns-15 c buffer =
+    let at-relabel-process = c .before .before in
+    let before-relabel-process = at-relabel-process .before .before in
+    let at-e13 = before-relabel-process .before in
+    rw (at-e13 .e13 .given .1) (at-relabel-process .relabel-process .ensures _ _ _)
 
 pub carry-out-spec : {M : Type 1} → statement M
 carry-out-spec =

@@ -18,7 +18,16 @@ abbrev μ-loop : tie.MeasureT-loop
 μ-loop files₀ contents₀ opens₀ processes₀ p i₀ files contents opens processes i = 8 - i
 
 loop-again : tie.Need-loop-again Inv-loop μ-loop
-loop-again c = (search needs, search needs, search needs, search needs, rw (c .before .before .before .before .before .before .before .before .release-one .ensures) (repeat-step _ _ _ _ (c .before .before .before .before .before .before .before .before .before .before .before .before .before .before .loop .inv .4) (c .before .before .before .before .before .before .before .before .before .before .before .before .before .loop-test .taken)))
+loop-again c =
+    let before-c = c .before .before in
+    let before-c-2 = before-c .before .before in
+    let before-c-3 = before-c-2 .before .before in
+    let at-release-one = before-c-3 .before .before in
+    let before-release-one = at-release-one .before .before in
+    let before-release-one-2 = before-release-one .before .before in
+    let at-loop-test = before-release-one-2 .before in
+    let at-loop = at-loop-test .before in
+    (search needs, search needs, search needs, search needs, rw (at-release-one .release-one .ensures) (repeat-step _ _ _ _ (at-loop .loop .inv .4) (at-loop-test .loop-test .taken)))
 
 returns : tie.Need-returns Inv-loop μ-loop
 unfolding releasedAll

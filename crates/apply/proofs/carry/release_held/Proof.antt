@@ -5,7 +5,15 @@ use Rattle.apply.proofs.carry.release_held.Tie as tie
 
 returns : tie.Need-returns
 unfolding released
-returns c = rw (c .before .before .before .before .before .before .before .before .before .before .before .before .before .release .ensures) at (c .before .before .before .before .before .before .before .before .close-descriptor .ensures)
+returns c =
+    let before-c = c .before .before in
+    let before-c-2 = before-c .before .before in
+    let before-c-3 = before-c-2 .before .before in
+    let at-close-descriptor = before-c-3 .before .before in
+    let before-close-descriptor = at-close-descriptor .before .before in
+    let before-close-descriptor-2 = before-close-descriptor .before .before in
+    let at-release = before-close-descriptor-2 .before in
+    rw (at-release .release .ensures) at (at-close-descriptor .close-descriptor .ensures)
 
 pub release-held-spec : {M : Type 1} → statement M
 release-held-spec =

@@ -19,7 +19,13 @@ abbrev μ-loop : tie.MeasureT-loop
 μ-loop opens₀ processes₀ p q i₀ opens processes i = 8 - i
 
 loop-again : tie.Need-loop-again Inv-loop μ-loop
-loop-again c = (search needs, search needs, λ F C. rw (c .before .before .before .before .share-one .ensures F C) (repeat-step _ _ _ _ (c .before .before .before .before .before .before .before .before .loop .inv .2 F C) (c .before .before .before .before .before .before .before .loop-test .taken)))
+loop-again c =
+    let before-c = c .before .before in
+    let at-share-one = before-c .before .before in
+    let before-share-one = at-share-one .before .before in
+    let at-loop-test = before-share-one .before in
+    let at-loop = at-loop-test .before in
+    (search needs, search needs, λ F C. rw (at-share-one .share-one .ensures F C) (repeat-step _ _ _ _ (at-loop .loop .inv .2 F C) (at-loop-test .loop-test .taken)))
 
 returns : tie.Need-returns Inv-loop μ-loop
 unfolding sharedAll

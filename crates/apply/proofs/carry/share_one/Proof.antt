@@ -5,7 +5,12 @@ use Rattle.apply.proofs.carry.share_one.Tie as tie
 
 returns : tie.Need-returns
 unfolding shared
-returns c = λ F C. rw (c .before .before .before .before .before .before .before .share .ensures) at (c .before .before .before .before .share-descriptor .ensures F C)
+returns c =
+    let before-c = c .before .before in
+    let at-share-descriptor = before-c .before .before in
+    let before-share-descriptor = at-share-descriptor .before .before in
+    let at-share = before-share-descriptor .before in
+    λ F C. rw (at-share .share .ensures) at (at-share-descriptor .share-descriptor .ensures F C)
 
 pub share-one-spec : {M : Type 1} → statement M
 share-one-spec =

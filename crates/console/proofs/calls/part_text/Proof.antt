@@ -11,4 +11,8 @@ part-text-spec =
     (λ c κs. tt)
     (λ c κs. tt)
     (λ c. search needs)
-    (λ c. text-read _ _ _ (c .before .before .before .before .before .if1 .left) (c .before .before .before .before .word .ensures) (c .before .before .unescape .ensures .0) (c .before .before .unescape .ensures .1)))
+    (λ c.
+    let at-unescape = c .before .before in
+    let at-word = at-unescape .before .before in
+    let at-if1 = at-word .before in
+    text-read _ _ _ (at-if1 .if1 .left) (at-word .word .ensures) (at-unescape .unescape .ensures .0) (at-unescape .unescape .ensures .1)))

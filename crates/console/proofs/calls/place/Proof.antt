@@ -13,5 +13,13 @@ place-spec =
     (λ c κs. tt)
     (λ c κs. tt)
     (λ c. search needs)
-    (λ c. there _ _ (c .before .before .word .ensures ∙ rw (c .before .before .before .row-of .ensures)) (c .before .find .ensures) (c .if1 .taken))
-    (λ c. nowhere _ _ (c .before .before .word .ensures ∙ rw (c .before .before .before .row-of .ensures)) (c .before .find .ensures) (c .if1 .left)))
+    (λ c.
+    let at-find = c .before in
+    let at-word = at-find .before in
+    let at-row-of = at-word .before in
+    there _ _ (at-word .word .ensures ∙ rw (at-row-of .row-of .ensures)) (at-find .find .ensures) (c .if1 .taken))
+    (λ c.
+    let at-find = c .before in
+    let at-word = at-find .before in
+    let at-row-of = at-word .before in
+    nowhere _ _ (at-word .word .ensures ∙ rw (at-row-of .row-of .ensures)) (at-find .find .ensures) (c .if1 .left)))

@@ -15,4 +15,9 @@ serve-spec =
     (λ c κs. tt)
     (λ c κs. tt)
     (λ c. search needs)
-    (λ c. tables-after _ _ (c .before .before .before .before .before .before .before .before .call .ensures)))
+    (λ c.
+    let before-c = c .before .before in
+    let before-c-2 = before-c .before .before in
+    let before-c-3 = before-c-2 .before .before in
+    let at-call = before-c-3 .before .before in
+    tables-after _ _ (at-call .call .ensures)))

@@ -13,5 +13,15 @@ set-bytes-spec =
     (λ c κs. tt)
     (λ c κs. tt)
     (λ c. search needs)
-    (λ c. text-set _ _ _ (c .before .before .before .before .before .before .before .before .before .before .word .ensures) (c .before .before .before .before .before .before .before .before .unescape .ensures .0) (c .before .before .before .before .before .before .before .before .unescape .ensures .1) (c .before .before .before .before .before .before .if1 .taken) (c .before .before .before .head .ensures) (c .before .before .copy-bytes .ensures))
-    (λ c. text-kept _ _ _ (c .before .before .before .before .word .ensures) (c .before .before .unescape .ensures .0) (c .if1 .left)))
+    (λ c.
+    let at-copy-bytes = c .before .before in
+    let at-head = at-copy-bytes .before in
+    let before-head = at-head .before .before in
+    let at-if1 = before-head .before in
+    let at-unescape = at-if1 .before .before in
+    let at-word = at-unescape .before .before in
+    text-set _ _ _ (at-word .word .ensures) (at-unescape .unescape .ensures .0) (at-unescape .unescape .ensures .1) (at-if1 .if1 .taken) (at-head .head .ensures) (at-copy-bytes .copy-bytes .ensures))
+    (λ c.
+    let at-unescape = c .before .before in
+    let at-word = at-unescape .before .before in
+    text-kept _ _ _ (at-word .word .ensures) (at-unescape .unescape .ensures .0) (c .if1 .left)))

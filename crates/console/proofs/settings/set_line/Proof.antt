@@ -11,6 +11,10 @@ set-line-spec =
     (λ c κs. tt)
     (λ c κs. tt)
     (λ c κs. tt)
-    (λ c. took-of _ _ _ _ _ (c .before .before .before .is-number-at .ensures) (c .before .before .if1 .taken) (rw (c .set-table .ensures, c .before .table-of .ensures)))
+    (λ c.
+    let at-table-of = c .before in
+    let at-if1 = at-table-of .before in
+    let at-is-number-at = at-if1 .before in
+    took-of _ _ _ _ _ (at-is-number-at .is-number-at .ensures) (at-if1 .if1 .taken) (rw (c .set-table .ensures, at-table-of .table-of .ensures)))
     (λ c κs. tt)
     (λ c. search steps))

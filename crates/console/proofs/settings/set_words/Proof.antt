@@ -10,5 +10,9 @@ set-words-spec =
     (λ c κs. tt)
     (λ c κs. tt)
     (λ c. search needs)
-    (λ c. (c .before .before .before .before .before .ends-well .ensures, search steps))
+    (λ c.
+    let before-c = c .before .before in
+    let before-c-2 = before-c .before .before in
+    let at-ends-well = before-c-2 .before in
+    (at-ends-well .ends-well .ensures, search steps))
     (λ c. (c .before .ends-well .ensures, search steps)))

@@ -13,5 +13,10 @@ table-of-spec =
     (λ c. search needs)
     (λ c κs. tt)
     (λ c κs. tt)
-    (λ c. took-of _ _ _ _ _ (c .before .before .before .before .is-number-at .ensures) (c .before .before .before .if1 .taken) (rw (c .index-of .ensures, c .before .before .index-of-arg .given .1, c .before .word .ensures)))
+    (λ c.
+    let at-word = c .before in
+    let at-index-of-arg = at-word .before in
+    let at-if1 = at-index-of-arg .before in
+    let at-is-number-at = at-if1 .before in
+    took-of _ _ _ _ _ (at-is-number-at .is-number-at .ensures) (at-if1 .if1 .taken) (rw (c .index-of .ensures, at-index-of-arg .index-of-arg .given .1, at-word .word .ensures)))
     (λ c. search steps))

@@ -28,15 +28,37 @@ unescape-spec =
     (λ c κs. tt)
     (λ c κs. tt)
     (λ c. search needs)
-    (λ c. no-byte _ _ _ _ _ (c .before .before .before .before .before .before .loop .inv .1) (c .before .before .before .before .before .loop-test .taken) (c .before .before .before .before .if1 .left) (c .before .before .before .after .ensures) (c .before .before .first-byte .ensures) (omega arith))
+    (λ c.
+    let at-first-byte = c .before .before in
+    let at-after = at-first-byte .before in
+    let at-if1 = at-after .before in
+    let at-loop-test = at-if1 .before in
+    let at-loop = at-loop-test .before in
+    no-byte _ _ _ _ _ (at-loop .loop .inv .1) (at-loop-test .loop-test .taken) (at-if1 .if1 .left) (at-after .after .ensures) (at-first-byte .first-byte .ensures) (omega arith))
     (λ c. search needs)
     (λ c. search needs)
-    (λ c. no-room _ _ _ _ _ (c .before .before .before .before .before .before .before .loop .inv .1) (c .before .before .before .before .before .before .loop-test .taken) (c .before .before .before .before .before .if1 .left) (c .before .before .before .before .after .ensures) (c .before .before .before .first-byte .ensures) (omega arith) (c .before .before .first-width .ensures) (c .if3 .taken))
+    (λ c.
+    let at-first-width = c .before .before in
+    let at-first-byte = at-first-width .before in
+    let at-after = at-first-byte .before in
+    let at-if1 = at-after .before in
+    let at-loop-test = at-if1 .before in
+    let at-loop = at-loop-test .before in
+    no-room _ _ _ _ _ (at-loop .loop .inv .1) (at-loop-test .loop-test .taken) (at-if1 .if1 .left) (at-after .after .ensures) (at-first-byte .first-byte .ensures) (omega arith) (at-first-width .first-width .ensures) (c .if3 .taken))
     (λ c. search needs)
     (λ c κs. tt)
     (λ c. search needs)
     (λ c. search needs)
     (λ c. search needs)
-    (λ c. (search needs, more _ _ _ _ _ (c .before .before .before .before .before .before .before .before .before .before .before .loop .inv .1) (c .before .before .before .before .before .before .before .before .before .before .loop-test .taken) (c .before .before .before .before .before .before .before .before .before .if1 .left) (c .before .before .before .before .before .before .before .before .after .ensures) (c .before .before .before .before .before .before .before .first-byte .ensures) (omega arith) (c .before .before .before .before .before .before .first-width .ensures) (c .before .before .before .before .if3 .left) (c .before .before .put-byte .ensures)))
+    (λ c.
+    let at-put-byte = c .before .before in
+    let at-if3 = at-put-byte .before .before in
+    let at-first-width = at-if3 .before .before in
+    let at-first-byte = at-first-width .before in
+    let at-after = at-first-byte .before in
+    let at-if1 = at-after .before in
+    let at-loop-test = at-if1 .before in
+    let at-loop = at-loop-test .before in
+    (search needs, more _ _ _ _ _ (at-loop .loop .inv .1) (at-loop-test .loop-test .taken) (at-if1 .if1 .left) (at-after .after .ensures) (at-first-byte .first-byte .ensures) (omega arith) (at-first-width .first-width .ensures) (at-if3 .if3 .left) (at-put-byte .put-byte .ensures)))
     (λ c. search needs)
     (λ c. end _ _ _ (c .before .loop .i) _ (c .before .loop .inv .1) (c .loop-test .left)))

@@ -26,5 +26,9 @@ word-start-spec =
     (λ c κs. tt)
     (λ c. search needs)
     (λ c. search needs)
-    (λ c. rw (c .past-spaces2 .ensures, c .before .find .ensures) (repeat-step _ _ _ _ (c .before .before .before .loop .inv) (c .before .before .loop-test .taken)))
+    (λ c.
+    let at-find = c .before in
+    let at-loop-test = at-find .before in
+    let at-loop = at-loop-test .before in
+    rw (c .past-spaces2 .ensures, at-find .find .ensures) (repeat-step _ _ _ _ (at-loop .loop .inv) (at-loop-test .loop-test .taken)))
     (λ c. repeat-done _ _ _ _ (c .before .loop .inv) (c .loop-test .left)))

@@ -11,4 +11,7 @@ count-descriptor-spec =
     (λ c κs. tt)
     (λ c κs. tt)
     (λ c. search needs)
-    (λ c. rw (← c .before .before .before .descriptor .ensures) (c .before .before .count-one .ensures)))
+    (λ c.
+    let at-count-one = c .before .before in
+    let at-descriptor = at-count-one .before in
+    rw (← at-descriptor .descriptor .ensures) (at-count-one .count-one .ensures)))

@@ -15,4 +15,9 @@ count-entry-spec =
     (λ c κs. tt)
     (λ c. search needs)
     (λ c. search needs)
-    (λ c. rw (sym (ap (λ (s : Slot). s .0) (c .before .before .before .before .before .before .before .before .dirent-slot .ensures))) (c .before .before .before .before .before .before .count-one .ensures, c .before .before .claim .ensures)))
+    (λ c.
+    let at-claim = c .before .before in
+    let at-slice-known3 = at-claim .before .before in
+    let at-count-one = at-slice-known3 .before .before in
+    let at-dirent-slot = at-count-one .before .before in
+    rw (sym (ap (λ (s : Slot). s .0) (at-dirent-slot .dirent-slot .ensures))) (at-count-one .count-one .ensures, at-claim .claim .ensures)))

@@ -10,4 +10,8 @@ count-shown-spec =
     (λ c κs. tt)
     (λ c. search needs)
     (λ c. search needs)
-    (λ c. (rw (← c .before .before .before .before .before .shown .ensures) (c .before .before .before .before .count-directory .ensures .0), rw (← c .before .before .before .before .before .shown .ensures) (c .before .before .before .before .count-directory .ensures .1))))
+    (λ c.
+    let at-slice-known3 = c .before .before in
+    let at-count-directory = at-slice-known3 .before .before in
+    let at-shown = at-count-directory .before in
+    (rw (← at-shown .shown .ensures) (at-count-directory .count-directory .ensures .0), rw (← at-shown .shown .ensures) (at-count-directory .count-directory .ensures .1))))

@@ -14,4 +14,10 @@ processes-spec =
     (λ c κs. tt)
     (λ c. search needs)
     (λ c κs. tt)
-    (λ c. rw (c .before .put-process3 .ensures, c .before .before .before .before .put-process2 .ensures, c .before .before .before .before .before .before .before .put-process .ensures)))
+    (λ c.
+    let at-put-process3 = c .before in
+    let before-put-process3 = at-put-process3 .before .before in
+    let at-put-process2 = before-put-process3 .before in
+    let before-put-process2 = at-put-process2 .before .before in
+    let at-put-process = before-put-process2 .before in
+    rw (at-put-process3 .put-process3 .ensures, at-put-process2 .put-process2 .ensures, at-put-process .put-process .ensures)))

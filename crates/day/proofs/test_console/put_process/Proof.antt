@@ -15,4 +15,10 @@ put-process-spec =
     (λ c. search needs)
     (λ c κs. tt)
     (λ c. search needs)
-    (λ c. rw (c .before .before .put3 .ensures, c .before .before .before .before .before .before .put2 .ensures, c .before .before .before .before .before .before .before .before .before .before .put .ensures)))
+    (λ c.
+    let at-put3 = c .before .before in
+    let before-put3 = at-put3 .before .before in
+    let at-put2 = before-put3 .before .before in
+    let before-put2 = at-put2 .before .before in
+    let at-put = before-put2 .before .before in
+    rw (at-put3 .put3 .ensures, at-put2 .put2 .ensures, at-put .put .ensures)))

@@ -15,4 +15,11 @@ close-descriptor-spec =
     (λ c. search needs)
     (λ c. search needs)
     (λ c. search needs)
-    (λ c. after-change _ _ _ (c .before .before .before .before .before .before .release-open .ensures _) (rw (c .before .before .before .before .before .before .before .before .before .before .before .before .put-empty .ensures))))
+    (λ c.
+    let at-slice-known7 = c .before .before in
+    let at-slice-known6 = at-slice-known7 .before .before in
+    let at-release-open = at-slice-known6 .before .before in
+    let at-release-open-arg2 = at-release-open .before .before in
+    let at-slice-known5 = at-release-open-arg2 .before .before in
+    let at-put-empty = at-slice-known5 .before .before in
+    after-change _ _ _ (at-release-open .release-open .ensures _) (rw (at-put-empty .put-empty .ensures))))

@@ -16,4 +16,9 @@ duplicate-descriptor-spec =
     (λ c κs. tt)
     (λ c. search needs)
     (λ c. search needs)
-    (λ c. λ F C. rw (c .before .before .put .ensures, c .before .before .before .before .before .before .before .put-held .ensures)))
+    (λ c.
+    let at-put = c .before .before in
+    let at-put-arg = at-put .before .before in
+    let at-processes = at-put-arg .before .before in
+    let at-put-held = at-processes .before in
+    λ F C. rw (at-put .put .ensures, at-put-held .put-held .ensures)))

@@ -13,4 +13,8 @@ open-file-spec =
     (λ c κs. tt)
     (λ c. search needs)
     (λ c. search needs)
-    (λ c. λ F C. rw (c .before .before .put-held .ensures, c .before .before .before .before .before .before .put-open .ensures)))
+    (λ c.
+    let at-put-held = c .before .before in
+    let at-slice-known3 = at-put-held .before .before in
+    let at-put-open = at-slice-known3 .before .before in
+    λ F C. rw (at-put-held .put-held .ensures, at-put-open .put-open .ensures)))

@@ -15,4 +15,11 @@ open-truncated-spec =
     (λ c. search needs)
     (λ c. search needs)
     (λ c. search needs)
-    (λ c. in-turn _ _ _ (c .before .before .before .before .clear-slot .ensures _ _) (c .before .before .before .before .before .before .before .before .before .before .before .open-file .ensures _ _)))
+    (λ c.
+    let at-slice-known7 = c .before .before in
+    let at-clear-slot = at-slice-known7 .before .before in
+    let at-clear-slot-arg = at-clear-slot .before .before in
+    let at-processes = at-clear-slot-arg .before .before in
+    let at-open-files = at-processes .before .before in
+    let at-open-file = at-open-files .before in
+    in-turn _ _ _ (at-clear-slot .clear-slot .ensures _ _) (at-open-file .open-file .ensures _ _)))

@@ -14,7 +14,15 @@ share-descriptor-spec =
     (λ c. search needs)
     (λ c κs. tt)
     (λ c. search needs)
-    (λ c. λ F C. rw (c .before .before .before .before .enum-told .given .1, c .before .before .put-empty .ensures))
+    (λ c.
+    let at-put-empty = c .before .before in
+    let at-enum-told = at-put-empty .before .before in
+    λ F C. rw (at-enum-told .enum-told .given .1, at-put-empty .put-empty .ensures))
     (λ c. search needs)
     (λ c. search needs)
-    (λ c. λ F C. rw (c .before .before .before .before .before .before .before .before .given .given .1) (c .before .before .before .before .duplicate-descriptor .ensures _ _)))
+    (λ c.
+    let at-slice-known4 = c .before .before in
+    let at-duplicate-descriptor = at-slice-known4 .before .before in
+    let at-duplicate-descriptor-arg = at-duplicate-descriptor .before .before in
+    let at-given = at-duplicate-descriptor-arg .before .before in
+    λ F C. rw (at-given .given .given .1) (at-duplicate-descriptor .duplicate-descriptor .ensures _ _)))

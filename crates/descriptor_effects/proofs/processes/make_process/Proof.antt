@@ -18,4 +18,10 @@ make-process-spec =
     (λ c. search needs)
     (λ c κs. tt)
     (λ c. search needs)
-    (λ c. λ F C E. rw (c .before .before .put3 .ensures, c .before .before .before .before .before .before .put2 .ensures, c .before .before .before .before .before .before .before .before .before .before .put .ensures)))
+    (λ c.
+    let at-put3 = c .before .before in
+    let at-slice-known3 = at-put3 .before .before in
+    let at-put2 = at-slice-known3 .before .before in
+    let at-slice-known2 = at-put2 .before .before in
+    let at-put = at-slice-known2 .before .before in
+    λ F C E. rw (at-put3 .put3 .ensures, at-put2 .put2 .ensures, at-put .put .ensures)))

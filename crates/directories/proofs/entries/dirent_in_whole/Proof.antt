@@ -25,8 +25,15 @@ dirent-in-whole-spec =
     (λ c. refl)
     (λ c κs. search needs)
     (λ c κs. search needs)
-    (λ c. ap entry (first-yes _ _ _ (c .before .before .before .before .before .loop .inv) (c .before .before .before .before .loop-test .taken) refl (search both-words)))
+    (λ c.
+    let at-if1 = c .before .before in
+    let at-loop-test = at-if1 .before .before in
+    let at-loop = at-loop-test .before in
+    ap entry (first-yes _ _ _ (at-loop .loop .inv) (at-loop-test .loop-test .taken) refl (search both-words)))
     (λ c. search needs)
     (λ c. search needs)
-    (λ c. ⊎-elim (λ w. first-no _ _ _ (c .before .before .before .loop .inv) (c .before .before .loop-test .taken) refl (search not-high)) (λ w. first-no _ _ _ (c .before .before .before .loop .inv) (c .before .before .loop-test .taken) refl (search not-low)) (c .if1 .came))
+    (λ c.
+    let at-loop-test = c .before .before in
+    let at-loop = at-loop-test .before in
+    ⊎-elim (λ w. first-no _ _ _ (at-loop .loop .inv) (at-loop-test .loop-test .taken) refl (search not-high)) (λ w. first-no _ _ _ (at-loop .loop .inv) (at-loop-test .loop-test .taken) refl (search not-low)) (c .if1 .came))
     (λ c. ap entry (search first-done)))

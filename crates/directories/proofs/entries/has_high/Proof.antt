@@ -23,4 +23,10 @@ has-high-spec =
     (λ c. search needs)
     (λ c. search needs)
     (λ c κs. search needs)
-    (λ c. rw (high-at (c .before .before .before .before .before .before .before .before .before .args .dir .now) (16 * c .before .before .before .before .before .before .before .before .before .args .i .0), c .six-of .ensures)))
+    (λ c.
+    let at-shared-slice-known6 = c .before .before in
+    let at-shared-slice-known4 = at-shared-slice-known6 .before .before in
+    let at-shared-slice-known2 = at-shared-slice-known4 .before .before in
+    let at-shared-slice-known = at-shared-slice-known2 .before .before in
+    let at-entry = at-shared-slice-known .before in
+    rw (high-at (at-entry .args .dir .now) (16 * at-entry .args .i .0), c .six-of .ensures)))

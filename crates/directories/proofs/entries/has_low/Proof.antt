@@ -26,4 +26,11 @@ has-low-spec =
     (λ c. search needs)
     (λ c. search needs)
     (λ c κs. search needs)
-    (λ c. rw (low-at (c .before .before .before .before .before .before .before .before .before .before .before .args .dir .now) (16 * c .before .before .before .before .before .before .before .before .before .before .before .args .i .0), c .eight-of .ensures)))
+    (λ c.
+    let at-shared-slice-known8 = c .before .before in
+    let at-shared-slice-known6 = at-shared-slice-known8 .before .before in
+    let at-shared-slice-known4 = at-shared-slice-known6 .before .before in
+    let at-shared-slice-known2 = at-shared-slice-known4 .before .before in
+    let at-shared-slice-known = at-shared-slice-known2 .before .before in
+    let at-entry = at-shared-slice-known .before in
+    rw (low-at (at-entry .args .dir .now) (16 * at-entry .args .i .0), c .eight-of .ensures)))

@@ -26,9 +26,12 @@ rank-of-spec =
     (λ c. search needs)
     (λ c. search needs)
     (λ c. search needs)
-    (λ c. (
+    (λ c.
+    let at-is-before = c .before in
+    let at-loop-test = at-is-before .before in
+    let at-loop = at-loop-test .before in (
       ⊎-elim (λ w. omega arith) (λ w. omega arith) (c .if1 .came),
-      ⊎-elim (λ w. cc (count-yes _ _ _ _ (c .before .before .before .loop .inv .1) (c .before .before .loop-test .taken) (w .0 .taken) (c .before .is-before .ensures)))
-          (λ w. cc (count-no _ _ _ _ (c .before .before .before .loop .inv .1) (c .before .before .loop-test .taken) (w .0 .left) (c .before .is-before .ensures))) (c .if1 .came),
+      ⊎-elim (λ w. cc (count-yes _ _ _ _ (at-loop .loop .inv .1) (at-loop-test .loop-test .taken) (w .0 .taken) (at-is-before .is-before .ensures)))
+          (λ w. cc (count-no _ _ _ _ (at-loop .loop .inv .1) (at-loop-test .loop-test .taken) (w .0 .left) (at-is-before .is-before .ensures))) (c .if1 .came),
     ))
     (λ c. count-done _ _ _ _ (c .before .loop .inv .1) (c .loop-test .left)))

@@ -13,5 +13,11 @@ decide-stat-spec =
     (λ c. search needs)
     (λ c κs. tt)
     (λ c. search needs)
-    (λ c. simp (← c .described-at .ensures, c .before .before .at .given .1, ← c .before .before .before .before .walk-path .ensures))
-    (λ c. simp (c .before .r .given .1, ← c .before .before .before .walk-path .ensures)))
+    (λ c.
+    let at-at = c .before .before in
+    let at-walk-path = at-at .before .before in
+    simp (← c .described-at .ensures, at-at .at .given .1, ← at-walk-path .walk-path .ensures))
+    (λ c.
+    let at-r = c .before in
+    let at-walk-path = at-r .before .before in
+    simp (at-r .r .given .1, ← at-walk-path .walk-path .ensures)))

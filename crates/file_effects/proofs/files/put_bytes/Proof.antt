@@ -16,4 +16,9 @@ put-bytes-spec =
     (λ c. search needs)
     (λ c κs. tt)
     (λ c. search needs)
-    (λ c. rw (c .before .before .copy-bytes .ensures, c .before .before .before .before .before .before .before .zero-bytes .ensures)))
+    (λ c.
+    let at-copy-bytes = c .before .before in
+    let at-copy-bytes-arg = at-copy-bytes .before .before in
+    let at-contents = at-copy-bytes-arg .before .before in
+    let at-zero-bytes = at-contents .before in
+    rw (at-copy-bytes .copy-bytes .ensures, at-zero-bytes .zero-bytes .ensures)))

@@ -1,3 +1,4 @@
+-- Four writes, to three tables: what each ensures, from the last to the first, is one change of the list, so the list applied needs no law.
 use Rattle.rules.specs.Store.{applyAll}
 use Rattle.rules.specs.Effects.{storeChanges}
 use borrow.Author.Needs.{needs}
@@ -25,4 +26,15 @@ write-bytes-spec =
     (λ c. search needs)
     (λ c. search needs)
     (λ c. search needs)
-    (λ c. λ P. rw (c .before .before .put3 .ensures, c .before .before .before .before .before .before .before .put2 .ensures, c .before .before .before .before .before .before .before .before .before .before .before .before .put .ensures, c .before .before .before .before .before .before .before .before .before .before .before .before .before .before .before .before .before .put-bytes .ensures)))
+    (λ c.
+    let at-put3 = c .before .before in
+    let at-put-arg3 = at-put3 .before .before in
+    let at-files2 = at-put-arg3 .before .before in
+    let at-put2 = at-files2 .before in
+    let at-put-arg2 = at-put2 .before .before in
+    let at-files = at-put-arg2 .before .before in
+    let at-put = at-files .before in
+    let at-put-arg = at-put .before .before in
+    let at-contents = at-put-arg .before .before in
+    let at-put-bytes = at-contents .before in
+    λ P. rw (at-put3 .put3 .ensures, at-put2 .put2 .ensures, at-put .put .ensures, at-put-bytes .put-bytes .ensures)))

@@ -17,4 +17,11 @@ link-file-spec =
     (λ c κs. tt)
     (λ c. search needs)
     (λ c. search needs)
-    (λ c. λ E P. after-change _ _ _ (rw (c .before .before .before .before .before .last-name .ensures) at (c .before .before .before .before .add-name .ensures E P)) (rw (c .before .before .before .before .before .before .before .before .before .before .put .ensures))))
+    (λ c.
+    let at-slice-known4 = c .before .before in
+    let at-add-name = at-slice-known4 .before .before in
+    let at-last-name = at-add-name .before in
+    let at-add-name-arg = at-last-name .before .before in
+    let at-files = at-add-name-arg .before .before in
+    let at-put = at-files .before in
+    λ E P. after-change _ _ _ (rw (at-last-name .last-name .ensures) at (at-add-name .add-name .ensures E P)) (rw (at-put .put .ensures))))

@@ -17,7 +17,16 @@ lose-name-spec =
     (λ c. search needs)
     (λ c κs. tt)
     (λ c. search needs)
-    (λ c. λ E P. rw (c .before .before .before .before .before .before .u .given .1, c .before .before .put .ensures))
+    (λ c.
+    let at-put = c .before .before in
+    let at-put-arg = at-put .before .before in
+    let at-u = at-put-arg .before .before in
+    λ E P. rw (at-u .u .given .1, at-put .put .ensures))
     (λ c. search needs)
     (λ c. search needs)
-    (λ c. λ E P. rw (c .before .before .before .before .before .before .before .before .u2 .given .1) (c .before .before .before .before .clear-slot .ensures _ _)))
+    (λ c.
+    let at-slice-known4 = c .before .before in
+    let at-clear-slot = at-slice-known4 .before .before in
+    let at-clear-slot-arg = at-clear-slot .before .before in
+    let at-u2 = at-clear-slot-arg .before .before in
+    λ E P. rw (at-u2 .u2 .given .1) (at-clear-slot .clear-slot .ensures _ _)))

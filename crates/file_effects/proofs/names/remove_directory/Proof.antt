@@ -13,4 +13,11 @@ remove-directory-spec =
     (λ c κs. tt)
     (λ c. search needs)
     (λ c. search needs)
-    (λ c. λ E P. in-turn _ _ _ (c .before .before .before .before .clear-slot .ensures _ _) (c .before .before .before .before .before .before .before .before .before .before .before .remove-name .ensures _ _)))
+    (λ c.
+    let at-slice-known5 = c .before .before in
+    let at-clear-slot = at-slice-known5 .before .before in
+    let at-clear-slot-arg = at-clear-slot .before .before in
+    let at-contents = at-clear-slot-arg .before .before in
+    let at-files = at-contents .before .before in
+    let at-remove-name = at-files .before in
+    λ E P. in-turn _ _ _ (at-clear-slot .clear-slot .ensures _ _) (at-remove-name .remove-name .ensures _ _)))

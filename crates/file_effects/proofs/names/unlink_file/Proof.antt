@@ -13,4 +13,11 @@ unlink-file-spec =
     (λ c κs. tt)
     (λ c. search needs)
     (λ c. search needs)
-    (λ c. λ E P. in-turn _ _ _ (c .before .before .before .before .lose-name .ensures _ _) (c .before .before .before .before .before .before .before .before .before .before .before .remove-name .ensures _ _)))
+    (λ c.
+    let at-slice-known5 = c .before .before in
+    let at-lose-name = at-slice-known5 .before .before in
+    let at-lose-name-arg = at-lose-name .before .before in
+    let at-contents = at-lose-name-arg .before .before in
+    let at-files = at-contents .before .before in
+    let at-remove-name = at-files .before in
+    λ E P. in-turn _ _ _ (at-lose-name .lose-name .ensures _ _) (at-remove-name .remove-name .ensures _ _)))

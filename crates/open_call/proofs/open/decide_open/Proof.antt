@@ -14,5 +14,12 @@ decide-open-spec =
     (λ c κs. tt)
     (λ c κs. tt)
     (λ c. search needs)
-    (λ c. simp (← c .open-mode .ensures, ← c .before .new .ensures, c .before .before .before .at .given .1, ← c .before .before .before .before .before .walk-path .ensures))
-    (λ c. simp (c .before .r .given .1, ← c .before .before .before .walk-path .ensures)))
+    (λ c.
+    let at-new = c .before in
+    let at-at = at-new .before .before in
+    let at-walk-path = at-at .before .before in
+    simp (← c .open-mode .ensures, ← at-new .new .ensures, at-at .at .given .1, ← at-walk-path .walk-path .ensures))
+    (λ c.
+    let at-r = c .before in
+    let at-walk-path = at-r .before .before in
+    simp (at-r .r .given .1, ← at-walk-path .walk-path .ensures)))

@@ -14,6 +14,13 @@ open-file-spec =
     (λ c κs. tt)
     (λ c. rw (← c .before .before .rights-of .ensures) (search steps))
     (λ c κs. tt)
-    (λ c. rw (← c .before .before .before .before .rights-of .ensures) (search steps))
+    (λ c.
+    let before-c = c .before .before in
+    let at-rights-of = before-c .before .before in
+    rw (← at-rights-of .rights-of .ensures) (search steps))
     (λ c κs. tt)
-    (λ c. rw (← c .before .before .before .before .before .rights-of .ensures) (search steps)))
+    (λ c.
+    let before-c = c .before .before in
+    let before-c-2 = before-c .before .before in
+    let at-rights-of = before-c-2 .before in
+    rw (← at-rights-of .rights-of .ensures) (search steps)))

@@ -1,3 +1,4 @@
+-- The call gets the first part of each table: that a part is as long as was asked comes from the four `least`, and `called` puts the changed parts back.
 use mathlib.Core.Path.{sym}
 use borrow.Author.Needs.{needs}
 use lib.Seq.{length-take-le}
@@ -28,4 +29,17 @@ call-part-spec =
     (λ c. search needs)
     (λ c. search needs)
     (λ c. search needs)
-    (λ c. called _ _ _ _ _ _ _ (c .before .before .before .before .before .before .before .before .before .before .before .before .before .before .before .before .before .before .before .before .least .ensures) (c .before .before .before .before .before .before .before .before .before .before .before .before .before .before .before .before .before .before .before .least2 .ensures) (c .before .before .before .before .before .before .before .before .before .before .before .before .before .before .before .before .before .before .least3 .ensures) (c .before .before .before .before .before .before .before .before .before .before .before .before .before .before .before .before .before .least4 .ensures) (c .before .before .before .before .before .before .before .before .before .before .before .before .upto .ensures) (c .before .before .before .before .before .before .before .before .before .before .call .ensures)))
+    (λ c.
+    let at-slice-known9 = c .before .before in
+    let at-slice-known8 = at-slice-known9 .before .before in
+    let at-slice-known7 = at-slice-known8 .before .before in
+    let at-slice-known6 = at-slice-known7 .before .before in
+    let at-call = at-slice-known6 .before .before in
+    let at-upto = at-call .before .before in
+    let at-call-arg3 = at-upto .before .before in
+    let at-call-arg = at-call-arg3 .before .before in
+    let at-least4 = at-call-arg .before in
+    let at-least3 = at-least4 .before in
+    let at-least2 = at-least3 .before in
+    let at-least = at-least2 .before in
+    called _ _ _ _ _ _ _ (at-least .least .ensures) (at-least2 .least2 .ensures) (at-least3 .least3 .ensures) (at-least4 .least4 .ensures) (at-upto .upto .ensures) (at-call .call .ensures)))

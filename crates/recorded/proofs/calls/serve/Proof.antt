@@ -14,4 +14,8 @@ serve-spec =
     (λ c. search needs)
     (λ c κs. tt)
     (λ c. search needs)
-    (λ c. tables-after _ _ (c .before .before .before .before .before .before .call-part .ensures)))
+    (λ c.
+    let at-processes3 = c .before .before in
+    let at-contents3 = at-processes3 .before .before in
+    let at-call-part = at-contents3 .before .before in
+    tables-after _ _ (at-call-part .call-part .ensures)))

@@ -26,23 +26,101 @@ loop-holds c = (search needs, search needs, search needs, search needs, search n
 
 returns : tie.Need-returns Inv-loop μ-loop
 returns c =
-    rw (c .stopped .ensures) (stop-turn _ _ _ _ _ _ _ _ _ (c .before .before .before .before .before .before .before .before .before .before .before .before .before .before .before .before .after .ensures) _ _ _ (c .before .before .before .before .before .before .before .before .before .before .before .before .before .before .take-turn .ensures) (c .before .before .before .before .before .before .before .before .before .before .before .before .before .before .before .before .before .before .before .before .before .loop .inv .8) _ (c .before .before .t .given .1))
+    let at-t = c .before .before in
+    let before-t = at-t .before .before in
+    let before-t-2 = before-t .before .before in
+    let before-t-3 = before-t-2 .before .before in
+    let before-t-4 = before-t-3 .before .before in
+    let before-t-5 = before-t-4 .before .before in
+    let at-take-turn = before-t-5 .before .before in
+    let at-after = at-take-turn .before .before in
+    let before-after = at-after .before .before in
+    let before-after-2 = before-after .before .before in
+    let at-loop = before-after-2 .before in
+    rw (c .stopped .ensures) (stop-turn _ _ _ _ _ _ _ _ _ (at-after .after .ensures) _ _ _ (at-take-turn .take-turn .ensures) (at-loop .loop .inv .8) _ (at-t .t .given .1))
 
 add-at : tie.Need-add-at Inv-loop μ-loop
-add-at c = omega (arith, (answer-turn _ _ _ _ _ _ _ _ _ (c .before .before .before .before .before .before .before .before .before .before .before .before .before .before .before .after .ensures) _ _ _ (c .before .before .before .before .before .before .before .before .before .before .before .before .before .take-turn .ensures) (c .before .before .before .before .before .before .before .before .before .before .before .before .before .before .before .before .before .before .before .before .loop .inv .8) _ _ (c .before .t2 .given .1) (c .before .before .before .before .before .before .before .before .before .before .before .before .before .before .before .before .before .before .before .before .loop .inv .5) (c .before .before .before .before .before .before .before .before .before .before .before .before .before .before .before .before .before .before .before .before .loop .inv .6) (c .before .before .before .before .before .before .before .before .before .before .before .before .before .before .before .before .before .before .before .before .loop .inv .7)) .within, c .before .before .before .before .before .before .before .before .before .before .before .before .before .before .before .before .before .before .before .before .before .before .before .before .before .before .before .before .good .1 .1 .1 .1 .1 .0)
+add-at c =
+    let at-t2 = c .before in
+    let before-t2 = at-t2 .before .before in
+    let before-t2-2 = before-t2 .before .before in
+    let before-t2-3 = before-t2-2 .before .before in
+    let before-t2-4 = before-t2-3 .before .before in
+    let before-t2-5 = before-t2-4 .before .before in
+    let at-take-turn = before-t2-5 .before .before in
+    let at-after = at-take-turn .before .before in
+    let before-after = at-after .before .before in
+    let before-after-2 = before-after .before .before in
+    let at-loop = before-after-2 .before in
+    let before-loop = at-loop .before .before in
+    let before-loop-2 = before-loop .before .before in
+    let before-loop-3 = before-loop-2 .before .before in
+    let at-entry = before-loop-3 .before .before in
+    omega (arith, (answer-turn _ _ _ _ _ _ _ _ _ (at-after .after .ensures) _ _ _ (at-take-turn .take-turn .ensures) (at-loop .loop .inv .8) _ _ (at-t2 .t2 .given .1) (at-loop .loop .inv .5) (at-loop .loop .inv .6) (at-loop .loop .inv .7)) .within, at-entry .good .1 .1 .1 .1 .1 .0)
 
 add-written : tie.Need-add-written Inv-loop μ-loop
-add-written c = omega (arith, (answer-turn _ _ _ _ _ _ _ _ _ (c .before .before .before .before .before .before .before .before .before .before .before .before .before .before .before .after .ensures) _ _ _ (c .before .before .before .before .before .before .before .before .before .before .before .before .before .take-turn .ensures) (c .before .before .before .before .before .before .before .before .before .before .before .before .before .before .before .before .before .before .before .before .loop .inv .8) _ _ (c .before .t2 .given .1) (c .before .before .before .before .before .before .before .before .before .before .before .before .before .before .before .before .before .before .before .before .loop .inv .5) (c .before .before .before .before .before .before .before .before .before .before .before .before .before .before .before .before .before .before .before .before .loop .inv .6) (c .before .before .before .before .before .before .before .before .before .before .before .before .before .before .before .before .before .before .before .before .loop .inv .7)) .fits, c .before .before .before .before .before .before .before .before .before .before .before .before .before .before .before .before .before .before .before .before .loop .inv .4, c .before .before .before .before .before .before .before .before .before .before .before .before .before .before .before .before .before .before .before .before .before .before .before .before .before .before .before .before .good .1 .1 .1 .1 .1 .1 .1 .0)
+add-written c =
+    let at-t2 = c .before in
+    let before-t2 = at-t2 .before .before in
+    let before-t2-2 = before-t2 .before .before in
+    let before-t2-3 = before-t2-2 .before .before in
+    let before-t2-4 = before-t2-3 .before .before in
+    let before-t2-5 = before-t2-4 .before .before in
+    let at-take-turn = before-t2-5 .before .before in
+    let at-after = at-take-turn .before .before in
+    let before-after = at-after .before .before in
+    let before-after-2 = before-after .before .before in
+    let at-loop = before-after-2 .before in
+    let before-loop = at-loop .before .before in
+    let before-loop-2 = before-loop .before .before in
+    let before-loop-3 = before-loop-2 .before .before in
+    let at-entry = before-loop-3 .before .before in
+    omega (arith, (answer-turn _ _ _ _ _ _ _ _ _ (at-after .after .ensures) _ _ _ (at-take-turn .take-turn .ensures) (at-loop .loop .inv .8) _ _ (at-t2 .t2 .given .1) (at-loop .loop .inv .5) (at-loop .loop .inv .6) (at-loop .loop .inv .7)) .fits, at-loop .loop .inv .4, at-entry .good .1 .1 .1 .1 .1 .1 .1 .0)
 
 sub-allowed : tie.Need-sub-allowed Inv-loop μ-loop
-sub-allowed c = omega (arith, (answer-turn _ _ _ _ _ _ _ _ _ (c .before .before .before .before .before .before .before .before .before .before .before .before .before .before .before .after .ensures) _ _ _ (c .before .before .before .before .before .before .before .before .before .before .before .before .before .take-turn .ensures) (c .before .before .before .before .before .before .before .before .before .before .before .before .before .before .before .before .before .before .before .before .loop .inv .8) _ _ (c .before .t2 .given .1) (c .before .before .before .before .before .before .before .before .before .before .before .before .before .before .before .before .before .before .before .before .loop .inv .5) (c .before .before .before .before .before .before .before .before .before .before .before .before .before .before .before .before .before .before .before .before .loop .inv .6) (c .before .before .before .before .before .before .before .before .before .before .before .before .before .before .before .before .before .before .before .before .loop .inv .7)) .allowed)
+sub-allowed c =
+    let at-t2 = c .before in
+    let before-t2 = at-t2 .before .before in
+    let before-t2-2 = before-t2 .before .before in
+    let before-t2-3 = before-t2-2 .before .before in
+    let before-t2-4 = before-t2-3 .before .before in
+    let before-t2-5 = before-t2-4 .before .before in
+    let at-take-turn = before-t2-5 .before .before in
+    let at-after = at-take-turn .before .before in
+    let before-after = at-after .before .before in
+    let before-after-2 = before-after .before .before in
+    let at-loop = before-after-2 .before in
+    omega (arith, (answer-turn _ _ _ _ _ _ _ _ _ (at-after .after .ensures) _ _ _ (at-take-turn .take-turn .ensures) (at-loop .loop .inv .8) _ _ (at-t2 .t2 .given .1) (at-loop .loop .inv .5) (at-loop .loop .inv .6) (at-loop .loop .inv .7)) .allowed)
 
 loop-less : tie.Need-loop-less Inv-loop μ-loop
-loop-less c = omega (arith, (answer-turn _ _ _ _ _ _ _ _ _ (c .before .before .before .before .before .before .before .before .before .before .before .before .before .before .before .after .ensures) _ _ _ (c .before .before .before .before .before .before .before .before .before .before .before .before .before .take-turn .ensures) (c .before .before .before .before .before .before .before .before .before .before .before .before .before .before .before .before .before .before .before .before .loop .inv .8) _ _ (c .before .t2 .given .1) (c .before .before .before .before .before .before .before .before .before .before .before .before .before .before .before .before .before .before .before .before .loop .inv .5) (c .before .before .before .before .before .before .before .before .before .before .before .before .before .before .before .before .before .before .before .before .loop .inv .6) (c .before .before .before .before .before .before .before .before .before .before .before .before .before .before .before .before .before .before .before .before .loop .inv .7)) .allowed)
+loop-less c =
+    let at-t2 = c .before in
+    let before-t2 = at-t2 .before .before in
+    let before-t2-2 = before-t2 .before .before in
+    let before-t2-3 = before-t2-2 .before .before in
+    let before-t2-4 = before-t2-3 .before .before in
+    let before-t2-5 = before-t2-4 .before .before in
+    let at-take-turn = before-t2-5 .before .before in
+    let at-after = at-take-turn .before .before in
+    let before-after = at-after .before .before in
+    let before-after-2 = before-after .before .before in
+    let at-loop = before-after-2 .before in
+    omega (arith, (answer-turn _ _ _ _ _ _ _ _ _ (at-after .after .ensures) _ _ _ (at-take-turn .take-turn .ensures) (at-loop .loop .inv .8) _ _ (at-t2 .t2 .given .1) (at-loop .loop .inv .5) (at-loop .loop .inv .6) (at-loop .loop .inv .7)) .allowed)
 
 loop-again : tie.Need-loop-again Inv-loop μ-loop
 loop-again c =
-    let h = answer-turn _ _ _ _ _ _ _ _ _ (c .before .before .before .before .before .before .before .before .before .before .before .before .before .before .before .after .ensures) _ _ _ (c .before .before .before .before .before .before .before .before .before .before .before .before .before .take-turn .ensures) (c .before .before .before .before .before .before .before .before .before .before .before .before .before .before .before .before .before .before .before .before .loop .inv .8) _ _ (c .before .t2 .given .1) (c .before .before .before .before .before .before .before .before .before .before .before .before .before .before .before .before .before .before .before .before .loop .inv .5) (c .before .before .before .before .before .before .before .before .before .before .before .before .before .before .before .before .before .before .before .before .loop .inv .6) (c .before .before .before .before .before .before .before .before .before .before .before .before .before .before .before .before .before .before .before .before .loop .inv .7) in
+    let at-t2 = c .before in
+    let before-t2 = at-t2 .before .before in
+    let before-t2-2 = before-t2 .before .before in
+    let before-t2-3 = before-t2-2 .before .before in
+    let before-t2-4 = before-t2-3 .before .before in
+    let before-t2-5 = before-t2-4 .before .before in
+    let at-take-turn = before-t2-5 .before .before in
+    let at-after = at-take-turn .before .before in
+    let before-after = at-after .before .before in
+    let before-after-2 = before-after .before .before in
+    let at-loop = before-after-2 .before in
+    let h = answer-turn _ _ _ _ _ _ _ _ _ (at-after .after .ensures) _ _ _ (at-take-turn .take-turn .ensures) (at-loop .loop .inv .8) _ _ (at-t2 .t2 .given .1) (at-loop .loop .inv .5) (at-loop .loop .inv .6) (at-loop .loop .inv .7) in
     (search needs, search needs, search needs, search needs, search needs, omega arith, omega arith, omega (arith, h .fits, h .output), h .rest)
 
 pub replay-spec : {M : Type 1} → statement M

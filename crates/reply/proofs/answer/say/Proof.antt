@@ -18,7 +18,12 @@ returns-3 c = rw (c .before .before .o2 .given .1, c .answer-fields .ensures)
 
 returns-4 : tie.Need-returns-4
 unfolding saidOf nameOut fieldsOut bufferOut
-returns-4 c = rw (c .before .before .before .before .before .before .o3 .given .1, c .plain-answer2 .ensures, c .before .before .before .read-into .ensures)
+returns-4 c =
+    let before-c = c .before .before in
+    let at-read-into = before-c .before in
+    let before-read-into = at-read-into .before .before in
+    let at-o3 = before-read-into .before in
+    rw (at-o3 .o3 .given .1, c .plain-answer2 .ensures, at-read-into .read-into .ensures)
 
 pub say-spec : {M : Type 1} → statement M
 say-spec =

@@ -26,7 +26,15 @@ read-word-spec =
     (λ c. search needs)
     (λ c. search needs)
     (λ c. search needs)
-    (λ c. record { fits = fits _ _ _ _ _ _ (c .before .before .before .before .before .loop .inv) (c .before .before .before .if1 .left) _ (c .before .before .byte .ensures) _ (c .before .in-class .ensures) (c .if2 .left) (c .before .before .before .before .loop-test .taken) (c .before .before .before .before .before .before .before .pre) (search needs) (λ j. c .before .before .before .before .before .before .shared-slice-known .given j .fits) })
+    (λ c.
+    let at-in-class = c .before in
+    let at-byte = at-in-class .before in
+    let at-if1 = at-byte .before in
+    let at-loop-test = at-if1 .before in
+    let at-loop = at-loop-test .before in
+    let at-shared-slice-known = at-loop .before in
+    let at-entry = at-shared-slice-known .before in
+    record { fits = fits _ _ _ _ _ _ (at-loop .loop .inv) (at-if1 .if1 .left) _ (at-byte .byte .ensures) _ (at-in-class .in-class .ensures) (c .if2 .left) (at-loop-test .loop-test .taken) (at-entry .pre) (search needs) (λ j. at-shared-slice-known .shared-slice-known .given j .fits) })
     (λ c. search needs)
     (λ c. search needs)
     (λ c. search needs)

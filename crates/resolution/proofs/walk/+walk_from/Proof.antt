@@ -145,14 +145,53 @@ pub +walk-from-spec : {M : Type 1} → statement M
     (λ c κs. tt)
     (λ c κs. tt)
     (λ c κs. tt)
-    (λ c. stops (c .before .before .before .before .before .before .before .before .before .before .args .files .now) (c .before .before .before .before .before .before .before .before .before .before .args .contents .now) (c .before .before .before .before .before .before .before .before .before .before .args .policy .now) (c .before .before .before .before .before .before .before .before .before .before .args .who) _ _ _ _ _ (c .before .before .before .before .before .before .before .before .before .before .args .intent) (c .before .before .before .before .before .before .before .before .before .before .pre .1) _ (c .before .before .before .before .before .read-name .ensures) _ (c .before .before .before .before .span-end .ensures) _ (c .before .before .before .is-last .ensures)
-    (λ j. c .before .before .before .before .before .before .before .before .shared-slice-known2 .given j .fits) (λ j. c .before .before .before .before .before .before .shared-slice-known4 .given j .fits) _ (c .before .before .here .ensures) _ (c .before .look-up .ensures) (c .if1 .taken))
+    (λ c.
+    let at-look-up = c .before in
+    let at-here = at-look-up .before in
+    let at-is-last = at-here .before in
+    let at-span-end = at-is-last .before in
+    let at-read-name = at-span-end .before in
+    let at-shared-slice-known4 = at-read-name .before in
+    let at-shared-slice-known2 = at-shared-slice-known4 .before .before in
+    let at-entry = at-shared-slice-known2 .before .before in
+    stops (at-entry .args .files .now) (at-entry .args .contents .now) (at-entry .args .policy .now) (at-entry .args .who) _ _ _ _ _ (at-entry .args .intent) (at-entry .pre .1) _ (at-read-name .read-name .ensures) _ (at-span-end .span-end .ensures) _ (at-is-last .is-last .ensures)
+    (λ j. at-shared-slice-known2 .shared-slice-known2 .given j .fits) (λ j. at-shared-slice-known4 .shared-slice-known4 .given j .fits) _ (at-here .here .ensures) _ (at-look-up .look-up .ensures) (c .if1 .taken))
     (λ c. search needs)
     (λ c. search left-more)
-    (λ c. record { fits = small _ _ _ _ (c .before .before .before .before .before .before .before .before .before .before .before .before .before .pre .1) })
+    (λ c.
+    let at-match = c .before .before in
+    let at-look-up = at-match .before .before in
+    let at-is-last = at-look-up .before .before in
+    let at-read-name = at-is-last .before .before in
+    let at-shared-slice-known3 = at-read-name .before .before in
+    let at-shared-slice-known = at-shared-slice-known3 .before .before in
+    let at-entry = at-shared-slice-known .before in
+    record { fits = small _ _ _ _ (at-entry .pre .1) })
     (λ c κs. (search one-less, search goes-on))
     (λ c. search needs)
-    (λ c. reaches (c .before .before .before .before .before .before .before .before .before .before .before .before .before .before .args .files .now) (c .before .before .before .before .before .before .before .before .before .before .before .before .before .before .args .contents .now) (c .before .before .before .before .before .before .before .before .before .before .before .before .before .before .args .policy .now) (c .before .before .before .before .before .before .before .before .before .before .before .before .before .before .args .who) _ _ _ _ _ (c .before .before .before .before .before .before .before .before .before .before .before .before .before .before .args .intent) (c .before .before .before .before .before .before .before .before .before .before .before .before .before .before .pre .1) _ (c .before .before .before .before .before .before .before .before .before .read-name .ensures) _ (c .before .before .before .before .before .before .before .before .span-end .ensures) _ (c .before .before .before .before .before .before .before .is-last .ensures)
-    (λ j. c .before .before .before .before .before .before .before .before .before .before .before .before .shared-slice-known2 .given j .fits) (λ j. c .before .before .before .before .before .before .before .before .before .before .shared-slice-known4 .given j .fits) _ (c .before .before .before .before .before .before .here .ensures) _ (c .before .before .before .before .before .look-up .ensures) (c .before .before .before .before .if1 .left) _ _ (c .before .before .w .given .1) (c .walk-from .ensures))
-    (λ c. refuses (c .before .before .before .before .before .before .before .before .before .before .before .before .before .args .files .now) (c .before .before .before .before .before .before .before .before .before .before .before .before .before .args .contents .now) (c .before .before .before .before .before .before .before .before .before .before .before .before .before .args .policy .now) (c .before .before .before .before .before .before .before .before .before .before .before .before .before .args .who) _ _ _ _ _ (c .before .before .before .before .before .before .before .before .before .before .before .before .before .args .intent) (c .before .before .before .before .before .before .before .before .before .before .before .before .before .pre .1) _ (c .before .before .before .before .before .before .before .before .read-name .ensures) _ (c .before .before .before .before .before .before .before .span-end .ensures) _ (c .before .before .before .before .before .before .is-last .ensures)
-    (λ j. c .before .before .before .before .before .before .before .before .before .before .before .shared-slice-known2 .given j .fits) (λ j. c .before .before .before .before .before .before .before .before .before .shared-slice-known4 .given j .fits) _ (c .before .before .before .before .before .here .ensures) _ (c .before .before .before .before .look-up .ensures) (c .before .before .before .if1 .left) _ _ (c .before .w2 .given .1))
+    (λ c.
+    let at-w = c .before .before in
+    let at-if1 = at-w .before .before in
+    let at-look-up = at-if1 .before in
+    let at-here = at-look-up .before in
+    let at-is-last = at-here .before in
+    let at-span-end = at-is-last .before in
+    let at-read-name = at-span-end .before in
+    let at-shared-slice-known4 = at-read-name .before in
+    let at-shared-slice-known2 = at-shared-slice-known4 .before .before in
+    let at-entry = at-shared-slice-known2 .before .before in
+    reaches (at-entry .args .files .now) (at-entry .args .contents .now) (at-entry .args .policy .now) (at-entry .args .who) _ _ _ _ _ (at-entry .args .intent) (at-entry .pre .1) _ (at-read-name .read-name .ensures) _ (at-span-end .span-end .ensures) _ (at-is-last .is-last .ensures)
+    (λ j. at-shared-slice-known2 .shared-slice-known2 .given j .fits) (λ j. at-shared-slice-known4 .shared-slice-known4 .given j .fits) _ (at-here .here .ensures) _ (at-look-up .look-up .ensures) (at-if1 .if1 .left) _ _ (at-w .w .given .1) (c .walk-from .ensures))
+    (λ c.
+    let at-w2 = c .before in
+    let at-if1 = at-w2 .before .before in
+    let at-look-up = at-if1 .before in
+    let at-here = at-look-up .before in
+    let at-is-last = at-here .before in
+    let at-span-end = at-is-last .before in
+    let at-read-name = at-span-end .before in
+    let at-shared-slice-known4 = at-read-name .before in
+    let at-shared-slice-known2 = at-shared-slice-known4 .before .before in
+    let at-entry = at-shared-slice-known2 .before .before in
+    refuses (at-entry .args .files .now) (at-entry .args .contents .now) (at-entry .args .policy .now) (at-entry .args .who) _ _ _ _ _ (at-entry .args .intent) (at-entry .pre .1) _ (at-read-name .read-name .ensures) _ (at-span-end .span-end .ensures) _ (at-is-last .is-last .ensures)
+    (λ j. at-shared-slice-known2 .shared-slice-known2 .given j .fits) (λ j. at-shared-slice-known4 .shared-slice-known4 .given j .fits) _ (at-here .here .ensures) _ (at-look-up .look-up .ensures) (at-if1 .if1 .left) _ _ (at-w2 .w2 .given .1))

@@ -15,4 +15,9 @@ clear-slot-spec =
     (λ c κs. tt)
     (λ c. search needs)
     (λ c. search needs)
-    (λ c. λ E P. rw (c .before .before .zero-bytes .ensures, c .before .before .before .before .before .before .before .put-record .ensures)))
+    (λ c.
+    let at-zero-bytes = c .before .before in
+    let at-zero-bytes-arg = at-zero-bytes .before .before in
+    let at-files = at-zero-bytes-arg .before .before in
+    let at-put-record = at-files .before in
+    λ E P. rw (at-zero-bytes .zero-bytes .ensures, at-put-record .put-record .ensures)))

@@ -13,4 +13,8 @@ put-directory-spec =
     (λ c. search needs)
     (λ c κs. tt)
     (λ c. search needs)
-    (λ c. rw (c .before .before .put2 .ensures, c .before .before .before .before .before .before .put .ensures)))
+    (λ c.
+    let at-put2 = c .before .before in
+    let at-slice-known2 = at-put2 .before .before in
+    let at-put = at-slice-known2 .before .before in
+    rw (at-put2 .put2 .ensures, at-put .put .ensures)))

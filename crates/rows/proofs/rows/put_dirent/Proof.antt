@@ -22,4 +22,11 @@ put-dirent-spec =
     (λ c. search needs)
     (λ c κs. tt)
     (λ c. search needs)
-    (λ c. rw (c .before .before .put-byte2 .ensures, c .before .before .before .before .before .before .put-byte .ensures, c .before .before .before .before .before .before .before .slot-byte .ensures, c .before .before .before .before .before .before .before .before .before .before .before .put-name .ensures) (padded-two _ _ _ _ _ _)))
+    (λ c.
+    let at-put-byte2 = c .before .before in
+    let at-slice-known3 = at-put-byte2 .before .before in
+    let at-put-byte = at-slice-known3 .before .before in
+    let at-slot-byte = at-put-byte .before in
+    let at-slice-known2 = at-slot-byte .before .before in
+    let at-put-name = at-slice-known2 .before .before in
+    rw (at-put-byte2 .put-byte2 .ensures, at-put-byte .put-byte .ensures, at-slot-byte .slot-byte .ensures, at-put-name .put-name .ensures) (padded-two _ _ _ _ _ _)))

@@ -33,6 +33,11 @@ put-name-spec =
     (λ c κs. tt)
     (λ c. search needs)
     (λ c. search needs)
-    (λ c. (search needs, rw (c .before .before .put-byte .ensures, c .before .before .before .byte .ensures) (padded-step _ _ _ _ _ (c .before .before .before .before .before .before .loop .inv .1) (c .before .before .before .before .before .loop-test .taken))))
+    (λ c.
+    let at-put-byte = c .before .before in
+    let at-byte = at-put-byte .before in
+    let at-loop-test = at-byte .before .before in
+    let at-loop = at-loop-test .before in
+    (search needs, rw (at-put-byte .put-byte .ensures, at-byte .byte .ensures) (padded-step _ _ _ _ _ (at-loop .loop .inv .1) (at-loop-test .loop-test .taken))))
     (λ c. search needs)
     (λ c. padded-done _ _ _ _ _ (c .before .loop .inv .1) (c .loop-test .left)))

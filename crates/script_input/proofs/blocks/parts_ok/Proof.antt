@@ -17,4 +17,11 @@ parts-ok-spec =
     (λ c κs. tt)
     (λ c κs. tt)
     (λ c κs. tt)
-    (λ c. rw (c .parts-used .ensures, c .before .bytes-count .ensures, c .before .before .text2 .ensures, c .before .before .before .text .ensures, c .before .before .before .before .uses .ensures, c .before .before .before .before .before .operation-of .ensures, c .before .before .before .before .before .before .as-byte .ensures, byte-operation)))
+    (λ c.
+    let at-bytes-count = c .before in
+    let at-text2 = at-bytes-count .before in
+    let at-text = at-text2 .before in
+    let at-uses = at-text .before in
+    let at-operation-of = at-uses .before in
+    let at-as-byte = at-operation-of .before in
+    rw (c .parts-used .ensures, at-bytes-count .bytes-count .ensures, at-text2 .text2 .ensures, at-text .text .ensures, at-uses .uses .ensures, at-operation-of .operation-of .ensures, at-as-byte .as-byte .ensures, byte-operation)))

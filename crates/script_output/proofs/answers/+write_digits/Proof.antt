@@ -44,6 +44,19 @@ pub +write-digits-spec : {M : Type 1} → statement M
     (λ c. search needs)
     (λ c. search needs)
     (λ c κs. tt)
-    (λ c. omega (arith, room-last _ _ _ [] (c .before .before .before .before .before .before .before .before .before .if1 .left) (c .before .before .before .before .before .before .before .before .if2 .left) (c .before .before .before .before .before .before .write-digits .ensures .ends) (c .before .before .before .before .before .before .before .before .before .before .before .pre .1)))
+    (λ c.
+    let at-put-byte = c .before .before in
+    let at-slice-known2 = at-put-byte .before .before in
+    let at-write-digits = at-slice-known2 .before .before in
+    let at-if2 = at-write-digits .before .before in
+    let at-if1 = at-if2 .before in
+    let at-entry = at-if1 .before .before in
+    omega (arith, room-last _ _ _ [] (at-if1 .if1 .left) (at-if2 .if2 .left) (at-write-digits .write-digits .ensures .ends) (at-entry .pre .1)))
     (λ c. search needs)
-    (λ c. record { output = rw (c .before .before .put-byte .ensures) (text-more _ _ _ _ (c .before .before .before .before .before .before .before .before .before .if1 .left) (c .before .before .before .before .before .before .before .before .if2 .left) (c .before .before .before .before .before .before .write-digits .ensures .ends) (c .before .before .before .before .before .before .write-digits .ensures .output)); ends = search end-more })
+    (λ c.
+    let at-put-byte = c .before .before in
+    let at-slice-known2 = at-put-byte .before .before in
+    let at-write-digits = at-slice-known2 .before .before in
+    let at-if2 = at-write-digits .before .before in
+    let at-if1 = at-if2 .before in
+    record { output = rw (at-put-byte .put-byte .ensures) (text-more _ _ _ _ (at-if1 .if1 .left) (at-if2 .if2 .left) (at-write-digits .write-digits .ensures .ends) (at-write-digits .write-digits .ensures .output)); ends = search end-more })

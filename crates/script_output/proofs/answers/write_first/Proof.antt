@@ -7,6 +7,13 @@ write-first-spec =
     tie.close
     (tie.spec
     (λ c κs. tt)
-    (λ c κs. rw (c .before .upto .ensures) (c .before .before .before .before .pre))
+    (λ c κs.
+    let at-upto = c .before in
+    let at-slice-known = at-upto .before .before in
+    let at-entry = at-slice-known .before in
+    rw (at-upto .upto .ensures) (at-entry .pre))
     (λ c. search needs)
-    (λ c. rw (c .before .before .before .before .upto .ensures) at (c .before .before .write-hex .ensures)))
+    (λ c.
+    let at-write-hex = c .before .before in
+    let at-upto = at-write-hex .before .before in
+    rw (at-upto .upto .ensures) at (at-write-hex .write-hex .ensures)))

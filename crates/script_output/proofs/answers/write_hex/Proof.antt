@@ -11,6 +11,10 @@ write-hex-spec =
     (tie.spec
     (λ c κs. search hex-room)
     (λ c. search needs)
-    (λ c. omega (arith, length-hex (c .before .before .before .before .before .before .args .bytes .now)))
+    (λ c.
+    let at-write-pairs = c .before .before in
+    let at-shared-slice-known = at-write-pairs .before .before in
+    let at-entry = at-shared-slice-known .before .before in
+    omega (arith, length-hex (at-entry .args .bytes .now)))
     (λ c. search needs)
     (λ c. search hex-wrote))

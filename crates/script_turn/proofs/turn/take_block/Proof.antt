@@ -1,3 +1,4 @@
+-- A law for each way out: the block is broken, its answer has no room, or it is answered and the script goes on behind it.
 use borrow.Author.Needs.{needs}
 use Rattle.script_turn.proofs.BlockTurns.{broken, full, answered}
 use Rattle.script_turn.proofs.turn.take_block.Statement.{statement}
@@ -16,10 +17,34 @@ take-block-spec =
     (λ c. search needs)
     (λ c. search needs)
     (λ c. search needs)
-    (λ c. full _ _ _ _ _ _ _ _ _ (c .before .before .before .before .before .before .before .before .before .before .before .before .before .before .before .before .before .before .before .block-ok .ensures) (c .before .before .before .before .before .before .before .before .before .before .before .before .before .before .before .before .before .before .if1 .left) _ _ _ (c .before .before .before .before .before .before .before .before .before .before .before .serve-block .ensures) (c .if2 .taken))
+    (λ c.
+    let before-c = c .before .before in
+    let before-c-2 = before-c .before .before in
+    let before-c-3 = before-c-2 .before .before in
+    let before-c-4 = before-c-3 .before .before in
+    let before-c-5 = before-c-4 .before .before in
+    let at-serve-block = before-c-5 .before in
+    let before-serve-block = at-serve-block .before .before in
+    let before-serve-block-2 = before-serve-block .before .before in
+    let before-serve-block-3 = before-serve-block-2 .before .before in
+    let at-if1 = before-serve-block-3 .before in
+    let at-block-ok = at-if1 .before in
+    full _ _ _ _ _ _ _ _ _ (at-block-ok .block-ok .ensures) (at-if1 .if1 .left) _ _ _ (at-serve-block .serve-block .ensures) (c .if2 .taken))
     (λ c. search needs)
     (λ c. search needs)
     (λ c. search needs)
     (λ c. search needs)
     (λ c. search needs)
-    (λ c. answered _ _ _ _ _ _ _ _ _ (c .before .before .before .before .before .before .before .before .before .before .before .before .before .before .before .before .before .before .before .block-ok .ensures) (c .before .before .before .before .before .before .before .before .before .before .before .before .before .before .before .before .before .before .if1 .left) _ _ _ (c .before .before .before .before .before .before .before .before .before .before .before .serve-block .ensures) (c .if2 .left) _ (c .before .before .before .before .before .before .before .before .before .before .before .before .before .before .before .before .before .block-size .ensures)))
+    (λ c.
+    let before-c = c .before .before in
+    let before-c-2 = before-c .before .before in
+    let before-c-3 = before-c-2 .before .before in
+    let before-c-4 = before-c-3 .before .before in
+    let before-c-5 = before-c-4 .before .before in
+    let at-serve-block = before-c-5 .before in
+    let before-serve-block = at-serve-block .before .before in
+    let before-serve-block-2 = before-serve-block .before .before in
+    let at-block-size = before-serve-block-2 .before .before in
+    let at-if1 = at-block-size .before in
+    let at-block-ok = at-if1 .before in
+    answered _ _ _ _ _ _ _ _ _ (at-block-ok .block-ok .ensures) (at-if1 .if1 .left) _ _ _ (at-serve-block .serve-block .ensures) (c .if2 .left) _ (at-block-size .block-size .ensures)))

@@ -18,4 +18,17 @@ take-turn-spec =
     (λ c. search needs)
     (λ c. search needs)
     (λ c. search needs)
-    (λ c. goes _ _ _ _ _ _ (c .before .before .before .before .before .before .before .before .before .before .before .before .before .before .before .before .before .before .before .before .if1 .left) (c .before .before .before .before .before .before .before .before .before .before .before .before .before .before .before .before .before .before .before .if2 .left) _ _ _ _ (c .before .before .before .before .before .before .before .before .before .before .before .before .read-numbers .ensures) (c .before .before .before .before .before .before .before .before .before .before .before .before .before .before .before .before .before .before .from-path .ensures) (c .before .before .before .before .before .before .before .before .before .before .before .before .before .before .before .before .before .after-line .ensures) (c .before .before .before .before .before .before .before .before .before .before .take-block .ensures)))
+    (λ c.
+    let before-c = c .before .before in
+    let before-c-2 = before-c .before .before in
+    let before-c-3 = before-c-2 .before .before in
+    let before-c-4 = before-c-3 .before .before in
+    let at-take-block = before-c-4 .before .before in
+    let at-read-numbers = at-take-block .before .before in
+    let before-read-numbers = at-read-numbers .before .before in
+    let before-read-numbers-2 = before-read-numbers .before .before in
+    let at-after-line = before-read-numbers-2 .before in
+    let at-from-path = at-after-line .before in
+    let at-if2 = at-from-path .before in
+    let at-if1 = at-if2 .before in
+    goes _ _ _ _ _ _ (at-if1 .if1 .left) (at-if2 .if2 .left) _ _ _ _ (at-read-numbers .read-numbers .ensures) (at-from-path .from-path .ensures) (at-after-line .after-line .ensures) (at-take-block .take-block .ensures)))

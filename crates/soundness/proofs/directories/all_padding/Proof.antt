@@ -9,4 +9,9 @@ all-padding-spec =
     (λ c κs. tt)
     (λ c. search low-used)
     (λ c κs. tt)
-    (λ c. high-decides (c .before .before .before .before .args .name .now) (λ k. c .before .before .before .shared-slice-known .given k .fits) _ _ (c .before .before .low-word .ensures) (c .before .if1 .left) (c .high-word .ensures)))
+    (λ c.
+    let at-if1 = c .before in
+    let at-low-word = at-if1 .before in
+    let at-shared-slice-known = at-low-word .before in
+    let at-entry = at-shared-slice-known .before in
+    high-decides (at-entry .args .name .now) (λ k. at-shared-slice-known .shared-slice-known .given k .fits) _ _ (at-low-word .low-word .ensures) (at-if1 .if1 .left) (c .high-word .ensures)))

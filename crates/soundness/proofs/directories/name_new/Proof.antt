@@ -22,7 +22,11 @@ name-new-spec =
     μ-loop
     (λ c κs. tt)
     (λ c κs. tt)
-    (λ c. others-by (c .before .before .before .args .dir .now) (λ k. c .before .before .shared-slice-known .given k .fits) (c .before .before .before .args .i .0) _ _ (c .before .low-at .ensures) (c .high-at .ensures))
+    (λ c.
+    let at-low-at = c .before in
+    let at-shared-slice-known = at-low-at .before in
+    let at-entry = at-shared-slice-known .before in
+    others-by (at-entry .args .dir .now) (λ k. at-shared-slice-known .shared-slice-known .given k .fits) (at-entry .args .i .0) _ _ (at-low-at .low-at .ensures) (c .high-at .ensures))
     (λ c κs. search needs)
     (λ c. search needs)
     (λ c. search needs)

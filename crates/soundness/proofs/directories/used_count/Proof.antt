@@ -27,8 +27,11 @@ used-count-spec =
     (λ c. search needs)
     (λ c. search needs)
     (λ c. search needs)
-    (λ c. (
+    (λ c.
+    let at-is-used = c .before in
+    let at-loop-test = at-is-used .before in
+    let at-loop = at-loop-test .before in (
       ⊎-elim (λ w. omega arith) (λ w. omega arith) (c .if1 .came),
-      ⊎-elim (λ w. cc (count-yes _ _ _ _ (c .before .before .before .loop .inv .1) (c .before .before .loop-test .taken) (w .0 .taken) (c .before .is-used .ensures))) (λ w. cc (count-no _ _ _ _ (c .before .before .before .loop .inv .1) (c .before .before .loop-test .taken) (w .0 .left) (c .before .is-used .ensures))) (c .if1 .came),
+      ⊎-elim (λ w. cc (count-yes _ _ _ _ (at-loop .loop .inv .1) (at-loop-test .loop-test .taken) (w .0 .taken) (at-is-used .is-used .ensures))) (λ w. cc (count-no _ _ _ _ (at-loop .loop .inv .1) (at-loop-test .loop-test .taken) (w .0 .left) (at-is-used .is-used .ensures))) (c .if1 .came),
     ))
     (λ c. search count-done))

@@ -14,4 +14,8 @@ answer-spec =
     (λ c κs. tt)
     (λ c. rw (c .before .before .d .given .1, c .refused-answer .ensures))
     (λ c. search needs)
-    (λ c. rw (c .before .before .before .before .before .d2 .given .1) (c .before .before .say .ensures)))
+    (λ c.
+    let at-say = c .before .before in
+    let before-say = at-say .before .before in
+    let at-d2 = before-say .before in
+    rw (at-d2 .d2 .given .1) (at-say .say .ensures)))

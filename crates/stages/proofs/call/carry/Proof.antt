@@ -17,4 +17,12 @@ carry-spec =
     (λ c. search needs)
     (λ c. search needs)
     (λ c. search needs)
-    (λ c. rw (c .before .before .before .before .before .before .before .before .before .before .before .before .before .before .d2 .given .1) (c .before .before .before .before .before .before .before .before .carry-out .ensures)))
+    (λ c.
+    let before-c = c .before .before in
+    let before-c-2 = before-c .before .before in
+    let before-c-3 = before-c-2 .before .before in
+    let at-carry-out = before-c-3 .before .before in
+    let before-carry-out = at-carry-out .before .before in
+    let before-carry-out-2 = before-carry-out .before .before in
+    let at-d2 = before-carry-out-2 .before .before in
+    rw (at-d2 .d2 .given .1) (at-carry-out .carry-out .ensures)))

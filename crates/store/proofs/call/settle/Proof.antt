@@ -26,7 +26,25 @@ unfolding outcomeOf replyTo storeAfter saidOf
 granted s c n o e {a} {b} {t} h k = ap (λ (x : Said). lent (x .answer) (x .buffer) t) h ∙ ap (λ (x : Store). lent (saidOf s n o (c .buffer) .answer) (saidOf s n o (c .buffer) .buffer) x) k
 
 returns-2 : tie.Need-returns-2
-returns-2 c = rw (c .before .before .before .before .before .before .before .before .before .before .before .before .before .before .before .before .before .before .before .before .before .before .d2 .given .1) (granted _ _ _ _ _ (c .before .before .before .before .before .before .before .before .before .before .before .before .before .before .before .say .ensures) (c .before .before .before .before .before .before .before .before .carry-out .ensures (c .before .before .before .before .before .before .before .before .before .before .before .before .before .before .before .before .before .before .before .before .before .before .before .before .before .before .before .before .before .before .before .args .buffer .now)))
+returns-2 c =
+    let before-c = c .before .before in
+    let before-c-2 = before-c .before .before in
+    let before-c-3 = before-c-2 .before .before in
+    let at-carry-out = before-c-3 .before .before in
+    let before-carry-out = at-carry-out .before .before in
+    let before-carry-out-2 = before-carry-out .before .before in
+    let before-carry-out-3 = before-carry-out-2 .before .before in
+    let at-say = before-carry-out-3 .before in
+    let before-say = at-say .before .before in
+    let before-say-2 = before-say .before .before in
+    let before-say-3 = before-say-2 .before .before in
+    let at-d2 = before-say-3 .before in
+    let before-d2 = at-d2 .before .before in
+    let before-d2-2 = before-d2 .before .before in
+    let before-d2-3 = before-d2-2 .before .before in
+    let before-d2-4 = before-d2-3 .before .before in
+    let at-entry = before-d2-4 .before in
+    rw (at-d2 .d2 .given .1) (granted _ _ _ _ _ (at-say .say .ensures) (at-carry-out .carry-out .ensures (at-entry .args .buffer .now)))
 
 pub settle-spec : {M : Type 1} → statement M
 settle-spec =

@@ -1,3 +1,4 @@
+-- A match arm for each operation: what each gives is the row of the table, by computation.
 use Rattle.rules.specs.Calls.{uses}
 use borrow.Author.Needs.{needs}
 use Rattle.tables.proofs.calls.uses.Statement.{statement}

@@ -1,3 +1,4 @@
+-- A match arm for each refusal: its number is the definition's, by computation.
 use borrow.Author.Needs.{needs}
 use Rattle.rules.specs.Refusals.{refusalNumber}
 use Rattle.rules.proofs.refusal.Refusal.number.Statement.{statement}

@@ -1,5 +1,0 @@
-use Rattle.create_calls.proofs.dirs.free_in.Statement.{statement}
-use Rattle.create_calls.proofs.dirs.free_in.Tie as tie
-
-pub free-in-spec : {M : Type 1} → statement M
-free-in-spec = tie.close (tie.spec (λ c κs. tt) (λ c κs. tt) (λ c. cc))

@@ -1,5 +1,0 @@
-use Rattle.create_calls.proofs.dirs.is_absent.Statement.{statement}
-use Rattle.create_calls.proofs.dirs.is_absent.Tie as tie
-
-pub is-absent-spec : {M : Type 1} → statement M
-is-absent-spec = tie.close (tie.spec (λ c κs. tt) (λ c. cc))

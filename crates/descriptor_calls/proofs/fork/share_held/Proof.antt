@@ -1,5 +1,0 @@
-use Rattle.descriptor_calls.proofs.fork.share_held.Statement.{statement}
-use Rattle.descriptor_calls.proofs.fork.share_held.Tie as tie
-
-pub share-held-spec : {M : Type 1} → statement M
-share-held-spec = tie.close (tie.spec (λ c κs. tt) (λ c κs. tt) (λ c. cc))

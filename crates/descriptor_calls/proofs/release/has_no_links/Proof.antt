@@ -1,5 +1,0 @@
-use Rattle.descriptor_calls.proofs.release.has_no_links.Statement.{statement}
-use Rattle.descriptor_calls.proofs.release.has_no_links.Tie as tie
-
-pub has-no-links-spec : {M : Type 1} → statement M
-has-no-links-spec = tie.close (tie.spec (λ c κs. tt) (λ c. cc))
