@@ -6,11 +6,15 @@
 
 #include "mritvelja_file.h"
 
+/* The group of every file and process here. */
+enum { GROUP = 1 };
+
 static void set_file(mritvelja_store *s, int slot, uint32_t kind, uint32_t owner, uint32_t bits, uint32_t label,
                      uint32_t length, uint32_t links) {
   uint32_t *record = s->files + MRITVELJA_FILE_WIDTH * slot;
   record[MRITVELJA_FILE_KIND] = kind;
   record[MRITVELJA_FILE_OWNER] = owner;
+  record[MRITVELJA_FILE_GROUP] = GROUP;
   record[MRITVELJA_FILE_BITS] = bits;
   record[MRITVELJA_FILE_LABEL] = label;
   record[MRITVELJA_FILE_LENGTH] = length;
@@ -26,18 +30,18 @@ static void set_dirent(mritvelja_store *s, int directory, int entry, const char 
 /* /fares, /fares/now and /key; processes 0, 1 and 2 with labels 0, 1 and 2. */
 static void make_console(mritvelja_store *s) {
   mritvelja_empty(s);
-  set_file(s, 0, MRITVELJA_DIRECTORY, 0, 5, 0, 2, 0);
-  set_file(s, 1, MRITVELJA_DIRECTORY, 10, 5, 0, 1, 1);
-  set_file(s, 2, MRITVELJA_PLAIN, 10, 4, 0, 5, 1);
-  set_file(s, 3, MRITVELJA_PLAIN, 10, 0, 3, 4, 1);
+  set_file(s, 0, MRITVELJA_DIRECTORY, 0, 0755, 0, 2, 0);
+  set_file(s, 1, MRITVELJA_DIRECTORY, 10, 0755, 0, 1, 1);
+  set_file(s, 2, MRITVELJA_PLAIN, 10, 0744, 0, 5, 1);
+  set_file(s, 3, MRITVELJA_PLAIN, 10, 0700, 3, 4, 1);
   set_dirent(s, 0, 0, "fares", 1);
   set_dirent(s, 0, 1, "key", 3);
   set_dirent(s, 1, 0, "now", 2);
   memcpy(s->contents + MRITVELJA_BLOCK * 2, "2.40\n", 5);
   memcpy(s->contents + MRITVELJA_BLOCK * 3, "\1\2\3\4", 4);
-  mritvelja_set_process(s, 0, 0, 0);
-  mritvelja_set_process(s, 1, 10, 1);
-  mritvelja_set_process(s, 2, 20, 2);
+  mritvelja_set_process(s, 0, 0, GROUP, 0);
+  mritvelja_set_process(s, 1, 10, GROUP, 1);
+  mritvelja_set_process(s, 2, 20, GROUP, 2);
   mritvelja_set_rights(s, 0, 0, 7);
   mritvelja_set_rights(s, 1, 0, 7);
   mritvelja_set_rights(s, 2, 0, 5);

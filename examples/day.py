@@ -7,9 +7,9 @@ import os
 import struct
 import sys
 
-HEADER = b"MRITVEL\x01" + struct.pack("<I", 128)
+HEADER = b"MRITVEL\x02" + struct.pack("<I", 128)
 # The tables in the order of the file and of the functions: the type of an element, and how many there are.
-TABLES = [(ctypes.c_uint32, 128 * 7), (ctypes.c_uint8, 128 * 512), (ctypes.c_uint32, 32 * 4), (ctypes.c_uint32, 8 * 11), (ctypes.c_uint8, 512)]
+TABLES = [(ctypes.c_uint32, 128 * 8), (ctypes.c_uint8, 128 * 512), (ctypes.c_uint32, 32 * 4), (ctypes.c_uint32, 8 * 12), (ctypes.c_uint8, 512)]
 REPLAY_ALLOWANCE, REPLAY_ROOM = 2, 4
 
 

@@ -17,7 +17,7 @@
 #include <stdint.h>
 
 /* The version of this header and of the library that it is of. */
-#define MRITVELJA_VERSION "0.1.0"
+#define MRITVELJA_VERSION "1.0.0"
 
 #ifdef __cplusplus
 extern "C" {
@@ -26,7 +26,7 @@ extern "C" {
 /* Sizes. Field k of record i of a table is its element width * i + k. */
 enum {
   MRITVELJA_SLOTS = 128,          /* files; slot 0 is the root directory */
-  MRITVELJA_FILE_WIDTH = 7,       /* words of a file's record */
+  MRITVELJA_FILE_WIDTH = 8,       /* words of a file's record */
   MRITVELJA_BLOCK = 512,          /* bytes of contents for each slot */
   MRITVELJA_DIRENTS = 16,         /* directory entries in a directory's block */
   MRITVELJA_DIRENT_WIDTH = 16,    /* bytes of an entry: name, slot, 0 */
@@ -36,7 +36,7 @@ enum {
   MRITVELJA_OPEN_FILES = 32,
   MRITVELJA_OPEN_FILE_WIDTH = 4,  /* words of an open file */
   MRITVELJA_PROCESSES = 8,
-  MRITVELJA_PROCESS_WIDTH = 11,   /* words of a process, its descriptors last */
+  MRITVELJA_PROCESS_WIDTH = 12,   /* words of a process, its descriptors last */
   MRITVELJA_DESCRIPTORS = 8,      /* descriptors of a process */
   MRITVELJA_LABELS = 16,
   MRITVELJA_NO_TRANSITION = 255,
@@ -55,11 +55,12 @@ enum {
 enum {
   MRITVELJA_FILE_KIND = 0,
   MRITVELJA_FILE_OWNER = 1,   /* 0 to 65535 */
-  MRITVELJA_FILE_BITS = 2,    /* rights, 0 to 7 */
-  MRITVELJA_FILE_LABEL = 3,   /* 0 to 15 */
-  MRITVELJA_FILE_LENGTH = 4,  /* bytes; of a directory, names in it */
-  MRITVELJA_FILE_LINKS = 5,   /* how many directory entries name it */
-  MRITVELJA_FILE_VERSION = 6  /* goes up with each change, and wraps */
+  MRITVELJA_FILE_GROUP = 2,   /* 0 to 65535 */
+  MRITVELJA_FILE_BITS = 3,    /* 0 to 0777, which is 511 */
+  MRITVELJA_FILE_LABEL = 4,   /* 0 to 15 */
+  MRITVELJA_FILE_LENGTH = 5,  /* bytes; of a directory, names in it */
+  MRITVELJA_FILE_LINKS = 6,   /* how many directory entries name it */
+  MRITVELJA_FILE_VERSION = 7  /* goes up with each change, and wraps */
 };
 
 enum { MRITVELJA_FREE = 0, MRITVELJA_PLAIN = 1, MRITVELJA_DIRECTORY = 2 };
@@ -72,16 +73,20 @@ enum {
   MRITVELJA_OPEN_REFERENCES = 3  /* descriptors that hold it */
 };
 
-/* Columns of a process. Descriptor i is column 3 + i: 0 holds nothing, e + 1
+/* Columns of a process. Descriptor i is column 4 + i: 0 holds nothing, e + 1
  * holds open file e. */
 enum {
   MRITVELJA_PROCESS_USED = 0,   /* 1 in use; one not in use is all 0 */
   MRITVELJA_PROCESS_USER = 1,   /* 0 to 65535 */
-  MRITVELJA_PROCESS_LABEL = 2,  /* 0 to 15 */
-  MRITVELJA_PROCESS_DESCRIPTOR = 3
+  MRITVELJA_PROCESS_GROUP = 2,  /* 0 to 65535 */
+  MRITVELJA_PROCESS_LABEL = 3,  /* 0 to 15 */
+  MRITVELJA_PROCESS_DESCRIPTOR = 4
 };
 
-/* Rights, which are added. */
+/* Rights, which are added. A file's bits are the rights of its owner times 64, of
+ * its group times 8, and of all others: an octal digit each, as in 0644. The first
+ * class that fits the caller decides alone, also where another would grant more.
+ * User 0 passes, but executes a file only where one of the three may. */
 enum {
   MRITVELJA_EXECUTE = 1,  /* of a directory: to search it */
   MRITVELJA_WRITE = 2,
@@ -143,7 +148,7 @@ typedef struct {
   uint32_t value;        /* as the call says; 0 if refused */
   uint32_t name_length;  /* of a listed name, else 0 */
   uint8_t name[16];      /* the listed name, then 0 */
-  uint32_t fields[8];    /* stat: the columns of the record, then 0; else all 0 */
+  uint32_t fields[8];    /* stat: the columns of the record; else all 0 */
 } mritvelja_answer;
 
 /* One call. Tables or a policy that are not sound are refused, at each call. */

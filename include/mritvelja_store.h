@@ -23,7 +23,7 @@ typedef struct {
   uint8_t policy[MRITVELJA_POLICY_SIZE];
 } mritvelja_store;
 
-/* An empty store: a root directory of user 0 without bits, no process, no rights,
+/* An empty store: a root directory of user 0 and group 0 without bits, no process, no rights,
  * no transitions. What no call makes the host sets with the three functions after. */
 static inline void mritvelja_empty(mritvelja_store *store) {
   memset(store, 0, sizeof *store);
@@ -34,11 +34,12 @@ static inline void mritvelja_empty(mritvelja_store *store) {
 /* Each is 1 if it is done; else 0, with a number out of range, and nothing is set. */
 
 /* Puts a process in use. */
-static inline int mritvelja_set_process(mritvelja_store *store, uint8_t process, uint16_t user, uint8_t label) {
+static inline int mritvelja_set_process(mritvelja_store *store, uint8_t process, uint16_t user, uint16_t group, uint8_t label) {
   if (process >= MRITVELJA_PROCESSES || label >= MRITVELJA_LABELS) return 0;
   uint32_t *record = store->processes + MRITVELJA_PROCESS_WIDTH * process;
   record[MRITVELJA_PROCESS_USED] = 1;
   record[MRITVELJA_PROCESS_USER] = user;
+  record[MRITVELJA_PROCESS_GROUP] = group;
   record[MRITVELJA_PROCESS_LABEL] = label;
   return 1;
 }
@@ -190,7 +191,7 @@ enum {
 };
 
 static inline const uint8_t *mritvelja_store_file_header(void) {
-  static const uint8_t header[] = {'M', 'R', 'I', 'T', 'V', 'E', 'L', 1, MRITVELJA_SLOTS, 0, 0, 0};
+  static const uint8_t header[] = {'M', 'R', 'I', 'T', 'V', 'E', 'L', 2, MRITVELJA_SLOTS, 0, 0, 0};
   return header;
 }
 

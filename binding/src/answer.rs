@@ -16,7 +16,7 @@ pub struct Answer {
     pub name_length: u32,
     /// The listed name, then 0.
     pub name: [u8; 16],
-    /// Of stat: the columns of the file's record, then 0.
+    /// Of stat: the columns of the file's record.
     pub fields: [u32; 8],
 }
 

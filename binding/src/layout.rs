@@ -3,7 +3,7 @@
 /// Files; slot 0 is the root directory.
 pub const SLOTS: usize = 128;
 /// Words of a file's record.
-pub const FILE_WIDTH: usize = 7;
+pub const FILE_WIDTH: usize = 8;
 /// Bytes of contents for each slot.
 pub const BLOCK: usize = 512;
 /// Entries in a directory's block.
@@ -23,7 +23,7 @@ pub const OPEN_FILE_WIDTH: usize = 4;
 /// Processes.
 pub const PROCESSES: usize = 8;
 /// Words of a process, its descriptors last.
-pub const PROCESS_WIDTH: usize = 11;
+pub const PROCESS_WIDTH: usize = 12;
 /// Descriptors of a process.
 pub const DESCRIPTORS: usize = 8;
 /// Labels, of files and of processes alike.
@@ -53,16 +53,18 @@ pub const NO_TRANSITION: u8 = 255;
 pub const FILE_KIND: usize = 0;
 /// A user, 0 to 65,535.
 pub const FILE_OWNER: usize = 1;
-/// Rights, 0 to 7.
-pub const FILE_BITS: usize = 2;
+/// A group, 0 to 65,535.
+pub const FILE_GROUP: usize = 2;
+/// 0 to 511: the rights of the owner times 64, of the group times 8, and of all others.
+pub const FILE_BITS: usize = 3;
 /// 0 to 15.
-pub const FILE_LABEL: usize = 3;
+pub const FILE_LABEL: usize = 4;
 /// Bytes; of a directory, names in it.
-pub const FILE_LENGTH: usize = 4;
+pub const FILE_LENGTH: usize = 5;
 /// How many directory entries name the file.
-pub const FILE_LINKS: usize = 5;
+pub const FILE_LINKS: usize = 6;
 /// Goes up with each change, and wraps.
-pub const FILE_VERSION: usize = 6;
+pub const FILE_VERSION: usize = 7;
 
 /// The kind of a slot that is not in use.
 pub const FREE: u32 = 0;
@@ -88,12 +90,14 @@ pub const OPEN_REFERENCES: usize = 3;
 pub const PROCESS_USED: usize = 0;
 /// 0 to 65,535.
 pub const PROCESS_USER: usize = 1;
+/// 0 to 65,535.
+pub const PROCESS_GROUP: usize = 2;
 /// 0 to 15.
-pub const PROCESS_LABEL: usize = 2;
+pub const PROCESS_LABEL: usize = 3;
 /// Descriptor 0, and after it the others: 0 holds nothing, e + 1 open file e.
-pub const PROCESS_DESCRIPTOR: usize = 3;
+pub const PROCESS_DESCRIPTOR: usize = 4;
 
-// Rights, which are added.
+// Rights, which are added. A file's bits have them three times, an octal digit each, as in 0o644.
 
 /// The right to execute a plain file; of a directory, to search it.
 pub const EXECUTE: u32 = 1;

@@ -42,8 +42,8 @@ impl Clone for Tables {
 }
 
 impl Tables {
-    /// An empty store, which is sound: a root of user 0 without bits, no process,
-    /// no rights, no transitions.
+    /// An empty store, which is sound: a root of user 0 and group 0 without bits,
+    /// no process, no rights, no transitions.
     pub fn empty() -> Tables {
         let mut tables = Tables {
             files: vec![0; FILES_SIZE],

@@ -7,6 +7,8 @@ const FARES: usize = 1;
 const NOW: usize = 2;
 const KEY: usize = 3;
 const KEY_LABEL: usize = 3;
+/// Of every file and process in use.
+const GROUP: u32 = 1;
 
 /// The papers' test console, fresh: a small store to begin or to test with.
 pub fn test_console() -> Tables {
@@ -18,10 +20,10 @@ pub fn test_console() -> Tables {
 }
 
 fn set_files(tables: &mut Tables) {
-    *tables.file_mut(ROOT) = [DIRECTORY, 0, 5, 0, 2, 0, 0];
-    *tables.file_mut(FARES) = [DIRECTORY, 10, 5, 0, 1, 1, 0];
-    *tables.file_mut(NOW) = [PLAIN, 10, 4, 0, 5, 1, 0];
-    *tables.file_mut(KEY) = [PLAIN, 10, 0, KEY_LABEL as u32, 4, 1, 0];
+    *tables.file_mut(ROOT) = [DIRECTORY, 0, GROUP, 0o755, 0, 2, 0, 0];
+    *tables.file_mut(FARES) = [DIRECTORY, 10, GROUP, 0o755, 0, 1, 1, 0];
+    *tables.file_mut(NOW) = [PLAIN, 10, GROUP, 0o744, 0, 5, 1, 0];
+    *tables.file_mut(KEY) = [PLAIN, 10, GROUP, 0o700, KEY_LABEL as u32, 4, 1, 0];
     tables.set_dirent(ROOT, 0, b"fares", FARES);
     tables.set_dirent(ROOT, 1, b"key", KEY);
     tables.set_dirent(FARES, 0, b"now", NOW);
@@ -34,6 +36,7 @@ fn set_processes(tables: &mut Tables) {
         let record = tables.process_mut(process);
         record[PROCESS_USED] = 1;
         record[PROCESS_USER] = user;
+        record[PROCESS_GROUP] = GROUP;
         record[PROCESS_LABEL] = process as u32;
     }
 }

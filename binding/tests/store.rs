@@ -18,7 +18,7 @@ fn small_store() -> Tables {
 fn create(path: &[u8]) -> Request<'_> {
     Request {
         call: calls::CREATE,
-        number: 7,
+        number: 0o644,
         path,
         ..Request::default()
     }

@@ -18,13 +18,12 @@ pub struct Told<'a> {
 
 impl<'a> From<&'a Answer> for Told<'a> {
     fn from(answer: &'a Answer) -> Told<'a> {
-        let record = answer.fields.first_chunk();
         Told {
             refusal: answer.refusal,
             stop: answer.stop,
             value: answer.value,
             bytes: answer.name.get(..answer.name_length as usize),
-            record: *record.expect("the fields are more than a record"),
+            record: answer.fields,
         }
     }
 }

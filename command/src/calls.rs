@@ -1,5 +1,7 @@
 //! The calls by their names, with their parts in words.
 
+use crate::bits;
+use crate::ranges::LAST_BITS;
 use crate::text;
 use mritvelja::calls::{self, Part};
 use mritvelja::layout::BLOCK;
@@ -87,11 +89,9 @@ impl Asked {
                 })?
             }
             Bits => {
-                let bits = text::parse_rights(word.as_bytes());
-                let bits = bits.ok_or_else(|| {
-                    not() + ", not none or some of read, write and execute with commas between them"
-                })?;
-                self.number = u16::try_from(bits).expect("bits are at most 7");
+                let bits = bits::parse(word.as_bytes());
+                let bits = bits.ok_or_else(|| format!("{}, not {}", not(), bits::FORM))?;
+                self.number = u16::try_from(bits).expect("bits are at most 511");
             }
         }
         Ok(())
@@ -118,8 +118,8 @@ impl Asked {
             Descriptor => self.descriptor.to_string(),
             Index | Buffer | Position => self.number.to_string(),
             Mode => mode_words(self.number).unwrap_or_else(|| self.number.to_string()),
-            Bits if self.number > 7 => self.number.to_string(),
-            Bits => text::rights(self.number.into(), ","),
+            Bits if u32::from(self.number) > LAST_BITS => self.number.to_string(),
+            Bits => bits::word(self.number.into()),
         }
     }
 }

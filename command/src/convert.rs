@@ -1,4 +1,4 @@
-//! `convert`: a store file of 64 slots as one of 128, in a new file. The old one is only read.
+//! `convert`: the store of a file of version 1 in a new file of version 2. The old one is only read.
 
 use crate::arguments::Store;
 use crate::check;

@@ -55,12 +55,13 @@ fn answer_words(call: u16, answers: &[u8]) -> Option<(String, usize)> {
     Some((answers::words(call, &told), answers.len() - rest.len()))
 }
 
-/// Stat's fields, which are 1, 2, 1, 1, 2, 2 and 4 bytes, little end first.
+/// Stat's fields, which are 1, 2, 2, 2, 1, 2, 2 and 4 bytes, little end first.
 fn stat_record(data: &[u8]) -> Option<[u32; FILE_WIDTH]> {
     let sizes = [
         (FILE_KIND, 1),
         (FILE_OWNER, 2),
-        (FILE_BITS, 1),
+        (FILE_GROUP, 2),
+        (FILE_BITS, 2),
         (FILE_LABEL, 1),
         (FILE_LENGTH, 2),
         (FILE_LINKS, 2),
@@ -111,7 +112,7 @@ mod tests {
             "# 3: process 2, read 0 16: granted: 0 bytes",
             "# 6: process 1, write 0 \"2.60\\x0a\": granted: 5 bytes",
             "# 7: process 1, read 0 16: refused: 5, not open for that direction",
-            "# 14: process 2, stat /fares/now: granted: plain file, owner 10, bits 4 (read), label 0, length 5, links 1, version 1",
+            "# 14: process 2, stat /fares/now: granted: plain file, owner 10, group 1, bits 484 (owner read write execute, group read, others read), label 0, length 5, links 1, version 1",
         ] {
             assert!(words.contains(&line), "{line}\n{words:#?}");
         }

@@ -2,12 +2,12 @@
 
 use crate::arguments::Store;
 use crate::failure::Failure;
-use crate::format::{self, Refused, FORMER_SLOTS};
+use crate::format::{self, Refused, FORMER_VERSION, VERSION};
+use crate::former;
 use crate::lock::{self, Kind};
 use crate::save::{self, Trouble, CANNOT_BE_SAVED};
 use crate::temporary::{self, Temporary};
 use crate::text;
-use mritvelja::layout::SLOTS;
 use mritvelja::Tables;
 use std::fs::{self, File};
 use std::io::{self, ErrorKind, Read, Seek};
@@ -18,10 +18,10 @@ pub fn read(store: &Store) -> Result<Tables, Failure> {
     decode(&store.path, &read_bytes(store)?)
 }
 
-/// Reads a store from a file of 64 slots.
+/// Reads a store from a file of version 1, and converts it.
 pub fn read_former(store: &Store) -> Result<Tables, Failure> {
     let bytes = read_bytes(store)?;
-    let tables = format::decode_former(&bytes.first, bytes.length);
+    let tables = former::decode(&bytes.first, bytes.length);
     tables.map_err(|why| Failure::of(&store.path, why))
 }
 
@@ -121,14 +121,14 @@ impl Held {
 
 fn decode(path: &Path, bytes: &Bytes) -> Result<Tables, Failure> {
     format::decode(&bytes.first, bytes.length).map_err(|refused| match refused {
-        Refused::Former => Failure::of(path, has_former_slots(path)),
+        Refused::Former => Failure::of(path, is_former(path)),
         Refused::Other(why) => Failure::of(path, why),
     })
 }
 
-fn has_former_slots(path: &Path) -> String {
+fn is_former(path: &Path) -> String {
     format!(
-        "has {FORMER_SLOTS} slots, and this version takes {SLOTS}: convert it with `mritvelja convert {} NEW`",
+        "is a store file of version {FORMER_VERSION}, not {VERSION}: convert it with `mritvelja convert {} NEW`",
         text::quoted(path.as_os_str())
     )
 }

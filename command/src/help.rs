@@ -74,8 +74,9 @@ answer in words. A call that is refused has status 1.
   exit
 
 MODE is read, write, both or append, with ,truncate after it to truncate. BITS
-are none, or some of read, write and execute with commas between them. DATA may
-be - for standard input. The bytes of a read go to standard output.
+are the rights of OWNER:GROUP:OTHERS, each none, or some of read, write and
+execute with commas between them, as read,write:read:none. DATA may be - for
+standard input. The bytes of a read go to standard output.
 
   --hex           prints the bytes of a read as hex digits
 ",
@@ -112,10 +113,12 @@ is 1.
     Page {
         command: "convert",
         arguments: "OLD NEW [--wait SECONDS]",
-        summary: "writes a store of 64 slots as one of 128",
+        summary: "writes a store file of version 1 as one of version 2",
         text: "
-Writes the store of the file OLD, of 64 slots, to the new file NEW, of 128. OLD
-is left as it is.
+Writes the store of the file OLD, of version 1 with 128 or 64 slots, to the new
+file NEW, of version 2. Every file and process gets group 1, a file's owner all
+rights on it, and its group those of the others: nobody may do more or less than
+before. OLD is left as it is.
 ",
     },
 ];

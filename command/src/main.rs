@@ -4,6 +4,7 @@
 mod answers;
 mod arguments;
 mod attributes;
+mod bits;
 mod block;
 mod broken;
 mod call;
@@ -17,6 +18,7 @@ mod diagnosis;
 mod explain;
 mod failure;
 mod format;
+mod former;
 mod given;
 mod held;
 mod help;

@@ -1,5 +1,6 @@
 //! A sound store as JSON: what `show` prints, and with the bytes of files what `describe` does.
 
+use crate::bits;
 use crate::json::Json;
 use crate::ranges::label_pairs;
 use crate::show::paths;
@@ -52,7 +53,8 @@ fn file(tables: &Tables, slot: usize, paths: Json, detail: Detail) -> Json {
             if is_directory { "directory" } else { "file" }.into(),
         ),
         ("owner", record[FILE_OWNER].into()),
-        ("bits", rights_list(record[FILE_BITS])),
+        ("group", record[FILE_GROUP].into()),
+        ("bits", bits_object(record[FILE_BITS])),
         ("label", record[FILE_LABEL].into()),
         ("length", record[FILE_LENGTH].into()),
         ("links", record[FILE_LINKS].into()),
@@ -79,6 +81,12 @@ fn entries(tables: &Tables, directory: usize) -> Json {
         ])
     });
     entries.collect()
+}
+
+/// The rights of each class.
+fn bits_object(bits: u32) -> Json {
+    let classes = bits::classes(bits).map(|(class, rights)| (class, rights_list(rights)));
+    Json::Object(classes.into())
 }
 
 fn rights_list(rights: u32) -> Json {
@@ -118,6 +126,7 @@ fn processes(tables: &Tables) -> Json {
         Json::Object(vec![
             ("process", process.into()),
             ("user", record[PROCESS_USER].into()),
+            ("group", record[PROCESS_GROUP].into()),
             ("label", record[PROCESS_LABEL].into()),
             ("descriptors", held.collect()),
         ])

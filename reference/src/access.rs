@@ -13,13 +13,30 @@ const SUPERUSER: u32 = 0;
 pub struct Caller {
     pub process: ProcessNumber,
     pub user: u32,
+    pub group: u32,
     pub label: u32,
 }
 
 impl Caller {
     /// Whether the caller owns the file or is user 0.
     pub fn is_master_of(self, file: &File) -> bool {
-        self.user == SUPERUSER || self.user == file.owner
+        self.is_superuser() || self.user == file.owner
+    }
+
+    fn is_superuser(self) -> bool {
+        self.user == SUPERUSER
+    }
+
+    /// The rights that the bits give to others than user 0. The first class
+    /// that fits decides alone, also where a later one would give more.
+    fn rights_by_bits(self, file: &File) -> Rights {
+        if self.user == file.owner {
+            file.bits.owner()
+        } else if self.group == file.group {
+            file.bits.group()
+        } else {
+            file.bits.others()
+        }
     }
 }
 
@@ -31,6 +48,7 @@ impl Store<'_> {
         (process.used != 0).then_some(Caller {
             process: number,
             user: process.user,
+            group: process.group,
             label: process.label,
         })
     }
@@ -38,10 +56,19 @@ impl Store<'_> {
     /// Refuses the wanted rights by the bits, then by the labels.
     pub fn check_rights(&self, caller: Caller, slot: Slot, wanted: Rights) -> Result<(), Refusal> {
         let file = self.file(slot);
-        if !caller.is_master_of(&file) && !file.bits.hold(wanted) {
+        if !caller.is_superuser() && !caller.rights_by_bits(&file).hold(wanted) {
             return Err(Refusal::BitsForbid);
         }
         self.check_label(caller, &file, wanted)
+    }
+
+    /// Refuses to execute a file. Searching a directory is not executing it:
+    /// only here user 0 needs the right to be in the bits, whosever it is.
+    pub fn check_execute(&self, caller: Caller, slot: Slot) -> Result<(), Refusal> {
+        if !self.file(slot).bits.hold_for_anyone(Rights::EXECUTE) {
+            return Err(Refusal::BitsForbid);
+        }
+        self.check_rights(caller, slot, Rights::EXECUTE)
     }
 
     /// Refuses the wanted rights by the labels alone.

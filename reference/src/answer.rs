@@ -1,5 +1,6 @@
 //! What a call answers.
 
+use crate::records::FILE_WIDTH;
 use crate::refusal::{Refusal, Refused};
 
 /// The answer to one call; the reader's buffer stands beside it.
@@ -12,8 +13,8 @@ pub struct Answer {
     pub value: u32,
     /// The listed name, without padding.
     pub name: Vec<u8>,
-    /// Stat's kind, owner, bits, label, length, links and version.
-    pub fields: Option<[u32; 7]>,
+    /// Stat's kind, owner, group, bits, label, length, links and version.
+    pub fields: Option<[u32; FILE_WIDTH]>,
 }
 
 impl Answer {
@@ -38,7 +39,7 @@ impl Answer {
         }
     }
 
-    pub(crate) fn stat(fields: [u32; 7]) -> Answer {
+    pub(crate) fn stat(fields: [u32; FILE_WIDTH]) -> Answer {
         Answer {
             fields: Some(fields),
             ..Answer::done()

@@ -1,8 +1,9 @@
 //! A call as it comes in, and as it is understood.
 
+use crate::bits::Bits;
 use crate::path::{Path, Target};
 use crate::records::Kind;
-use crate::rights::{Opening, Rights};
+use crate::rights::Opening;
 
 pub const LAST_OFFSET: u32 = 512;
 
@@ -26,7 +27,7 @@ pub enum Command<'a> {
     Make {
         kind: Kind,
         target: Target<'a>,
-        bits: Rights,
+        bits: Bits,
     },
     Unlink {
         target: Target<'a>,
@@ -44,7 +45,7 @@ pub enum Command<'a> {
     },
     ChangeBits {
         path: Path<'a>,
-        bits: Rights,
+        bits: Bits,
     },
     Stat {
         path: Path<'a>,
@@ -111,7 +112,7 @@ impl<'a> Command<'a> {
             },
             8 => Command::ChangeBits {
                 path: Path::parse(path)?,
-                bits: Rights::new(number)?,
+                bits: Bits::new(number)?,
             },
             9 => Command::Stat {
                 path: Path::parse(path)?,
@@ -127,7 +128,7 @@ impl<'a> Command<'a> {
         Some(Command::Make {
             kind,
             target: Target::parse(path)?,
-            bits: Rights::new(bits)?,
+            bits: Bits::new(bits)?,
         })
     }
 

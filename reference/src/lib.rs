@@ -7,6 +7,7 @@
 
 mod access;
 mod answer;
+mod bits;
 mod command;
 mod descriptor_calls;
 mod directory;

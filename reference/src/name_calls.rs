@@ -3,6 +3,7 @@
 
 use crate::access::Caller;
 use crate::answer::Answer;
+use crate::bits::Bits;
 use crate::directory;
 use crate::numbers::Slot;
 use crate::path::{Path, Target};
@@ -18,7 +19,7 @@ impl Store<'_> {
         caller: Caller,
         kind: Kind,
         target: &Target,
-        bits: Rights,
+        bits: Bits,
     ) -> Result<Answer, Refused> {
         let parent = self.check_new_name(caller, target)?;
         let slot = self.lowest_free_slot().ok_or(Refusal::TableFull)?;
@@ -26,6 +27,7 @@ impl Store<'_> {
         let made = File {
             kind,
             owner: caller.user,
+            group: caller.group,
             bits,
             label: self.file(parent).label,
             ..File::free(self.file(slot).version)

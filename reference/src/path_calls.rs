@@ -2,6 +2,7 @@
 
 use crate::access::Caller;
 use crate::answer::Answer;
+use crate::bits::Bits;
 use crate::directory::{self, BLOCK};
 use crate::numbers::Slot;
 use crate::path::Path;
@@ -64,7 +65,7 @@ impl Store<'_> {
         &mut self,
         caller: Caller,
         path: &Path,
-        bits: Rights,
+        bits: Bits,
     ) -> Result<Answer, Refused> {
         let slot = self.walk(caller, path)?;
         let file = self.file(slot);
@@ -86,7 +87,7 @@ impl Store<'_> {
     pub fn execute(&mut self, caller: Caller, path: &Path) -> Result<Answer, Refused> {
         let slot = self.walk(caller, path)?;
         self.check_kind(slot, Kind::PLAIN)?;
-        self.check_rights(caller, slot, Rights::EXECUTE)?;
+        self.check_execute(caller, slot)?;
         let program_label = self.file(slot).label;
         if let Some(label) = self.transition(caller.label, program_label) {
             self.set_process_label(caller.process, label);

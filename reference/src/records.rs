@@ -2,12 +2,18 @@
 //!
 //! Every word is taken as it stands: the soundness test judges the ranges.
 
+use crate::bits::Bits;
 use crate::numbers::{OpenFileNumber, Slot, DESCRIPTORS};
-use crate::rights::{OpenMode, Rights};
+use crate::rights::OpenMode;
 
-pub const FILE_WIDTH: usize = 7;
+pub const FILE_WIDTH: usize = 8;
 pub const OPEN_FILE_WIDTH: usize = 4;
-pub const PROCESS_WIDTH: usize = 3 + DESCRIPTORS;
+pub const PROCESS_WIDTH: usize = PROCESS_DESCRIPTOR + DESCRIPTORS;
+
+/// The column of a process's label.
+pub const PROCESS_LABEL: usize = 3;
+/// The first column of a process's descriptors.
+pub const PROCESS_DESCRIPTOR: usize = 4;
 
 #[derive(Clone, Copy, Debug, PartialEq, Eq)]
 pub struct Kind(u32);
@@ -22,7 +28,8 @@ impl Kind {
 pub struct File {
     pub kind: Kind,
     pub owner: u32,
-    pub bits: Rights,
+    pub group: u32,
+    pub bits: Bits,
     pub label: u32,
     pub length: u32,
     pub links: u32,
@@ -35,7 +42,8 @@ impl File {
         File {
             kind: Kind::FREE,
             owner: 0,
-            bits: Rights::NONE,
+            group: 0,
+            bits: Bits::NONE,
             label: 0,
             length: 0,
             links: 0,
@@ -44,11 +52,12 @@ impl File {
     }
 
     pub fn from_words(words: [u32; FILE_WIDTH]) -> File {
-        let [kind, owner, bits, label, length, links, version] = words;
+        let [kind, owner, group, bits, label, length, links, version] = words;
         File {
             kind: Kind(kind),
             owner,
-            bits: Rights(bits),
+            group,
+            bits: Bits(bits),
             label,
             length,
             links,
@@ -60,6 +69,7 @@ impl File {
         [
             self.kind.0,
             self.owner,
+            self.group,
             self.bits.0,
             self.label,
             self.length,
@@ -103,6 +113,7 @@ impl OpenFile {
 pub struct Process {
     pub used: u32,
     pub user: u32,
+    pub group: u32,
     pub label: u32,
     pub descriptors: [u32; DESCRIPTORS],
 }
@@ -111,10 +122,11 @@ impl Process {
     pub const FREE_WORDS: [u32; PROCESS_WIDTH] = [0; PROCESS_WIDTH];
 
     pub fn from_words(words: [u32; PROCESS_WIDTH]) -> Process {
-        let [used, user, label, descriptors @ ..] = words;
+        let [used, user, group, label, descriptors @ ..] = words;
         Process {
             used,
             user,
+            group,
             label,
             descriptors,
         }

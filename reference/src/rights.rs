@@ -5,7 +5,6 @@
 pub struct Rights(pub u32);
 
 impl Rights {
-    pub const NONE: Rights = Rights(0);
     /// Of a directory: to search it.
     pub const EXECUTE: Rights = Rights(1);
     pub const WRITE: Rights = Rights(2);
@@ -15,11 +14,7 @@ impl Rights {
     const MAX: u32 = 7;
 
     pub fn new(number: u32) -> Option<Rights> {
-        Some(Rights(number)).filter(|rights| rights.in_range())
-    }
-
-    pub fn in_range(self) -> bool {
-        self.0 <= Rights::MAX
+        (number <= Rights::MAX).then_some(Rights(number))
     }
 
     /// Whether all the wanted rights stand in these.

@@ -4,6 +4,7 @@
 use crate::answer::Answer;
 use crate::command::Request;
 use crate::directory::BLOCK;
+use crate::records::FILE_WIDTH;
 
 /// The most bytes that a scripted read may ask for.
 pub const LARGEST_READ: u16 = BLOCK as u16;
@@ -151,8 +152,8 @@ fn to_hex(bytes: &[u8]) -> String {
 }
 
 /// Stat's fields in their widths, little end first.
-fn stat_bytes(fields: [u32; 7]) -> Vec<u8> {
-    const WIDTHS: [usize; 7] = [1, 2, 1, 1, 2, 2, 4];
+fn stat_bytes(fields: [u32; FILE_WIDTH]) -> Vec<u8> {
+    const WIDTHS: [usize; FILE_WIDTH] = [1, 2, 2, 2, 1, 2, 2, 4];
     fields
         .iter()
         .zip(WIDTHS)

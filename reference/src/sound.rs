@@ -7,9 +7,11 @@ use crate::directory::{self, Block, Dirent, BLOCK};
 use crate::numbers::{OpenFileNumber, Slot, OPEN_FILES, SLOTS};
 use crate::path::{is_name, NAMES};
 use crate::records::{File, Kind, OpenFile, Process};
+use crate::rights::Rights;
 use crate::tables::{Policy, Tables, LABELS, NO_TRANSITION, RIGHTS_SIZE};
 
 const LAST_USER: u32 = 65_535;
+const LAST_GROUP: u32 = 65_535;
 
 pub fn is_sound(tables: &Tables) -> bool {
     policy_is_sound(tables.policy)
@@ -21,7 +23,9 @@ pub fn is_sound(tables: &Tables) -> bool {
 
 fn policy_is_sound(policy: &Policy) -> bool {
     let (rights, transitions) = policy.split_at(RIGHTS_SIZE);
-    rights.iter().all(|&rights| rights <= 7)
+    rights
+        .iter()
+        .all(|&rights| Rights::new(rights.into()).is_some())
         && transitions
             .iter()
             .all(|&label| label < LABELS as u8 || label == NO_TRANSITION)
@@ -36,6 +40,7 @@ fn processes_are_sound(tables: &Tables) -> bool {
 fn process_is_in_range(process: &Process) -> bool {
     process.used == 1
         && process.user <= LAST_USER
+        && process.group <= LAST_GROUP
         && process.label < LABELS as u32
         && process
             .open_files()
@@ -89,7 +94,10 @@ fn file_is_sound(file: &File, block: &Block) -> bool {
 }
 
 fn fields_are_in_range(file: &File) -> bool {
-    file.owner <= LAST_USER && file.bits.in_range() && file.label < LABELS as u32
+    file.owner <= LAST_USER
+        && file.group <= LAST_GROUP
+        && file.bits.in_range()
+        && file.label < LABELS as u32
 }
 
 fn bytes_fit(file: &File, block: &Block) -> bool {

@@ -5,7 +5,10 @@ use crate::directory::Block;
 use crate::numbers::{
     Descriptor, OpenFileNumber, ProcessNumber, Slot, OPEN_FILES, PROCESSES, SLOTS,
 };
-use crate::records::{File, OpenFile, Process, FILE_WIDTH, OPEN_FILE_WIDTH, PROCESS_WIDTH};
+use crate::records::{
+    File, OpenFile, Process, FILE_WIDTH, OPEN_FILE_WIDTH, PROCESS_DESCRIPTOR, PROCESS_LABEL,
+    PROCESS_WIDTH,
+};
 use crate::rights::Rights;
 
 pub const LABELS: usize = 16;
@@ -125,7 +128,7 @@ impl<'a> Store<'a> {
     }
 
     pub fn set_process_label(&mut self, number: ProcessNumber, label: u32) {
-        self.processes[number.index()][2] = label;
+        self.processes[number.index()][PROCESS_LABEL] = label;
     }
 
     pub fn set_descriptor(
@@ -134,7 +137,8 @@ impl<'a> Store<'a> {
         descriptor: Descriptor,
         held: Option<OpenFileNumber>,
     ) {
-        self.processes[process.index()][3 + descriptor.index()] = OpenFileNumber::to_word(held);
+        let column = PROCESS_DESCRIPTOR + descriptor.index();
+        self.processes[process.index()][column] = OpenFileNumber::to_word(held);
     }
 
     /// The rights of a process label over a file label.

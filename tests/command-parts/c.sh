@@ -25,15 +25,15 @@ int main(int count, char **words) {
   say(mritvelja_fork(&s, 2));
   say(mritvelja_close(&s, 3, 1));
   say(mritvelja_exit(&s, 3));
-  say(mritvelja_create(&s, 1, "/fares/next", MRITVELJA_READ | MRITVELJA_WRITE | MRITVELJA_EXECUTE));
+  say(mritvelja_create(&s, 1, "/fares/next", 0777));
   say(mritvelja_open(&s, 1, "/fares/next", MRITVELJA_MODE_WRITE | MRITVELJA_MODE_TRUNCATE));
   say(mritvelja_write(&s, 1, 0, "2.60\n", 5));
   say(mritvelja_link(&s, 1, "/fares/next", "/fares/later"));
   say(mritvelja_unlink(&s, 1, "/fares/next"));
-  say(mritvelja_make_directory(&s, 1, "/fares/old", MRITVELJA_READ));
+  say(mritvelja_make_directory(&s, 1, "/fares/old", 0744));
   say(mritvelja_remove_directory(&s, 1, "/fares/old"));
   say(mritvelja_list(&s, 1, "/fares", 0));
-  say(mritvelja_change_bits(&s, 1, "/fares/later", MRITVELJA_READ | MRITVELJA_EXECUTE));
+  say(mritvelja_change_bits(&s, 1, "/fares/later", 0554));
   say(mritvelja_stat(&s, 1, "/fares/later"));
   say(mritvelja_execute(&s, 1, "/fares/later"));
   say(mritvelja_open(&s, 2, "/fares/none", MRITVELJA_MODE_READ));
@@ -61,11 +61,11 @@ int main(void) {
   static mritvelja_store s, before;
   mritvelja_empty(&s);
   before = s;
-  int wrong = mritvelja_set_process(&s, 8, 0, 0) + mritvelja_set_process(&s, 0, 0, 16) + mritvelja_set_rights(&s, 16, 0, 0) +
+  int wrong = mritvelja_set_process(&s, 8, 0, 0, 0) + mritvelja_set_process(&s, 0, 0, 0, 16) + mritvelja_set_rights(&s, 16, 0, 0) +
               mritvelja_set_rights(&s, 0, 16, 0) + mritvelja_set_rights(&s, 0, 0, 8) + mritvelja_set_transition(&s, 16, 0, 0) +
               mritvelja_set_transition(&s, 0, 16, 0) + mritvelja_set_transition(&s, 0, 0, 16);
   int is_same = memcmp(&s, &before, sizeof s) == 0;
-  int right = mritvelja_set_process(&s, 7, 65535, 15) + mritvelja_set_rights(&s, 15, 15, 7) + mritvelja_set_transition(&s, 15, 15, 15) +
+  int right = mritvelja_set_process(&s, 7, 65535, 65535, 15) + mritvelja_set_rights(&s, 15, 15, 7) + mritvelja_set_transition(&s, 15, 15, 15) +
               mritvelja_set_transition(&s, 15, 14, MRITVELJA_NO_TRANSITION);
   printf("%d %d %d %u %s\n", wrong, is_same, right, (unsigned)mritvelja_is_sound(&s), mritvelja_refusal_text(15));
   return 0;
@@ -87,14 +87,14 @@ done <<'CALLS'
 2 fork
 3 close 1
 3 exit
-1 create /fares/next read,write,execute
+1 create /fares/next read,write,execute:read,write,execute:read,write,execute
 1 open /fares/next write,truncate
 1 write 0 12345
 1 link /fares/next /fares/later
 1 unlink /fares/next
-1 make-directory /fares/old read
+1 make-directory /fares/old read,write,execute:read:read
 1 remove-directory /fares/old
-1 change-bits /fares/later read,execute
+1 change-bits /fares/later read,execute:read,execute:read
 CALLS
 "$mritvelja" describe c-expected | sed 's/12345/2.60\\x0a/' >c-expected.description
 printf '%s\n' '0 0 0' '0 0 5' 2.40 '0 0 2' '0 0 1' '0 0 3' '0 0 0' '0 0 0' '0 0 4' '0 0 0' '0 0 5' '0 0 0' '0 0 0' '0 0 5' '0 0 0' '0 0 1' '0 0 0' '0 0 0' \
@@ -111,13 +111,13 @@ for program in "${programs[@]}"; do
     rm -f c-new
 done
 : >c-empty
-head -c 70507 console >c-short
+head -c 71051 console >c-short
 { cat console && printf x; } >c-long
-head -c 70508 /dev/zero >c-zeros
-cp console c-newer && put c-newer 7 '\002'
-cp console c-damaged && put c-damaged $((12 + 2 * 28 + 20)) '\002'
+head -c 71052 /dev/zero >c-zeros
+cp console c-newer && put c-newer 7 '\003'
+cp console c-damaged && put c-damaged $((12 + 2 * 32 + 24)) '\002'
 mkdir c-folder
-for wrong in c-empty c-short c-long c-zeros c-newer c-damaged before-128; do
+for wrong in c-empty c-short c-long c-zeros c-newer c-damaged version-1; do
     gives "C: load of $wrong" 1 'load: Invalid argument' ./calls-c "$wrong" c-new
     holds "C: load of $wrong: nothing is saved" test ! -e c-new
 done

@@ -27,7 +27,7 @@ holds "call read --hex: the bytes as digits" test "$(cat out)" = 34300a
 answers 'granted: descriptor 1' 2 duplicate 0
 answers 'granted: process 3' 2 fork
 answers 'granted' 3 close 0
-answers 'granted: slot 4' 1 create /fares/next read,write
+answers 'granted: slot 4' 1 create /fares/next read,write:none:none
 answers 'granted: descriptor 0' 1 open /fares/next both,truncate
 answers 'granted: 4 bytes' 1 write 0 2.60
 gives "call write from standard input" 0 'granted: 3 bytes' bash -c 'printf "\000\n\377" | "$0" call bus 1 write 0 -' "$mritvelja"
@@ -38,22 +38,29 @@ answers 'granted' 1 link /fares/next /fares/later
 answers 'granted: name later' 1 list /fares 0
 answers 'granted: no name there' 1 list /fares 3
 answers 'granted' 1 unlink /fares/next
-answers 'granted' 1 change-bits /fares/later execute,read
-answers 'granted: plain file, owner 10, bits 5 (read execute), label 0, length 7, links 1, version 2' 1 stat /fares/later
-answers 'granted: slot 5' 1 make-directory /fares/old none
+answers 'granted' 1 change-bits /fares/later execute,read:read:none
+answers 'granted: plain file, owner 10, group 1, bits 352 (owner read execute, group read, others none), label 0, length 7, links 1, version 2' 1 stat /fares/later
+answers 'granted: slot 5' 1 make-directory /fares/old none:none:none
 answers 'granted' 1 remove-directory /fares/old
 answers 'granted' 1 execute /fares/later
 answers 'granted' 3 exit
 refused 'refused: 2, process not in use' 3 fork
 refused 'refused: 6, name missing, at name 2' 2 open /fares/no read
-refused 'refused: 9, bits or ownership forbid' 2 create /fares/mine read
+refused 'refused: 9, bits or ownership forbid' 2 create /fares/mine read:read:read
 refused 'refused: 10, label forbids' 0 open /key read
 refused 'refused: 3, malformed call' 2 open /fares/now read,truncate
 refused 'mritvelja: refused: 4, descriptor not held' 2 read 200
+# The first class that fits decides alone.
+answers 'granted' 1 change-bits /fares/later none:read,execute:read,execute
+refused 'refused: 9, bits or ownership forbid' 1 open /fares/later read
+answers 'granted: descriptor 2' 2 open /fares/later read
+answers 'granted' 1 change-bits /fares/later read:none:read
+refused 'refused: 9, bits or ownership forbid' 2 open /fares/later read
+refused 'refused: 9, bits or ownership forbid' 0 execute /fares/later
 gives "the store after the calls" 0 'sound' "$mritvelja" check bus
 
 for arguments in 'call' 'call bus' 'call bus 2' 'call bus x fork' 'call bus 256 fork' 'call bus 2 jump' 'call bus 2 fork more' 'call bus 2 open /x' \
-    'call bus 2 open /x 1' 'call bus 2 create /x 4' 'call bus 2 read x' 'call bus 2 read 0 65536' 'call bus 2 seek 0 -1' 'call - 2 fork'; do
+    'call bus 2 open /x 1' 'call bus 2 create /x 4' 'call bus 2 create /x read' 'call bus 2 create /x read:read:read:read' 'call bus 2 change-bits /x ::' 'call bus 2 read x' 'call bus 2 read 0 65536' 'call bus 2 seek 0 -1' 'call - 2 fork'; do
     # shellcheck disable=SC2086 # the words are arguments
     gives "arguments '$arguments'" 2 'usage: mritvelja' "$mritvelja" $arguments
 done

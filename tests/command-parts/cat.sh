@@ -2,7 +2,7 @@
 # The bytes of a file, seen from outside.
 
 {
-    printf 'mritvelja description 1\ndirectory /d\nfile /d/all data "'
+    printf 'mritvelja description 2\ndirectory /d\nfile /d/all data "'
     printf '\\x%02x' {0..255}
     printf '"\nfile "/d/\\x20 " data x\nfile /empty\n'
 } >all.description

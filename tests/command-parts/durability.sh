@@ -16,7 +16,7 @@ gives "both the sync and the output fail" 1 'mritvelja: standard output: cannot 
 holds "both are told" grep -q '^mritvelja: unsynced: is saved, but may be lost with the power' err
 
 # A store that is made is there whole or not at all, and a run that was killed does not stand in the next one's way.
-for how in new 'convert before-128'; do
+for how in new 'convert version-1'; do
     # shellcheck disable=SC2206 # the words are arguments
     make=("$mritvelja" $how)
     for call in write fsync renameat2; do
@@ -42,7 +42,7 @@ holds "new where the rename fails: nothing is left" no_leftovers
 holds "new where the rename fails: no store" test ! -e unborn
 
 # Another program's work on the file during a run is not overwritten: just before the new bytes are synced it ..
-printf 'proc=1\ncall=2\nfd=0\narg=4\npath=/fares/other\ndata=\n' >create
+printf 'proc=1\ncall=2\nfd=0\narg=484\npath=/fares/other\ndata=\n' >create
 # meddled WHAT COMMAND: the command runs during a replay, which is refused and leaves what that command left.
 meddled() {
     local what=$1 command=$2

@@ -12,19 +12,21 @@ holds "show --json is one line" test "$(wc -l <out)" -eq 1
 holds "show --json: files" says '[f["paths"] for f in store["files"]] == [["/"], ["/fares"], ["/log"], ["/key"], [], ["/log/day"]]'
 holds "show --json: open files" says 'store["open_files"] == [{"open_file": 1, "slot": 4, "mode": "read", "offset": 4, "references": 2}]'
 holds "show --json: descriptors" says 'store["processes"][2]["descriptors"] == [{"descriptor": 0, "open_file": 1}, {"descriptor": 1, "open_file": 1}]'
+holds "show --json: groups and bits" says '(store["files"][3]["group"], store["files"][3]["bits"]) == (1, {"owner": ["read", "write", "execute"], "group": [], "others": []})'
+holds "show --json: a process's group" says 'store["processes"][1]["group"] == 1'
 holds "show --json: rights" says '{"process_label": 1, "file_label": 3, "rights": ["write"]} in store["rights"]'
 holds "show --json: no bytes of files" says 'not any("data" in f for f in store["files"])'
 gives "describe --json" 0 '' "$mritvelja" describe --json console
 holds "describe --json: the bytes of files" says '[f["data"] for f in store["files"] if f["slot"] == 3] == ["01020304"]'
 holds "describe --json: a directory's entries" says 'store["files"][0]["entries"][1] == {"entry": 1, "name": "key", "slot": 3}'
-printf 'mritvelja description 1\ntransition 1 by 2 to 3\nfile "/\\x22\\x5c\\x0a\\xff "\nfree 9 version 4294967295\n' | "$mritvelja" new odd-names --from -
+printf 'mritvelja description 2\ntransition 1 by 2 to 3\nfile "/\\x22\\x5c\\x0a\\xff "\nfree 9 version 4294967295\n' | "$mritvelja" new odd-names --from -
 gives "describe --json of odd names" 0 '' "$mritvelja" describe --json odd-names
 holds "describe --json of odd names: as show has them" says 'store["files"][1]["paths"] == ["/\"\\x5c\\x0a\\xff "]'
 holds "describe --json: transitions" says 'store["transitions"] == [{"process_label": 1, "program_label": 2, "label": 3}]'
 holds "describe --json: free slots" says 'store["free"] == [{"slot": 9, "version": 4294967295}]'
 gives "check --json" 0 '{"sound": true}' "$mritvelja" check --json console
 cp console damaged
-put damaged $((12 + 2 * 28 + 20)) '\002'
+put damaged $((12 + 2 * 32 + 24)) '\002'
 gives "check --json of a store that is not sound" 1 '' "$mritvelja" check --json damaged
 holds "check --json: the clause and where" says 'store == {"sound": False, "clause": "names equal to the places counted", "where": "slot 2: links is 2, but the directory entries counted are 1"}'
 refuses "show --json of a store that is not sound" 'damaged: not sound: ' "$mritvelja" show --json damaged

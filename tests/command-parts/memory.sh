@@ -17,7 +17,7 @@ rm -f large
 
 # Some 5 MB of script whose answers have over 60: seeks to the beginning and reads of 512 bytes.
 {
-    printf 'proc=1\ncall=2\nfd=0\narg=7\npath=/fares/long\ndata=\n'
+    printf 'proc=1\ncall=2\nfd=0\narg=511\npath=/fares/long\ndata=\n'
     printf 'proc=1\ncall=1\nfd=0\narg=3\npath=/fares/long\ndata=\n'
     printf 'proc=1\ncall=12\nfd=0\narg=0\npath=\ndata=%s\n' "$(printf 'ab%.0s' {1..512})"
     printf 'proc=1\ncall=13\nfd=0\narg=0\npath=\ndata=\nproc=1\ncall=11\nfd=0\narg=512\npath=\ndata=\n%.0s' {1..60000}
@@ -46,7 +46,7 @@ rm -f many-answers
     printf '\n'
 } >huge-call
 {
-    printf 'mritvelja description 1\nfile /a data '
+    printf 'mritvelja description 2\nfile /a data '
     head -c 30000000 /dev/zero | tr '\0' a
 } >huge-line
 refuses "a huge block that is broken" 'huge-block: block 1 is broken' limited 50000 "$mritvelja" replay bus huge-block

@@ -22,9 +22,9 @@ for arguments in "$odd" "-$odd" "new a $odd" "replay a b --calls $odd" "--versio
 done
 gives "a name in letters" 1 'Rūta/žinios: cannot be opened' "$mritvelja" check 'Rūta/žinios'
 
-# The command that is suggested for a file of 64 slots runs as it stands, whatever the name.
+# The command that is suggested for a file of version 1 runs as it stands, whatever the name.
 for name in plain.store "a b" "it's" '$(touch obeyed)' '"a"' './-dash' 'ünder' $'new\nline' $'\e[1m\\\xff' '`x`;~*?'; do
-    cp before-128 "$name"
+    cp version-1 "$name"
     refuses "check of a name to be quoted" 'convert it with `' "$mritvelja" check "$name"
     holds "check of a name to be quoted: plain lines" plain_lines err
     suggested=$(sed -n 's/.*convert it with `\(.*\) NEW`$/\1 suggested/p' err)

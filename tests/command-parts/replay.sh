@@ -92,7 +92,7 @@ holds "without a script nothing changes" cmp bus console
 
 # The longest answers, more than a buffer holds at once.
 {
-    printf 'proc=1\ncall=2\nfd=0\narg=7\npath=/fares/long\ndata=\n'
+    printf 'proc=1\ncall=2\nfd=0\narg=511\npath=/fares/long\ndata=\n'
     printf 'proc=1\ncall=1\nfd=0\narg=3\npath=/fares/long\ndata=\n'
     printf 'proc=1\ncall=12\nfd=0\narg=0\npath=\ndata=%s\n' "$(printf 'ab%.0s' {1..512})"
     for _ in {1..200}; do

@@ -75,7 +75,7 @@ gives "no standard error" 1 '' bash -c 'exec "$0" show missing 2>&-' "$mritvelja
 # Runs at the same time: each waits for the one before.
 fresh bus
 for number in {1..8}; do
-    printf 'proc=1\ncall=2\nfd=0\narg=4\npath=/fares/%s\ndata=\n' "$number" >"create-$number"
+    printf 'proc=1\ncall=2\nfd=0\narg=484\npath=/fares/%s\ndata=\n' "$number" >"create-$number"
     "$mritvelja" replay bus "create-$number" >/dev/null 2>&1 &
 done
 wait

@@ -2,10 +2,10 @@
 # A store that is not sound: one defect for each clause, as bytes of the file (docs/store-file.md has the places).
 
 files=12
-contents=3596
-open_files=69132
-processes=69644
-policy=69996
+contents=4108
+open_files=69644
+processes=70156
+policy=70540
 
 # unsound CLAUSE WHERE: check names both; replay and show refuse the store, which stays.
 unsound() {
@@ -20,32 +20,45 @@ unsound() {
 }
 
 fresh damaged
-put damaged $((files + 28 + 4)) '\000\000\001'
+put damaged $((files + 32 + 4)) '\000\000\001'
 unsound 'all fields in range' 'slot 1: owner is 65536, not 0 to 65535'
+put damaged $((files + 32 + 8)) '\000\000\001'
+unsound 'all fields in range' 'slot 1: group is 65536, not 0 to 65535'
+put damaged $((files + 32 + 12)) '\000\002'
+unsound 'all fields in range' 'slot 1: bits is 512, not 0 to 511'
+put damaged $((processes + 48 + 8)) '\000\000\001'
+unsound 'all fields in range' 'process 1: group is 65536, not 0 to 65535'
+put damaged $policy '\010'
+unsound 'all fields in range' 'policy, rights of process label 0 over file label 0: the cell is 8, not 0 to 7'
 put damaged $((policy + 256 + 16 + 2)) '\020'
 unsound 'all fields in range' 'policy, transition of process label 1 by program label 2: the cell is 16'
 put damaged $files '\001'
 unsound 'root a directory with no name' 'slot 0: kind is 1'
 put damaged $((contents + 32)) 'too\000\000\000\000\000\000\000\000\000\000\000\001'
 unsound 'every other directory named exactly once and at most 8 names deep' 'slot 1: a directory; the directory entries that name it are 2'
-put damaged $((files + 8 * 28)) '\002\000\000\000\000\000\000\000\000\000\000\000\000\000\000\000\001\000\000\000\001'
+put damaged $((files + 8 * 32)) '\002'
+put damaged $((files + 8 * 32 + 20)) '\001\000\000\000\001'
 put damaged $((contents + 8 * 512)) 'self\000\000\000\000\000\000\000\000\000\000\010'
 unsound 'every directory reached from the root' 'slot 8: a directory from which no way'
 put damaged $((contents + 16)) 'fares'
 unsound 'names valid and different within a directory' 'directory in slot 0, entry 1, name "fares": entry 0 has it too'
 put damaged $((contents + 512 + 16)) 'x\000\000\000\000\000\000\000\000\000\000\000\000\000\004'
 unsound 'each place naming a slot in use other than 0' 'directory in slot 1, entry 1: it names slot 4, which is free'
-put damaged $((files + 2 * 28 + 20)) '\002'
+put damaged $((files + 2 * 32 + 24)) '\002'
 unsound 'names equal to the places counted' 'slot 2: links is 2, but the directory entries counted are 1'
-put damaged $((files + 3 * 28 + 16)) '\001\002'
+put damaged $((files + 3 * 32 + 20)) '\001\002'
 unsound "a plain file's length at most 512, a directory's equal to its number of names" 'slot 3: a plain file of length 513'
-put damaged $((files + 7 * 28)) '\001'
+put damaged $((files + 7 * 32)) '\001'
 unsound 'each plain file named or open' 'slot 7: a plain file'
 put damaged $open_files '\001\000\000\000\001\000\000\000\000\000\000\000\001'
-put damaged $((processes + 2 * 44 + 12)) '\001'
+put damaged $((processes + 2 * 48 + 16)) '\001'
 unsound 'open entries only on plain files' 'open file 0: slot 1 is no plain file'
 put damaged $open_files '\002\000\000\000\001\000\000\000\000\000\000\000\002'
-put damaged $((processes + 2 * 44 + 12)) '\001'
+put damaged $((processes + 2 * 48 + 16)) '\001'
 unsound 'references equal to the descriptors counted, at least 1' 'open file 0: references is 2, but the descriptors counted are 1'
+put damaged $((files + 4 * 32 + 8)) '\001'
+unsound 'the zero bytes' 'slot 4: a free record that is not 0 before its version'
+put damaged $((processes + 3 * 48 + 8)) '\001'
+unsound 'the zero bytes' 'process 3: not in use, and not all 0'
 put damaged $((open_files - 1)) '\001'
 unsound 'the zero bytes' 'slot 127: a free slot whose byte 511 is not 0'

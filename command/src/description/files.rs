@@ -5,12 +5,12 @@ use super::building::Building;
 use super::line::Line;
 use super::lowest_free;
 use crate::path;
-use crate::ranges::{LAST_LABEL, LAST_USER};
+use crate::ranges::{LAST_GROUP, LAST_LABEL, LAST_USER};
 use crate::text;
 use mritvelja::layout::*;
 use mritvelja::Tables;
 
-/// `directory PATH owner N bits RIGHTS label N version N slot N entry N`
+/// `directory PATH owner N group N bits BITS label N version N slot N entry N`
 pub fn directory(building: &mut Building, line: &mut Line) -> Result<(), String> {
     let record = record(line, DIRECTORY)?;
     if line.operand == b"/" {
@@ -26,7 +26,7 @@ pub fn directory(building: &mut Building, line: &mut Line) -> Result<(), String>
     add_named(building, line, record).map(|_| ())
 }
 
-/// `file PATH owner N bits RIGHTS label N version N slot N entry N data BYTES`
+/// `file PATH owner N group N bits BITS label N version N slot N entry N data BYTES`
 pub fn file(building: &mut Building, line: &mut Line) -> Result<(), String> {
     let record = record(line, PLAIN)?;
     let slot = add_named(building, line, record)?;
@@ -39,8 +39,8 @@ pub fn link(building: &mut Building, line: &mut Line) -> Result<(), String> {
     add_name(&mut building.tables, line, slot)
 }
 
-/// `unnamed SLOT owner N bits RIGHTS label N version N data BYTES`: a plain file that
-/// is open and has no name any more.
+/// `unnamed SLOT owner N group N bits BITS label N version N data BYTES`: a plain file
+/// that is open and has no name any more.
 pub fn unnamed(building: &mut Building, line: &mut Line) -> Result<(), String> {
     let slot = line.operand_number(SLOTS as u32 - 1)?;
     let slot = building.give_slot(Some(slot), line.number)?;
@@ -68,7 +68,8 @@ fn record(line: &mut Line, kind: u32) -> Result<[u32; FILE_WIDTH], String> {
     let mut record = [0; FILE_WIDTH];
     record[FILE_KIND] = kind;
     record[FILE_OWNER] = line.take_number("owner", LAST_USER)?.unwrap_or(0);
-    record[FILE_BITS] = line.take_rights("bits")?;
+    record[FILE_GROUP] = line.take_number("group", LAST_GROUP)?.unwrap_or(0);
+    record[FILE_BITS] = line.take_bits("bits")?;
     record[FILE_LABEL] = line.take_number("label", LAST_LABEL)?.unwrap_or(0);
     record[FILE_VERSION] = line.take_number("version", u32::MAX)?.unwrap_or(0);
     Ok(record)

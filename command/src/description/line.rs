@@ -1,6 +1,7 @@
 //! A line: its kind, what it is of, and its fields, each a name and a value.
 
 use super::words;
+use crate::bits;
 use crate::text;
 
 pub struct Line {
@@ -68,12 +69,25 @@ impl Line {
 
     /// Takes rights, none if the field is missing.
     pub fn take_rights(&mut self, name: &str) -> Result<u32, String> {
-        self.take(name).map_or(Ok(0), |value| {
-            text::parse_rights(&value).ok_or_else(|| {
-                let found = text::readable(&value);
-                format!("{name} is {found}, not none or some of read, write and execute with commas between them")
-            })
-        })
+        const FORM: &str = "none or some of read, write and execute with commas between them";
+        self.take_parsed(name, text::parse_rights, FORM)
+    }
+
+    /// Takes the rights of owner, group and others, none if the field is missing.
+    pub fn take_bits(&mut self, name: &str) -> Result<u32, String> {
+        self.take_parsed(name, bits::parse, bits::FORM)
+    }
+
+    fn take_parsed(
+        &mut self,
+        name: &str,
+        parse: fn(&[u8]) -> Option<u32>,
+        form: &str,
+    ) -> Result<u32, String> {
+        let Some(value) = self.take(name) else {
+            return Ok(0);
+        };
+        parse(&value).ok_or_else(|| format!("{name} is {}, not {form}", text::readable(&value)))
     }
 
     /// The operand as a number from 0 to `last`.

@@ -19,7 +19,9 @@ pub use reading::read;
 pub use writing::write;
 
 /// The first line of every description: what it is, and the version of this form.
-const FIRST_LINE: &str = "mritvelja description 1";
+const FIRST_LINE: &str = "mritvelja description 2";
+/// That of a description before files and processes had groups.
+const FORMER_FIRST_LINE: &str = "mritvelja description 1";
 
 /// The slot or directory entry of a line that names none: the lowest that no line
 /// before it has. What is written and what is read go by this rule.

@@ -3,20 +3,21 @@
 use super::building::{open_name, Building};
 use super::files;
 use super::line::Line;
-use crate::ranges::{LAST_LABEL, LAST_USER};
+use crate::ranges::{LAST_GROUP, LAST_LABEL, LAST_USER};
 use crate::text;
 use mritvelja::layout::*;
 
 const LAST_PROCESS: u32 = PROCESSES as u32 - 1;
 const LAST_OPEN_FILE: u32 = OPEN_FILES as u32 - 1;
 
-/// `process N user N label N`
+/// `process N user N group N label N`
 pub fn process(building: &mut Building, line: &mut Line) -> Result<(), String> {
     let process = line.operand_number(LAST_PROCESS)?;
     building.give(format!("process {process}"), line.number)?;
     let record = building.tables.process_mut(process as usize);
     record[PROCESS_USED] = 1;
     record[PROCESS_USER] = line.take_number("user", LAST_USER)?.unwrap_or(0);
+    record[PROCESS_GROUP] = line.take_number("group", LAST_GROUP)?.unwrap_or(0);
     record[PROCESS_LABEL] = line.take_number("label", LAST_LABEL)?.unwrap_or(0);
     Ok(())
 }

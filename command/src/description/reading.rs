@@ -2,7 +2,7 @@
 
 use super::building::Building;
 use super::line::Line;
-use super::{files, policy, processes, FIRST_LINE};
+use super::{files, policy, processes, FIRST_LINE, FORMER_FIRST_LINE};
 use crate::text;
 use mritvelja::Tables;
 
@@ -28,8 +28,15 @@ const KINDS: [(&str, Add); 10] = [
 /// The store that a description is of, or what is wrong with it and where.
 pub fn read(description: &[u8]) -> Result<Tables, String> {
     let mut lines = description.split(|&byte| byte == b'\n');
-    if lines.next() != Some(FIRST_LINE.as_bytes()) {
-        return Err(format!("line 1 is not \"{FIRST_LINE}\""));
+    match lines.next() {
+        Some(line) if line == FIRST_LINE.as_bytes() => {}
+        Some(line) if line == FORMER_FIRST_LINE.as_bytes() => {
+            return Err(format!(
+                "line 1 is \"{FORMER_FIRST_LINE}\", a form without groups, not \"{FIRST_LINE}\": \
+                 what was bits B is now group 1 bits read,write,execute:B:B, and a process has group 1"
+            ))
+        }
+        _ => return Err(format!("line 1 is not \"{FIRST_LINE}\"")),
     }
     let mut building = Building::new();
     for (line, number) in lines.zip(2..) {

@@ -41,11 +41,12 @@ fn path(chance: &mut Chance) -> Vec<u8> {
 /// A store with processes and policy by chance, after calls by chance.
 fn store(chance: &mut Chance, number_of_calls: u64) -> Tables {
     let mut tables = Tables::empty();
-    *tables.file_mut(ROOT) = [DIRECTORY, 0, 7, chance.below(3) as u32, 0, 0, 0];
+    *tables.file_mut(ROOT) = [DIRECTORY, 0, 0, 0o777, chance.below(3) as u32, 0, 0, 0];
     for process in 0..5 {
         let record = tables.process_mut(process);
         record[PROCESS_USED] = 1;
         record[PROCESS_USER] = chance.below(3) as u32 * 10;
+        record[PROCESS_GROUP] = chance.below(3) as u32;
         record[PROCESS_LABEL] = chance.below(3) as u32;
     }
     for (process, file) in label_pairs() {
@@ -84,11 +85,15 @@ fn step(tables: &mut Tables, chance: &mut Chance) {
     if call_number == calls::WRITE && chance.is_one_in(4) {
         data = (0..=255).collect();
     }
+    let number = match call_number {
+        calls::CREATE | calls::MAKE_DIRECTORY => 0o700 + chance.below(64),
+        _ => 1 + chance.below(7),
+    };
     let request = Request {
         process: chance.below(8) as u8,
         call: call_number,
         descriptor: chance.below(3) as u8,
-        number: 1 + chance.below(7) as u16,
+        number: number as u16,
         path: &path,
         data: &data,
     };
@@ -145,7 +150,7 @@ fn stores_that_no_call_makes_are_made_again_too() {
         deep.file_mut(slot)[FILE_LINKS] = u32::from(slot != ROOT);
         deep.set_dirent(slot, slot, b"fourteen bytes", slot + 1);
     }
-    *deep.file_mut(9) = [PLAIN, 65_535, 7, 15, 512, 1, u32::MAX];
+    *deep.file_mut(9) = [PLAIN, 65_535, 65_535, 0o777, 15, 512, 1, u32::MAX];
     deep.block_mut(9).fill(0xab);
     deep.file_mut(100)[FILE_VERSION] = 7;
     assert_same_again(&deep);
@@ -158,13 +163,13 @@ fn the_test_console_reads_like_this() {
 
 #[test]
 fn comments_order_and_defaults_are_the_writers() {
-    let text = "mritvelja description 1\n# a store\n\n\tfile /a  data \"x\" # a file\nprocess 3\nlink \"/b\\x20\" to /a\ndirectory /d entry 7 slot 90\nfile /d/e owner 1";
+    let text = "mritvelja description 2\n# a store\n\n\tfile /a  data \"x\" # a file\nprocess 3\nlink \"/b\\x20\" to /a\ndirectory /d entry 7 slot 90\nfile /d/e owner 1 group 2 bits none:write:read,execute";
     let tables = read(text.as_bytes()).unwrap();
     assert!(sound(&tables));
-    assert_eq!(tables.file(1), &[PLAIN, 0, 0, 0, 1, 2, 0]);
+    assert_eq!(tables.file(1), &[PLAIN, 0, 0, 0, 0, 1, 2, 0]);
     assert_eq!(tables.dirent_name(ROOT, 1), b"b ");
     assert_eq!(tables.dirent_slot(ROOT, 7), 90);
-    assert_eq!(tables.file(2), &[PLAIN, 1, 0, 0, 0, 1, 0]);
+    assert_eq!(tables.file(2), &[PLAIN, 1, 2, 0o025, 0, 0, 1, 0]);
     assert_eq!(tables.process(3)[PROCESS_USED], 1);
 }
 
@@ -185,6 +190,18 @@ const WRONG: &[(&str, &str)] = &[
     (
         "process 1 user 65536",
         "line 2: user is 65536, not a number from 0 to 65535",
+    ),
+    (
+        "process 1 group 65536",
+        "line 2: group is 65536, not a number from 0 to 65535",
+    ),
+    (
+        "file /a group 65536",
+        "line 2: group is 65536, not a number from 0 to 65535",
+    ),
+    (
+        "file /a bits read",
+        "line 2: bits is read, not OWNER:GROUP:OTHERS, each none or some of read, write and execute",
     ),
     (
         "process 1 colour 2",
@@ -312,7 +329,10 @@ fn a_wrong_line_is_named() {
     }
     assert!(read(b"process 1\n")
         .unwrap_err()
-        .starts_with("line 1 is not \"mritvelja description 1\""));
+        .starts_with("line 1 is not \"mritvelja description 2\""));
+    assert!(read(b"mritvelja description 1\nprocess 1\n")
+        .unwrap_err()
+        .starts_with("line 1 is \"mritvelja description 1\", a form without groups"));
 }
 
 #[test]

@@ -1,6 +1,7 @@
 //! Writes the description of a sound store: nothing that follows from the lines before.
 
 use super::{lowest_free, words, FIRST_LINE};
+use crate::bits;
 use crate::ranges::label_pairs;
 use crate::text;
 use mritvelja::layout::*;
@@ -29,8 +30,9 @@ pub fn write(tables: &Tables) -> String {
 fn processes(tables: &Tables) -> impl Iterator<Item = String> + '_ {
     tables.processes_in_use().map(|process| {
         let record = tables.process(process);
-        let (user, label) = (record[PROCESS_USER], record[PROCESS_LABEL]);
-        format!("process {process} user {user} label {label}")
+        let [user, group, label] =
+            [PROCESS_USER, PROCESS_GROUP, PROCESS_LABEL].map(|at| record[at]);
+        format!("process {process} user {user} group {group} label {label}")
     })
 }
 
@@ -116,16 +118,13 @@ impl Files<'_> {
 
     fn record(&self, slot: usize) -> String {
         let record = self.tables.file(slot);
-        let (owner, bits, label) = (
-            record[FILE_OWNER],
-            text::rights(record[FILE_BITS], ","),
-            record[FILE_LABEL],
-        );
+        let [owner, group, label] = [FILE_OWNER, FILE_GROUP, FILE_LABEL].map(|at| record[at]);
+        let bits = bits::word(record[FILE_BITS]);
         let version = match record[FILE_VERSION] {
             0 => String::new(),
             version => format!(" version {version}"),
         };
-        format!("owner {owner} bits {bits} label {label}{version}")
+        format!("owner {owner} group {group} bits {bits} label {label}{version}")
     }
 
     fn data(&self, slot: usize) -> String {

@@ -1,6 +1,6 @@
 //! "All fields in range."
 
-use crate::ranges::{label_pairs, ALL_RIGHTS, LAST_LABEL, LAST_USER};
+use crate::ranges::{label_pairs, ALL_RIGHTS, LAST_BITS, LAST_GROUP, LAST_LABEL, LAST_USER};
 use mritvelja::layout::*;
 use mritvelja::modes;
 use mritvelja::Tables;
@@ -32,7 +32,8 @@ fn file(tables: &Tables, slot: usize) -> Option<String> {
     let ranges = [
         (FILE_KIND, "kind", DIRECTORY),
         (FILE_OWNER, "owner", LAST_USER),
-        (FILE_BITS, "bits", ALL_RIGHTS),
+        (FILE_GROUP, "group", LAST_GROUP),
+        (FILE_BITS, "bits", LAST_BITS),
         (FILE_LABEL, "label", LAST_LABEL),
     ];
     ranges.into_iter().find_map(|(column, field, last)| {
@@ -66,6 +67,7 @@ fn in_process(tables: &Tables, process: usize) -> Option<String> {
     match record[PROCESS_USED] {
         0 => None,
         1 => outside(owner(), "user", record[PROCESS_USER], 0, LAST_USER)
+            .or_else(|| outside(owner(), "group", record[PROCESS_GROUP], 0, LAST_GROUP))
             .or_else(|| outside(owner(), "label", record[PROCESS_LABEL], 0, LAST_LABEL))
             .or_else(|| descriptors(tables, process)),
         mark => outside(owner(), "in-use mark", mark, 0, 1),

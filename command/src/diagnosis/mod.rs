@@ -63,6 +63,16 @@ pub struct Defect {
     pub place: String,
 }
 
+impl Defect {
+    /// A field that is out of range, in a store that is not yet in tables.
+    pub fn out_of_range(place: String) -> Defect {
+        Defect {
+            clause: CLAUSES[0].0,
+            place,
+        }
+    }
+}
+
 impl fmt::Display for Defect {
     fn fmt(&self, f: &mut fmt::Formatter<'_>) -> fmt::Result {
         let Defect { clause, place } = self;

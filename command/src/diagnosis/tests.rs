@@ -18,7 +18,7 @@ fn console_with_open_file() -> Tables {
 fn dig(tables: &mut Tables, depth: usize) {
     for level in 0..depth {
         let (slot, parent) = (10 + level, if level == 0 { ROOT } else { 9 + level });
-        *tables.file_mut(slot) = [DIRECTORY, 0, 5, 0, 0, 1, 0];
+        *tables.file_mut(slot) = [DIRECTORY, 0, 0, 0o755, 0, 0, 1, 0];
         let entry = if level == 0 { 2 } else { 0 };
         tables.set_dirent(parent, entry, b"d", slot);
         tables.file_mut(parent)[FILE_LENGTH] += 1;
@@ -57,7 +57,12 @@ fn fields_of_files_out_of_range() {
         (1, "slot 1: owner is 65536", |t| {
             t.file_mut(1)[FILE_OWNER] = 65_536
         }),
-        (1, "slot 2: bits is 8", |t| t.file_mut(2)[FILE_BITS] = 8),
+        (1, "slot 1: group is 65536, not 0 to 65535", |t| {
+            t.file_mut(1)[FILE_GROUP] = 65_536
+        }),
+        (1, "slot 2: bits is 512, not 0 to 511", |t| {
+            t.file_mut(2)[FILE_BITS] = 512
+        }),
         (1, "slot 3: label is 16", |t| t.file_mut(3)[FILE_LABEL] = 16),
         (1, "open file 0: slot is 128", |t| {
             t.open_file_mut(0)[OPEN_SLOT] = SLOTS as u32
@@ -80,11 +85,14 @@ fn fields_of_processes_and_policy_out_of_range() {
         (1, "process 1: user is 65536", |t| {
             t.process_mut(1)[PROCESS_USER] = 65_536
         }),
+        (1, "process 1: group is 65536, not 0 to 65535", |t| {
+            t.process_mut(1)[PROCESS_GROUP] = 65_536
+        }),
         (1, "process 1: label is 16", |t| {
             t.process_mut(1)[PROCESS_LABEL] = 16
         }),
         (1, "process 1, descriptor 7: its word is 33", |t| {
-            t.process_mut(1)[10] = 33
+            t.descriptors_mut(1)[7] = 33
         }),
         (
             1,
@@ -116,7 +124,7 @@ fn the_root_and_the_tree() {
         ),
         (3, "slot 18: a directory 9 names deep", |t| dig(t, 9)),
         (4, "slot 8: a directory from which no way", |t| {
-            *t.file_mut(8) = [DIRECTORY, 0, 5, 0, 1, 1, 0];
+            *t.file_mut(8) = [DIRECTORY, 0, 0, 0o755, 0, 1, 1, 0];
             t.set_dirent(8, 0, b"self", 8);
         }),
     ]);
@@ -191,7 +199,7 @@ fn files_and_open_files() {
         (
             11,
             "open file 4: references is 0, but the descriptors counted are 1",
-            |t| t.process_mut(0)[10] = 5,
+            |t| t.descriptors_mut(0)[7] = 5,
         ),
     ]);
 }
@@ -201,6 +209,9 @@ fn the_zero_bytes() {
     assert_defects(&[
         (12, "slot 4: a free record", |t| {
             t.file_mut(4)[FILE_LENGTH] = 1
+        }),
+        (12, "slot 4: a free record", |t| {
+            t.file_mut(4)[FILE_GROUP] = 1
         }),
         (12, "slot 4: a free slot whose byte 511", |t| {
             t.block_mut(4)[511] = 1
@@ -223,6 +234,9 @@ fn the_zero_bytes() {
         (12, "process 7: not in use, and not all 0", |t| {
             t.process_mut(7)[PROCESS_USER] = 1
         }),
+        (12, "process 3: not in use, and not all 0", |t| {
+            t.process_mut(3)[PROCESS_GROUP] = 1
+        }),
     ]);
 }
 
@@ -239,8 +253,9 @@ impl Chance {
 
     fn word(&mut self) -> u32 {
         [
-            0, 1, 2, 3, 4, 5, 7, 8, 15, 16, 31, 32, 33, 127, 128, 255, 512, 513, 65_535, 65_536,
-        ][self.below(20)]
+            0, 1, 2, 3, 4, 5, 7, 8, 15, 16, 31, 32, 33, 127, 128, 255, 511, 512, 513, 65_535,
+            65_536,
+        ][self.below(21)]
     }
 }
 

@@ -69,7 +69,7 @@ mod tests {
     #[test]
     fn what_is_open_and_what_has_no_name_is_shown() {
         let mut tables = test_console();
-        *tables.file_mut(4) = [PLAIN, 20, 7, 1, 2, 0, 9];
+        *tables.file_mut(4) = [PLAIN, 20, 30, 0o061, 1, 2, 0, 9];
         tables.block_mut(4)[..2].copy_from_slice(b"hi");
         *tables.open_file_mut(0) = [4, 3, 1, 2];
         *tables.open_file_mut(1) = [2, 4, 0, 1];
@@ -81,11 +81,11 @@ mod tests {
         assert!(mritvelja::sound(&tables));
         let lines = lines(&tables);
         for line in [
-            "/fares/a\\x5c \\x80: plain file, slot 2, owner 10, bits 4 (read), label 0, length 5, links 1, version 0",
-            "Slot 4: plain file, owner 20, bits 7 (read write execute), label 1, length 2, links 0, version 9",
+            "/fares/a\\x5c \\x80: plain file, slot 2, owner 10, group 1, bits 484 (owner read write execute, group read, others read), label 0, length 5, links 1, version 0",
+            "Slot 4: plain file, owner 20, group 30, bits 49 (owner none, group read write, others execute), label 1, length 2, links 0, version 9",
             "Open file 0: slot 4, which has no name; mode 3 (both), offset 1, references 2",
             "Open file 1: slot 2, /fares/a\\x5c \\x80; mode 4 (append), offset 0, references 1",
-            "Process 2: user 20, label 2; descriptor 0 holds open file 0; descriptor 7 holds open file 0",
+            "Process 2: user 20, group 1, label 2; descriptor 0 holds open file 0; descriptor 7 holds open file 0",
             "Process label 1 by program label 3: to label 4",
         ] {
             assert!(lines.iter().any(|shown| shown == line), "{line}\n{lines:#?}");

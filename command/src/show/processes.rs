@@ -26,8 +26,9 @@ pub fn lines(tables: &Tables) -> Vec<String> {
     let lines = tables.processes_in_use().map(|process| {
         let record = tables.process(process);
         format!(
-            "Process {process}: user {}, label {}; {}",
+            "Process {process}: user {}, group {}, label {}; {}",
             record[PROCESS_USER],
+            record[PROCESS_GROUP],
             record[PROCESS_LABEL],
             descriptors_line(tables, process)
         )

@@ -1,6 +1,7 @@
 //! The files: those in the tree by their full paths, and those without a name.
 
 use super::part;
+use crate::bits;
 use crate::text;
 use mritvelja::layout::*;
 use mritvelja::Tables;
@@ -57,10 +58,11 @@ pub fn kind(record: &[u32; FILE_WIDTH]) -> &'static str {
 
 pub fn fields(record: &[u32; FILE_WIDTH]) -> String {
     format!(
-        "owner {}, bits {} ({}), label {}, length {}, links {}, version {}",
+        "owner {}, group {}, bits {} ({}), label {}, length {}, links {}, version {}",
         record[FILE_OWNER],
+        record[FILE_GROUP],
         record[FILE_BITS],
-        text::rights(record[FILE_BITS], " "),
+        bits::words(record[FILE_BITS]),
         record[FILE_LABEL],
         record[FILE_LENGTH],
         record[FILE_LINKS],

@@ -26,6 +26,7 @@ pub fn freed_record(files: &[u32], s: Slot) -> Record
     Record {
         kind: FREE,
         owner: 0,
+        group: 0,
         bits: Bits(0),
         label: 0,
         length: 0,

@@ -15,7 +15,7 @@ use Rattle.rules.specs.Console.{console, consoleFixed}
 -- ---- a row: a call, the answer that it must be given, and all that the store after it has other than the store before it
 
 pub data Now : Type 0 where
-  file : (slot kind owner bits label length links version : ℕ) → Now
+  file : (slot kind owner group bits label length links version : ℕ) → Now
   bytes : (slot from : ℕ) → List ℕ → Now
   openFile : (ofd slot mode offset references : ℕ) → Now
   descriptor : (process fd word : ℕ) → Now  -- 0 for nothing, e + 1 for open file e
@@ -31,7 +31,7 @@ abbrev pub over : List ℕ → ℕ → List ℕ → List ℕ
 over xs at new = take at xs ++ new ++ drop (at + length new) xs
 
 abbrev pub with : Now → Store → Store
-with (file s k o b l n m v) t = store (over (t .files) (FILE-WIDTH * s) (k ∷ o ∷ b ∷ l ∷ n ∷ m ∷ v ∷ [])) (t .contents) (t .openFiles) (t .processes)
+with (file s k o g b l n m v) t = store (over (t .files) (FILE-WIDTH * s) (k ∷ o ∷ g ∷ b ∷ l ∷ n ∷ m ∷ v ∷ [])) (t .contents) (t .openFiles) (t .processes)
 with (bytes s at new) t = store (t .files) (over (t .contents) (BLOCK * s + at) new) (t .openFiles) (t .processes)
 with (openFile e s m n r) t = store (t .files) (t .contents) (over (t .openFiles) (OPEN-FILE-WIDTH * e) (s ∷ m ∷ n ∷ r ∷ [])) (t .processes)
 with (descriptor p i w) t = store (t .files) (t .contents) (t .openFiles) (over (t .processes) (PROCESS-WIDTH * p + PROCESS-DESCRIPTOR + i) (w ∷ []))

@@ -90,7 +90,7 @@ unfoldable pub line-4 : List Row
 line-4 =
     refuses (creates 2 FARES-X 7) 9 0
     ∷ grants (creates 1 FARES-X 7) 4
-    (file 4 PLAIN 10 7 0 0 1 0 ∷ file 1 DIRECTORY 10 5 0 2 1 1 ∷ bytes 1 16 (dirent X (slot 4)) ∷ [])
+    (file 4 PLAIN 10 1 7 0 0 1 0 ∷ file 1 DIRECTORY 10 1 493 0 2 1 1 ∷ bytes 1 16 (dirent X (slot 4)) ∷ [])
     ∷ []
 
 -- P: 2 opens /fares/now to read, 1 unlinks it: still 5 bytes. 1 creates /fares/now: slot 4. 2 closes: slot 2 free, stamp 1. 1 creates /fares/y: slot 2.
@@ -98,21 +98,21 @@ unfoldable pub line-5 : List Row
 line-5 =
     grants (opens 2 FARES-NOW 1) 0 (openFile 0 2 1 0 1 ∷ descriptor 2 0 1 ∷ [])
     ∷ grants (unlinks 1 FARES-NOW) 0
-    (file 1 DIRECTORY 10 5 0 0 1 1 ∷ bytes 1 0 (zeros 16) ∷ file 2 PLAIN 10 4 0 5 0 0 ∷ [])
+    (file 1 DIRECTORY 10 1 493 0 0 1 1 ∷ bytes 1 0 (zeros 16) ∷ file 2 PLAIN 10 1 484 0 5 0 0 ∷ [])
     ∷ grantsBytes (reads 2 0) 5 FARE (openFile 0 2 1 5 1 ∷ [])
     ∷ grants (creates 1 FARES-NOW 7) 4
-    (file 4 PLAIN 10 7 0 0 1 0 ∷ file 1 DIRECTORY 10 5 0 1 1 2 ∷ bytes 1 0 (dirent NOW (slot 4)) ∷ [])
+    (file 4 PLAIN 10 1 7 0 0 1 0 ∷ file 1 DIRECTORY 10 1 493 0 1 1 2 ∷ bytes 1 0 (dirent NOW (slot 4)) ∷ [])
     ∷ grants (closes 2 0) 0
-    (descriptor 2 0 0 ∷ openFile 0 0 0 0 0 ∷ file 2 FREE 0 0 0 0 0 1 ∷ bytes 2 0 (zeros 5) ∷ [])
+    (descriptor 2 0 0 ∷ openFile 0 0 0 0 0 ∷ file 2 FREE 0 0 0 0 0 0 1 ∷ bytes 2 0 (zeros 5) ∷ [])
     ∷ grants (creates 1 FARES-Y 7) 2
-    (file 2 PLAIN 10 7 0 0 1 1 ∷ file 1 DIRECTORY 10 5 0 2 1 3 ∷ bytes 1 16 (dirent Y (slot 2)) ∷ [])
+    (file 2 PLAIN 10 1 7 0 0 1 1 ∷ file 1 DIRECTORY 10 1 493 0 2 1 3 ∷ bytes 1 16 (dirent Y (slot 2)) ∷ [])
     ∷ []
 
 -- P: 2 changes bits of /fares/now: 9; 0 does: granted.
 unfoldable pub line-6 : List Row
 line-6 =
     refuses (changes-bits 2 FARES-NOW 6) 9 0
-    ∷ grants (changes-bits 0 FARES-NOW 6) 0 (file 2 PLAIN 10 6 0 5 1 0 ∷ [])
+    ∷ grants (changes-bits 0 FARES-NOW 6) 0 (file 2 PLAIN 10 1 6 0 5 1 0 ∷ [])
     ∷ []
 
 -- P: /fares/now/x: 7 at name 3; /fares/no: 6 at name 2. In an open and in a stat.
@@ -128,11 +128,11 @@ line-7 =
 unfoldable pub line-8 : List Row
 line-8 =
     grants (creates 0 FARES-X 7) 4
-    (file 4 PLAIN 0 7 0 0 1 0 ∷ file 1 DIRECTORY 10 5 0 2 1 1 ∷ bytes 1 16 (dirent X (slot 4)) ∷ [])
+    (file 4 PLAIN 0 1 7 0 0 1 0 ∷ file 1 DIRECTORY 10 1 493 0 2 1 1 ∷ bytes 1 16 (dirent X (slot 4)) ∷ [])
     ∷ grants (opens 0 FARES-X 2) 0 (openFile 0 4 2 0 1 ∷ descriptor 0 0 1 ∷ [])
     ∷ grants (seeks 0 0 3) 3 (openFile 0 4 2 3 1 ∷ [])
     ∷ grants (writes 0 0 A) 1
-    (file 4 PLAIN 0 7 0 4 1 1 ∷ bytes 4 0 (0 ∷ 0 ∷ 0 ∷ 65 ∷ []) ∷ openFile 0 4 2 4 1 ∷ [])
+    (file 4 PLAIN 0 1 7 0 4 1 1 ∷ bytes 4 0 (0 ∷ 0 ∷ 0 ∷ 65 ∷ []) ∷ openFile 0 4 2 4 1 ∷ [])
     ∷ []
 
 -- P: at 511 write 1: granted. At 512 write 1: 14; write none: granted.
@@ -140,7 +140,7 @@ unfoldable pub line-9 : List Row
 line-9 =
     grants (opens 0 FARES-NOW 2) 0 (openFile 0 2 2 0 1 ∷ descriptor 0 0 1 ∷ [])
     ∷ grants (seeks 0 0 511) 511 (openFile 0 2 2 511 1 ∷ [])
-    ∷ grants (writes 0 0 A) 1 (file 2 PLAIN 10 4 0 512 1 1 ∷ bytes 2 511 A ∷ openFile 0 2 2 512 1 ∷ [])
+    ∷ grants (writes 0 0 A) 1 (file 2 PLAIN 10 1 484 0 512 1 1 ∷ bytes 2 511 A ∷ openFile 0 2 2 512 1 ∷ [])
     ∷ refuses (writes 0 0 A) 14 0
     ∷ grants (writes 0 0 []) 0 []
     ∷ []

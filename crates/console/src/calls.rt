@@ -200,7 +200,7 @@ fn print_named(k: usize, value: u32) {
     io::write_all(
         1,
         word(
-            b"answer= stop= value= kind= owner= bits= label= length= names= stamp=",
+            b"answer= stop= value= kind= owner= group= bits= label= length= names= stamp=",
             k,
         ),
     );
@@ -209,7 +209,7 @@ fn print_named(k: usize, value: u32) {
 
 fn print_fields(f: [u32; 8]) {
     let mut k = 0;
-    while k < 7 {
+    while k < 8 {
         print_named(k + 3, f[k]);
         k += 1;
     }

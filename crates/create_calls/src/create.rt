@@ -36,6 +36,7 @@ fn new_record(files: &[u32], who: Subject, kind: u32, bits: Bits, d: Slot, s: Sl
     Record {
         kind: kind,
         owner: who.user,
+        group: who.group,
         bits: bits,
         label: tables::files::label(files, d),
         length: 0,

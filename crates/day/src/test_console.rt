@@ -18,6 +18,7 @@ use tables::layout::FILES_SIZE;
 use tables::layout::LABELS;
 use tables::layout::PLAIN;
 use tables::layout::POLICY_SIZE;
+use tables::layout::PROCESS_GROUP;
 use tables::layout::PROCESS_LABEL;
 use tables::layout::PROCESS_USED;
 use tables::layout::PROCESS_USER;
@@ -29,13 +30,14 @@ use tables::words::put;
 use tables::words::put_byte;
 use tables::words::zero_bytes;
 
-// A record with version 0.
+// A record of group 1 with version 0.
 fn file_record(kind: u32, owner: u32, bits: Bits, label: u32, length: u32, links: u32) -> Record
-    ensures { λ r. ⌜ r ≡ record { kind = kind; owner = owner; bits = bits; label = label; length = length; links = links; version = 0 } ⌝ }
+    ensures { λ r. ⌜ r ≡ record { kind = kind; owner = owner; group = 1; bits = bits; label = label; length = length; links = links; version = 0 } ⌝ }
 {
     Record {
         kind: kind,
         owner: owner,
+        group: 1,
         bits: bits,
         label: label,
         length: length,
@@ -52,22 +54,22 @@ pub(crate) fn files() -> [u32; FILES_SIZE]
     put_record(
         &mut files,
         Slot(0),
-        file_record(DIRECTORY, 0, Bits(5), 0, 2, 0),
+        file_record(DIRECTORY, 0, Bits(493), 0, 2, 0),
     );
     put_record(
         &mut files,
         Slot(1),
-        file_record(DIRECTORY, 10, Bits(5), 0, 1, 1),
+        file_record(DIRECTORY, 10, Bits(493), 0, 1, 1),
     );
     put_record(
         &mut files,
         Slot(2),
-        file_record(PLAIN, 10, Bits(4), 0, 5, 1),
+        file_record(PLAIN, 10, Bits(484), 0, 5, 1),
     );
     put_record(
         &mut files,
         Slot(3),
-        file_record(PLAIN, 10, Bits(0), 3, 4, 1),
+        file_record(PLAIN, 10, Bits(448), 3, 4, 1),
     );
     files
 }
@@ -84,13 +86,14 @@ pub(crate) fn contents() -> [u8; CONTENTS_SIZE]
     contents
 }
 
-// A process in use; it holds nothing where the table is 0.
+// A process in use, of group 1; it holds nothing where the table is 0.
 fn put_process(processes: &mut [u32], p: Pid, user: u32, label: u32)
-    ensures { λ _. ⌜ now (processes .exit) ≡ puts PROCESS-WIDTH (now (processes .entry)) (p .0) 0 (1 ∷ user ∷ label ∷ []) ⌝ }
+    ensures { λ _. ⌜ now (processes .exit) ≡ puts PROCESS-WIDTH (now (processes .entry)) (p .0) 0 (1 ∷ user ∷ 1 ∷ label ∷ []) ⌝ }
 {
     let at = PROCESS_WIDTH * (p.0 as usize);
     put(processes, at + PROCESS_USED, 1);
     put(processes, at + PROCESS_USER, user);
+    put(processes, at + PROCESS_GROUP, 1);
     put(processes, at + PROCESS_LABEL, label);
 }
 

@@ -7,6 +7,7 @@ ghost use Rattle.rules.specs.Store.{store, procWord, procZero, applyAll};
 ghost use Rattle.rules.specs.Effects.{forkChanges};
 use rules::ids::Pid;
 use rules::request::Subject;
+use tables::layout::PROCESS_GROUP;
 use tables::layout::PROCESS_LABEL;
 use tables::layout::PROCESS_USED;
 use tables::layout::PROCESS_USER;
@@ -20,6 +21,7 @@ pub fn make_process(processes: &mut [u32], child: Pid, who: Subject)
     let at = PROCESS_WIDTH * (child.0 as usize);
     put(processes, at + PROCESS_USED, 1);
     put(processes, at + PROCESS_USER, who.user);
+    put(processes, at + PROCESS_GROUP, who.group);
     put(processes, at + PROCESS_LABEL, who.label);
 }
 

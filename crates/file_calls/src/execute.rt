@@ -7,7 +7,7 @@ ghost use Rattle.rules.specs.Store.{tab, tree};
 ghost use Rattle.rules.specs.Rights.{moved};
 ghost use Rattle.rules.specs.DecidePaths.{executed, executeAt, decideExecute};
 use resolution::walk::walk_path;
-use rights::rights::bits_allow;
+use rights::rights::bits_allow_execute;
 use rights::rights::label_allows;
 use rules::decision::Decision;
 use rules::decision::Effect;
@@ -55,7 +55,7 @@ fn execute_at(files: &[u32], policy: &[u8], who: Subject, s: Slot) -> Decision
     if !is_plain(files, s) {
         return Decision::Refused(Refusal::WrongKind, 0);
     }
-    if !bits_allow(files, who, s, Rights::EXECUTE) {
+    if !bits_allow_execute(files, who, s) {
         return Decision::Refused(Refusal::BitsForbid, 0);
     }
     if !label_allows(files, policy, who, s, Rights::EXECUTE) {

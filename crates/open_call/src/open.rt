@@ -57,6 +57,7 @@ fn truncate(files: &[u32], s: Slot) -> Record
     Record {
         kind: PLAIN,
         owner: tables::files::owner(files, s),
+        group: tables::files::group(files, s),
         bits: tables::files::bits(files, s),
         label: tables::files::label(files, s),
         length: 0,

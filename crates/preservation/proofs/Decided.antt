@@ -6,7 +6,7 @@ use Prim.Native.Nat.{ℕ, _+_, _≤_, _<_}
 use native.Mathlib.Omega.{arith}
 use lib.ListN.{length}
 use borrow.Author.Tests.{eqb-true, eqb-false, ltb-true, leb-true}
-use Rattle.rules.specs.Layout.{SLOTS, BLOCK, DIRENTS, OPEN-FILES, PROCESSES, DESCRIPTORS, KIND-MAX, USER-MAX, BITS-MAX, LABEL-MAX}
+use Rattle.rules.specs.Layout.{SLOTS, BLOCK, DIRENTS, OPEN-FILES, PROCESSES, DESCRIPTORS, KIND-MAX, USER-MAX, BITS-MAX, LABEL-MAX, PROCESS-GROUP, GROUP-MAX}
 use Rattle.rules.specs.Layout.{FILE-KIND, FILE-LABEL, FILE-LENGTH, OPEN-SLOT, OPEN-OFFSET, PROCESS-USER, PROCESS-LABEL, PLAIN, DIRECTORY}
 use Rattle.rules.specs.Choice.{every}
 use Rattle.rules.specs.Store.{Store, view, isSlot}
@@ -127,7 +127,7 @@ module _ (Q : List ℕ) (s : Store) (h : SoundStore s) (c : Call) (u : Caller (t
     small = hy;
     free = slot-free s h t;
     new = unfold tablesOf in record {
-      file-row = file-used (λ z. omega (arith, k .some, z)) (k .known) user-most hb (h .tables .slots .files (at .dir .0) hd .label-most) (h .tables .slots .files (freeSlot (view s .tree .file) .0) hy .version-most);
+      file-row = file-used (λ z. omega (arith, k .some, z)) (k .known) user-most group-most hb (h .tables .slots .files (at .dir .0) hd .label-most) (h .tables .slots .files (freeSlot (view s .tree .file) .0) hy .version-most);
       used = λ z. omega (arith, k .some, z);
       no-length = refl;
       no-links = refl;
@@ -146,6 +146,9 @@ module _ (Q : List ℕ) (s : Store) (h : SoundStore s) (c : Call) (u : Caller (t
 
       user-most : tablesOf s .proc (c .process .0) PROCESS-USER ≤ USER-MAX
       user-most = h .tables .procs (c .process .0) (u .small) .user-most
+
+      group-most : tablesOf s .proc (c .process .0) PROCESS-GROUP ≤ GROUP-MAX
+      group-most = h .tables .procs (c .process .0) (u .small) .group-most
 
   -- ---- descriptors
 
@@ -199,7 +202,7 @@ module _ (Q : List ℕ) (s : Store) (h : SoundStore s) (c : Call) (u : Caller (t
       duplicates (c .fd) (freeFd (view s .desc) (c .process)) mine (holds s h (c .process) (c .fd) u t) (ltb-true (freeFd (view s .desc) (c .process) .0) DESCRIPTORS i) (fd-free s h (c .process) i)
   facts safe o n out e k f (passed.forks q) = forks (freePid (view s .proc)) u (ltb-true (freePid (view s .proc) .0) PROCESSES q) (pid-free s h q)
   facts safe o n out e k f passed.exits = exits u
-  facts safe o n out e k f (passed.executes at w p r) = executes _ u (relabelled safe at (found-small s h Q who (found f at w)))
+  facts safe o n out e k f (passed.executes at w p b l) = executes _ u (relabelled safe at (found-small s h Q who (found f at w)))
 
 pub grants : (Q : List ℕ) (s : Store) (h : SoundStore s) (c : Call) → policySound Q ≡ true → (n : ℕ) (o : Output) (e : Effect) → Permit Q (view s) c n o e → Granting Q s h c n o e
 grants Q s h c safe n o e p = facts Q s h c (in-use s h (c .process) (p .used)) safe (operation c) n o e (number-of (c .call)) (p .formed) (p .passed)

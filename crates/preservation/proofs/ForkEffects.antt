@@ -116,7 +116,7 @@ module _ (p q : Pid) (who : Subject) (hp : p .0 < PROCESSES) (hq : q .0 < PROCES
   unfolding forkChanges sharedAll applyAll
   fork-leaves s h f r = record {
     tables = spawned (tablesOf (repeat (effects.shared p q) 0 DESCRIPTORS s));
-    leaves = record { has = has-procTo (record { sized = c .sized; is = refl }) (q .0) (1 ∷ who .user ∷ who .label ∷ []) hq refl; sound = c .sound };
+    leaves = record { has = has-procTo (record { sized = c .sized; is = refl }) (q .0) (1 ∷ who .user ∷ who .group ∷ who .label ∷ []) hq refl; sound = c .sound };
     files-same = c .files-same;
     bytes-same = c .bytes-same;
   }

@@ -6,13 +6,13 @@ use Prim.Native.Nat.{ℕ, _-_, _*_, _≤_, _<_}
 use native.Mathlib.Omega.{arith}
 use native.Mathlib.Decide.{decLt, ℕ-discrete}
 use lib.ListN.{length, getD}
-use Rattle.rules.specs.Layout.{SLOTS, BLOCK, DIRENT-WIDTH, DIRENTS, NAME, OPEN-FILES, PROCESSES, DESCRIPTORS, FILE-WIDTH, OPEN-FILE-WIDTH, PROCESS-WIDTH}
+use Rattle.rules.specs.Layout.{SLOTS, BLOCK, DIRENT-WIDTH, DIRENTS, NAME, OPEN-FILES, PROCESSES, DESCRIPTORS, FILE-WIDTH, OPEN-FILE-WIDTH, PROCESS-WIDTH, FILE-GROUP, PROCESS-GROUP, GROUP-MAX}
 use Rattle.rules.specs.Layout.{FILE-KIND, FILE-OWNER, FILE-BITS, FILE-LABEL, FILE-LENGTH, FILE-LINKS, FILE-VERSION, OPEN-SLOT, OPEN-MODE, OPEN-OFFSET, OPEN-REFERENCES, PROCESS-USED, PROCESS-USER, PROCESS-LABEL, FREE, PLAIN}
 use Rattle.rules.specs.Layout.{KIND-MAX, USER-MAX, BITS-MAX, LABEL-MAX, MODE-MAX, WORD-MAX}
 use Rattle.rules.specs.Store.{Store, Table}
 use Rattle.rules.specs.Rights.{bitsKnown, modeOf, modeKept}
 use Rattle.rules.specs.Directories.{direntAt}
-use Rattle.rules.specs.Sound.{sizesSound, recordFree, recordSound, direntSound, differs, isNew, direntsSound, accessFree, accessSound, fieldsSound, subjectFree, subjectSound}
+use Rattle.rules.specs.Sound.{sizesSound, recordFree, recordSound, direntSound, differs, isNew, direntsSound, ownersFree, ownersSound, accessFree, accessSound, fieldsSound, subjectFree, subjectSound}
 use Rattle.rules.specs.Sound.{openFree, openUsed, openSound, descSound, descFree, procFree, procUsed, procSound}
 use Rattle.rules.proofs.Ranges.{bits-known, mode-kept}
 use Rattle.preservation.proofs.Tests.{Means, means-every, means-and, means-last, means-imp, means-cond, means-or3, means-eq, means-lt, means-le, means-not, means-test, means-all, means-same}
@@ -43,13 +43,21 @@ means-mode n = rw mode-kept (means-every (means-and (means-le 1 n) (means-last (
 
 -- ---- a file's record
 
-means-access-free : (file : Table) (s : ℕ) → Means (accessFree file s) ((file s FILE-OWNER ≡ 0) × ((file s FILE-BITS ≡ 0) × (file s FILE-LABEL ≡ 0)))
-unfolding accessFree
-means-access-free file s = means-every (means-and (means-eq (file s FILE-OWNER) 0) (means-and (means-eq (file s FILE-BITS) 0) (means-last (means-eq (file s FILE-LABEL) 0))))
+means-owners-free : (file : Table) (s : ℕ) → Means (ownersFree file s) ((file s FILE-OWNER ≡ 0) × (file s FILE-GROUP ≡ 0))
+unfolding ownersFree
+means-owners-free file s = means-every (means-and (means-eq (file s FILE-OWNER) 0) (means-last (means-eq (file s FILE-GROUP) 0)))
 
-means-access : (file : Table) (s : ℕ) → Means (accessSound file s) ((file s FILE-OWNER ≤ USER-MAX) × ((file s FILE-BITS ≤ BITS-MAX) × (file s FILE-LABEL ≤ LABEL-MAX)))
+means-access-free : (file : Table) (s : ℕ) → Means (accessFree file s) (((file s FILE-OWNER ≡ 0) × (file s FILE-GROUP ≡ 0)) × ((file s FILE-BITS ≡ 0) × (file s FILE-LABEL ≡ 0)))
+unfolding accessFree
+means-access-free file s = means-every (means-and (means-owners-free file s) (means-and (means-eq (file s FILE-BITS) 0) (means-last (means-eq (file s FILE-LABEL) 0))))
+
+means-owners : (file : Table) (s : ℕ) → Means (ownersSound file s) ((file s FILE-OWNER ≤ USER-MAX) × (file s FILE-GROUP ≤ GROUP-MAX))
+unfolding ownersSound
+means-owners file s = means-every (means-and (means-le (file s FILE-OWNER) USER-MAX) (means-last (means-le (file s FILE-GROUP) GROUP-MAX)))
+
+means-access : (file : Table) (s : ℕ) → Means (accessSound file s) (((file s FILE-OWNER ≤ USER-MAX) × (file s FILE-GROUP ≤ GROUP-MAX)) × ((file s FILE-BITS ≤ BITS-MAX) × (file s FILE-LABEL ≤ LABEL-MAX)))
 unfolding accessSound
-means-access file s = means-every (means-and (means-le (file s FILE-OWNER) USER-MAX) (means-and (means-bits (file s FILE-BITS)) (means-last (means-le (file s FILE-LABEL) LABEL-MAX))))
+means-access file s = means-every (means-and (means-owners file s) (means-and (means-bits (file s FILE-BITS)) (means-last (means-le (file s FILE-LABEL) LABEL-MAX))))
 
 pub means-record : (file : Table) (s : ℕ) → Means (recordSound file s) (File (file s))
 unfolding recordSound fieldsSound recordFree
@@ -59,17 +67,19 @@ means-record file s = means-same
     (means-every (means-and (means-access-free file s) (means-and (means-eq (file s FILE-LENGTH) 0) (means-last (means-eq (file s FILE-LINKS) 0)))))))))
     (λ w. let access = w .0 .1 .0 in record {
       kind-most = w .0 .0;
-      owner-most = access .0;
+      owner-most = access .0 .0;
+      group-most = access .0 .1;
       bits-most = access .1 .0;
       label-most = access .1 .1;
       version-most = w .0 .1 .1;
-      owner-zero = λ z. w .1 z .0 .0;
+      owner-zero = λ z. w .1 z .0 .0 .0;
+      group-zero = λ z. w .1 z .0 .0 .1;
       bits-zero = λ z. w .1 z .0 .1 .0;
       label-zero = λ z. w .1 z .0 .1 .1;
       length-zero = λ z. w .1 z .1 .0;
       links-zero = λ z. w .1 z .1 .1;
     })
-    (λ w. ((w .kind-most, ((w .owner-most, (w .bits-most, w .label-most)), w .version-most)), λ z. ((w .owner-zero z, (w .bits-zero z, w .label-zero z)), (w .length-zero z, w .links-zero z))))
+    (λ w. ((w .kind-most, (((w .owner-most, w .group-most), (w .bits-most, w .label-most)), w .version-most)), λ z. (((w .owner-zero z, w .group-zero z), (w .bits-zero z, w .label-zero z)), (w .length-zero z, w .links-zero z))))
 
 -- ---- a directory's entries: D its bytes, rows its entries
 
@@ -131,35 +141,39 @@ means-open-file file openFiles desc e = means-same w
 pub means-process : (proc desc : Table) (p : ℕ) → Means (procSound proc desc p) (Process (proc p) (desc p))
 unfolding procSound procFree subjectFree procUsed subjectSound descFree descSound
 means-process proc desc p = means-same w (λ u. from u (ℕ-discrete (proc p PROCESS-USED) 0))
-    (λ u. ((λ z. ((u .user-zero z, u .label-zero z), u .desc-zero z)), λ n. ((omega (arith, u .active-most, n)), ((u .user-most, u .label-most), u .desc-most))))
+    (λ u. ((λ z. ((u .user-zero z, (u .group-zero z, u .label-zero z)), u .desc-zero z)), λ n. ((omega (arith, u .active-most, n)), ((u .user-most, (u .group-most, u .label-most)), u .desc-most))))
   where
     Parts : Type 0
-    Parts = (proc p PROCESS-USED ≡ 0 → ((proc p PROCESS-USER ≡ 0) × (proc p PROCESS-LABEL ≡ 0)) × All DESCRIPTORS (λ k. desc p k ≡ 0))
-        × ((proc p PROCESS-USED ≡ 0 → ⊥) → (proc p PROCESS-USED ≡ 1) × (((proc p PROCESS-USER ≤ USER-MAX) × (proc p PROCESS-LABEL ≤ LABEL-MAX)) × All DESCRIPTORS (λ k. desc p k ≤ OPEN-FILES)))
+    Parts = (proc p PROCESS-USED ≡ 0 → ((proc p PROCESS-USER ≡ 0) × ((proc p PROCESS-GROUP ≡ 0) × (proc p PROCESS-LABEL ≡ 0))) × All DESCRIPTORS (λ k. desc p k ≡ 0))
+        × ((proc p PROCESS-USED ≡ 0 → ⊥) → (proc p PROCESS-USED ≡ 1) × (((proc p PROCESS-USER ≤ USER-MAX) × ((proc p PROCESS-GROUP ≤ GROUP-MAX) × (proc p PROCESS-LABEL ≤ LABEL-MAX))) × All DESCRIPTORS (λ k. desc p k ≤ OPEN-FILES)))
 
     w : Means (procSound proc desc p) Parts
     w = means-cond (means-eq (proc p PROCESS-USED) 0)
-        (means-every (means-and (means-every (means-and (means-eq (proc p PROCESS-USER) 0) (means-last (means-eq (proc p PROCESS-LABEL) 0))))
+        (means-every (means-and (means-every (means-and (means-eq (proc p PROCESS-USER) 0) (means-and (means-eq (proc p PROCESS-GROUP) 0) (means-last (means-eq (proc p PROCESS-LABEL) 0)))))
         (means-last (means-all DESCRIPTORS (descFree desc p) (λ k. desc p k ≡ 0) (λ k. means-eq (desc p k) 0)))))
-        (means-every (means-and (means-eq (proc p PROCESS-USED) 1) (means-and (means-every (means-and (means-le (proc p PROCESS-USER) USER-MAX) (means-last (means-le (proc p PROCESS-LABEL) LABEL-MAX))))
+        (means-every (means-and (means-eq (proc p PROCESS-USED) 1) (means-and (means-every (means-and (means-le (proc p PROCESS-USER) USER-MAX) (means-and (means-le (proc p PROCESS-GROUP) GROUP-MAX) (means-last (means-le (proc p PROCESS-LABEL) LABEL-MAX)))))
         (means-last (means-all DESCRIPTORS (descSound desc p) (λ k. desc p k ≤ OPEN-FILES) (λ k. means-le (desc p k) OPEN-FILES))))))
 
     from : Parts → Dec (proc p PROCESS-USED ≡ 0) → Process (proc p) (desc p)
     from u (yes z) = let a = u .0 z in record {
       active-most = omega arith;
       user-most = omega (arith, a .0 .0);
-      label-most = omega (arith, a .0 .1);
+      group-most = omega (arith, a .0 .1 .0);
+      label-most = omega (arith, a .0 .1 .1);
       desc-most = λ k hk. omega (arith, a .1 k hk);
       user-zero = λ _. a .0 .0;
-      label-zero = λ _. a .0 .1;
+      group-zero = λ _. a .0 .1 .0;
+      label-zero = λ _. a .0 .1 .1;
       desc-zero = λ _. a .1;
     }
     from u (no n) = let a = u .1 n in record {
       active-most = omega (arith, a .0);
       user-most = a .1 .0 .0;
-      label-most = a .1 .0 .1;
+      group-most = a .1 .0 .1 .0;
+      label-most = a .1 .0 .1 .1;
       desc-most = a .1 .1;
       user-zero = λ z. absurd (n z);
+      group-zero = λ z. absurd (n z);
       label-zero = λ z. absurd (n z);
       desc-zero = λ z. absurd (n z);
     }

@@ -52,7 +52,7 @@ module _ (s : Store) (h : SoundStore s) (c : Call) where
 
   pub caller-ranged : Caller (tablesOf s) (c .process) → Ranged (subjectOf (view s .proc) (c .process))
   unfolding tablesOf
-  caller-ranged u = let w = h .tables .procs (c .process .0) (u .small) in record { user-most = w .user-most; label-most = w .label-most }
+  caller-ranged u = let w = h .tables .procs (c .process .0) (u .small) in record { user-most = w .user-most; group-most = w .group-most; label-most = w .label-most }
 
   pub read-fits : (e n : ℕ) → tablesOf s .openFiles e OPEN-OFFSET + n ≤ BLOCK → plus (view s .openFiles e OPEN-OFFSET) n ≤ BLOCK
   unfolding tablesOf

@@ -14,18 +14,19 @@ use Rattle.preservation.proofs.Rows.{references-to, process-used, proce
 use Rattle.preservation.proofs.Counts.{ind-eq, ind-ne}
 use Rattle.preservation.proofs.OneWord.{Held, held}
 use Rattle.preservation.proofs.Open.{handed, handed-sound, openCount-row}
-use Rattle.rules.specs.Layout.{PROCESSES, DESCRIPTORS, FILE-KIND, OPEN-REFERENCES, PROCESS-USED, PROCESS-LABEL, USER-MAX, LABEL-MAX}
+use Rattle.rules.specs.Layout.{PROCESSES, DESCRIPTORS, FILE-KIND, OPEN-REFERENCES, PROCESS-USED, PROCESS-LABEL, USER-MAX, LABEL-MAX, GROUP-MAX}
 use Rattle.rules.specs.declared.request.Subject.{Subject}
 
 -- ---- the words of process p
 
 -- a process by its words
 abbrev pub procRow : Subject → ℕ → ℕ
-procRow who c = getD (1 ∷ who .user ∷ who .label ∷ []) c 0
+procRow who c = getD (1 ∷ who .user ∷ who .group ∷ who .label ∷ []) c 0
 
 -- its words are in range
 pub record Ranged (who : Subject) : Type 0 where
   pub user-most : who .user ≤ USER-MAX
+  pub group-most : who .group ≤ GROUP-MAX
   pub label-most : who .label ≤ LABEL-MAX
 
 pub process-sound : (x : ℕ) (m : Tables) → SoundBut x m → (p : ℕ) (row : ℕ → ℕ) → Process row (m .desc p) → SoundBut x (procRowTo p row m)
@@ -39,11 +40,11 @@ process-sound x m h p row w = record {
 
 -- execute: the label moves to l
 pub execute-sound : (x : ℕ) (m : Tables) → SoundBut x m → (p l : ℕ) → p < PROCESSES → m .proc p PROCESS-USED ≡ 1 → l ≤ LABEL-MAX → SoundBut x (procTo p PROCESS-LABEL l m)
-execute-sound x m h p l hp a hl = let w = h .procs p hp in process-sound x m h p (upd (m .proc p) PROCESS-LABEL l) (process-used a (w .user-most) hl (w .desc-most))
+execute-sound x m h p l hp a hl = let w = h .procs p hp in process-sound x m h p (upd (m .proc p) PROCESS-LABEL l) (process-used a (w .user-most) (w .group-most) hl (w .desc-most))
 
 -- fork: process q, which is free, is in use
 pub spawn-sound : (x : ℕ) (m : Tables) → SoundBut x m → (q : ℕ) (who : Subject) → q < PROCESSES → Ranged who → SoundBut x (procRowTo q (procRow who) m)
-spawn-sound x m h q who hq r = process-sound x m h q (procRow who) (process-used refl (r .user-most) (r .label-most) (h .procs q hq .desc-most))
+spawn-sound x m h q who hq r = process-sound x m h q (procRow who) (process-used refl (r .user-most) (r .group-most) (r .label-most) (h .procs q hq .desc-most))
 
 -- exit: process q, which holds nothing, is free
 pub retire-sound : (x : ℕ) (m : Tables) → SoundBut x m → (q : ℕ) → All DESCRIPTORS (λ k. m .desc q k ≡ 0) → SoundBut x (procRowTo q (λ _. 0) m)

@@ -7,19 +7,21 @@ use lib.ListN.{getD}
 use Rattle.preservation.proofs.Tests.{upd, upd2, upd2-elim}
 use Rattle.preservation.proofs.Tables.{fileWords, fileRow}
 use Rattle.preservation.proofs.Sound.{All, File, OpenFile, Process}
-use Rattle.rules.specs.Layout.{SLOTS, BLOCK, OPEN-FILES, DESCRIPTORS, FILE-KIND, FILE-OWNER, FILE-BITS, FILE-LABEL, FILE-LENGTH, FILE-LINKS, FILE-VERSION, OPEN-SLOT, OPEN-MODE, OPEN-OFFSET, OPEN-REFERENCES, PROCESS-USED, PROCESS-USER, PROCESS-LABEL, FREE, PLAIN}
+use Rattle.rules.specs.Layout.{SLOTS, BLOCK, OPEN-FILES, DESCRIPTORS, FILE-KIND, FILE-OWNER, FILE-BITS, FILE-LABEL, FILE-LENGTH, FILE-LINKS, FILE-VERSION, OPEN-SLOT, OPEN-MODE, OPEN-OFFSET, OPEN-REFERENCES, PROCESS-USED, PROCESS-USER, PROCESS-LABEL, FREE, PLAIN, FILE-GROUP, PROCESS-GROUP, GROUP-MAX}
 use Rattle.rules.specs.Layout.{KIND-MAX, USER-MAX, BITS-MAX, LABEL-MAX, MODE-MAX, WORD-MAX}
 
 -- ---- files
 
-pub file-used : {row : ℕ → ℕ} → (row FILE-KIND ≡ FREE → ⊥) → row FILE-KIND ≤ KIND-MAX → row FILE-OWNER ≤ USER-MAX → row FILE-BITS ≤ BITS-MAX → row FILE-LABEL ≤ LABEL-MAX → row FILE-VERSION ≤ WORD-MAX → File row
-file-used u k o b l t = record {
+pub file-used : {row : ℕ → ℕ} → (row FILE-KIND ≡ FREE → ⊥) → row FILE-KIND ≤ KIND-MAX → row FILE-OWNER ≤ USER-MAX → row FILE-GROUP ≤ GROUP-MAX → row FILE-BITS ≤ BITS-MAX → row FILE-LABEL ≤ LABEL-MAX → row FILE-VERSION ≤ WORD-MAX → File row
+file-used u k o g b l t = record {
   kind-most = k;
   owner-most = o;
+  group-most = g;
   bits-most = b;
   label-most = l;
   version-most = t;
   owner-zero = λ z. absurd (u z);
+  group-zero = λ z. absurd (u z);
   bits-zero = λ z. absurd (u z);
   label-zero = λ z. absurd (u z);
   length-zero = λ z. absurd (u z);
@@ -34,10 +36,12 @@ pub file-free : (v : ℕ) → v ≤ WORD-MAX → File (freeRow v)
 file-free v l = record {
   kind-most = omega arith;
   owner-most = omega arith;
+  group-most = omega arith;
   bits-most = omega arith;
   label-most = omega arith;
   version-most = l;
   owner-zero = λ _. refl;
+  group-zero = λ _. refl;
   bits-zero = λ _. refl;
   label-zero = λ _. refl;
   length-zero = λ _. refl;
@@ -49,10 +53,12 @@ pub file-same : (r t : ℕ → ℕ) → fileWords r ≡ fileWords t → File r �
 file-same r t e w = record {
   kind-most = rw (at FILE-KIND) at (w .kind-most);
   owner-most = rw (at FILE-OWNER) at (w .owner-most);
+  group-most = rw (at FILE-GROUP) at (w .group-most);
   bits-most = rw (at FILE-BITS) at (w .bits-most);
   label-most = rw (at FILE-LABEL) at (w .label-most);
   version-most = rw (at FILE-VERSION) at (w .version-most);
   owner-zero = rw (at FILE-KIND, at FILE-OWNER) at (w .owner-zero);
+  group-zero = rw (at FILE-KIND, at FILE-GROUP) at (w .group-zero);
   bits-zero = rw (at FILE-KIND, at FILE-BITS) at (w .bits-zero);
   label-zero = rw (at FILE-KIND, at FILE-LABEL) at (w .label-zero);
   length-zero = rw (at FILE-KIND, at FILE-LENGTH) at (w .length-zero);
@@ -68,16 +74,16 @@ module _ (f : ℕ → ℕ → ℕ) (h : All SLOTS (λ i. File (f i))) (s v : ℕ
   word-to c to i hi = upd2-elim (λ row. File row) f s c v i (λ q. to i (rw q u) (h i hi)) (λ _. h i hi)
 
   pub bits-to : v ≤ BITS-MAX → All SLOTS (λ i. File (upd2 f s FILE-BITS v i))
-  bits-to l = word-to FILE-BITS (λ i n w. file-used n (w .kind-most) (w .owner-most) l (w .label-most) (w .version-most))
+  bits-to l = word-to FILE-BITS (λ i n w. file-used n (w .kind-most) (w .owner-most) (w .group-most) l (w .label-most) (w .version-most))
 
   pub length-to : All SLOTS (λ i. File (upd2 f s FILE-LENGTH v i))
-  length-to = word-to FILE-LENGTH (λ i n w. file-used n (w .kind-most) (w .owner-most) (w .bits-most) (w .label-most) (w .version-most))
+  length-to = word-to FILE-LENGTH (λ i n w. file-used n (w .kind-most) (w .owner-most) (w .group-most) (w .bits-most) (w .label-most) (w .version-most))
 
   pub links-to : All SLOTS (λ i. File (upd2 f s FILE-LINKS v i))
-  links-to = word-to FILE-LINKS (λ i n w. file-used n (w .kind-most) (w .owner-most) (w .bits-most) (w .label-most) (w .version-most))
+  links-to = word-to FILE-LINKS (λ i n w. file-used n (w .kind-most) (w .owner-most) (w .group-most) (w .bits-most) (w .label-most) (w .version-most))
 
   pub version-to : v ≤ WORD-MAX → All SLOTS (λ i. File (upd2 f s FILE-VERSION v i))
-  version-to l = word-to FILE-VERSION (λ i n w. file-used n (w .kind-most) (w .owner-most) (w .bits-most) (w .label-most) l)
+  version-to l = word-to FILE-VERSION (λ i n w. file-used n (w .kind-most) (w .owner-most) (w .group-most) (w .bits-most) (w .label-most) l)
 
 -- ---- open files
 
@@ -115,13 +121,15 @@ module _ (kind row : ℕ → ℕ) (w : OpenFile kind row) (v : ℕ) (u : row OPE
 
 -- ---- processes
 
-pub process-used : {row desc : ℕ → ℕ} → row PROCESS-USED ≡ 1 → row PROCESS-USER ≤ USER-MAX → row PROCESS-LABEL ≤ LABEL-MAX → All DESCRIPTORS (λ k. desc k ≤ OPEN-FILES) → Process row desc
-process-used a u l d = record {
+pub process-used : {row desc : ℕ → ℕ} → row PROCESS-USED ≡ 1 → row PROCESS-USER ≤ USER-MAX → row PROCESS-GROUP ≤ GROUP-MAX → row PROCESS-LABEL ≤ LABEL-MAX → All DESCRIPTORS (λ k. desc k ≤ OPEN-FILES) → Process row desc
+process-used a u g l d = record {
   active-most = omega arith;
   user-most = u;
+  group-most = g;
   label-most = l;
   desc-most = d;
   user-zero = λ z. absurd (omega arith);
+  group-zero = λ z. absurd (omega arith);
   label-zero = λ z. absurd (omega arith);
   desc-zero = λ z. absurd (omega arith);
 }
@@ -130,9 +138,11 @@ pub process-free : {desc : ℕ → ℕ} → All DESCRIPTORS (λ k. desc k ≡ 0)
 process-free z = record {
   active-most = omega arith;
   user-most = omega arith;
+  group-most = omega arith;
   label-most = omega arith;
   desc-most = λ k hk. omega (arith, z k hk);
   user-zero = λ _. refl;
+  group-zero = λ _. refl;
   label-zero = λ _. refl;
   desc-zero = λ _. z;
 }
@@ -142,9 +152,11 @@ pub process-desc : {row desc desc′ : ℕ → ℕ} → Process row desc → (ro
 process-desc w u d = record {
   active-most = w .active-most;
   user-most = w .user-most;
+  group-most = w .group-most;
   label-most = w .label-most;
   desc-most = d;
   user-zero = w .user-zero;
+  group-zero = w .group-zero;
   label-zero = w .label-zero;
   desc-zero = λ z. absurd (u z);
 }

@@ -8,7 +8,7 @@ use lib.ListN.{getD}
 use lib.Dec.{eqb, ltb}
 use Rattle.rules.specs.Choice.{every, some, implies}
 use Rattle.rules.specs.Scan.{all, first}
-use Rattle.rules.specs.Layout.{SLOTS, BLOCK, DIRENT-WIDTH, DIRENTS, OPEN-FILES, PROCESSES, DESCRIPTORS, NAME, NAMES, SLASH, POINT}
+use Rattle.rules.specs.Layout.{SLOTS, BLOCK, DIRENT-WIDTH, DIRENTS, OPEN-FILES, PROCESSES, DESCRIPTORS, NAME, NAMES, SLASH, POINT, FILE-GROUP, PROCESS-GROUP, GROUP-MAX}
 use Rattle.rules.specs.Layout.{FILE-KIND, FILE-OWNER, FILE-BITS, FILE-LABEL, FILE-LENGTH, FILE-LINKS, FILE-VERSION, OPEN-SLOT, OPEN-MODE, OPEN-OFFSET, OPEN-REFERENCES, PROCESS-USED, PROCESS-USER, PROCESS-LABEL, FREE, PLAIN, DIRECTORY}
 use Rattle.rules.specs.Layout.{KIND-MAX, USER-MAX, BITS-MAX, LABEL-MAX, MODE-MAX, WORD-MAX}
 use Rattle.preservation.proofs.Sums.{count, count2}
@@ -22,10 +22,12 @@ All n P = (i : ℕ) → i < n → P i
 pub record File (row : ℕ → ℕ) : Type 0 where
   pub kind-most : row FILE-KIND ≤ KIND-MAX
   pub owner-most : row FILE-OWNER ≤ USER-MAX
+  pub group-most : row FILE-GROUP ≤ GROUP-MAX
   pub bits-most : row FILE-BITS ≤ BITS-MAX
   pub label-most : row FILE-LABEL ≤ LABEL-MAX
   pub version-most : row FILE-VERSION ≤ WORD-MAX
   pub owner-zero : row FILE-KIND ≡ FREE → row FILE-OWNER ≡ 0
+  pub group-zero : row FILE-KIND ≡ FREE → row FILE-GROUP ≡ 0
   pub bits-zero : row FILE-KIND ≡ FREE → row FILE-BITS ≡ 0
   pub label-zero : row FILE-KIND ≡ FREE → row FILE-LABEL ≡ 0
   pub length-zero : row FILE-KIND ≡ FREE → row FILE-LENGTH ≡ 0
@@ -120,9 +122,11 @@ holderCount desc e = count2 PROCESSES DESCRIPTORS (λ p k. eqb (desc p k) (e + 1
 pub record Process (row desc : ℕ → ℕ) : Type 0 where
   pub active-most : row PROCESS-USED ≤ 1
   pub user-most : row PROCESS-USER ≤ USER-MAX
+  pub group-most : row PROCESS-GROUP ≤ GROUP-MAX
   pub label-most : row PROCESS-LABEL ≤ LABEL-MAX
   pub desc-most : All DESCRIPTORS (λ k. desc k ≤ OPEN-FILES)
   pub user-zero : row PROCESS-USED ≡ 0 → row PROCESS-USER ≡ 0
+  pub group-zero : row PROCESS-USED ≡ 0 → row PROCESS-GROUP ≡ 0
   pub label-zero : row PROCESS-USED ≡ 0 → row PROCESS-LABEL ≡ 0
   pub desc-zero : row PROCESS-USED ≡ 0 → All DESCRIPTORS (λ k. desc k ≡ 0)
 

@@ -4,7 +4,7 @@ use mathlib.Core.List.{List, [], _∷_}
 use Prim.Native.Nat.{ℕ, _+_, _*_, _/_, _%_}
 use lib.Dec.{eqb, ltb}
 use lib.ListN.{getD}
-use Rattle.rules.specs.Layout.{DIRENT-WIDTH, FILE-KIND, FILE-OWNER, FILE-BITS, FILE-LABEL, FILE-LENGTH, FILE-LINKS, FILE-VERSION}
+use Rattle.rules.specs.Layout.{DIRENT-WIDTH, FILE-KIND, FILE-OWNER, FILE-BITS, FILE-LABEL, FILE-LENGTH, FILE-LINKS, FILE-VERSION, FILE-GROUP}
 use Rattle.preservation.proofs.Tests.{upd, upd2, updRow}
 
 -- As in the view: the files' records, the open files, the processes' own words and their descriptors, each by row and named column. `byte` is
@@ -22,7 +22,7 @@ col f c i = f i c
 
 -- the columns of a file's record, and the row that has these and no other
 abbrev pub fileWords : (ℕ → ℕ) → List ℕ
-fileWords row = row FILE-KIND ∷ row FILE-OWNER ∷ row FILE-BITS ∷ row FILE-LABEL ∷ row FILE-LENGTH ∷ row FILE-LINKS ∷ row FILE-VERSION ∷ []
+fileWords row = row FILE-KIND ∷ row FILE-OWNER ∷ row FILE-GROUP ∷ row FILE-BITS ∷ row FILE-LABEL ∷ row FILE-LENGTH ∷ row FILE-LINKS ∷ row FILE-VERSION ∷ []
 
 abbrev pub fileRow : (ℕ → ℕ) → ℕ → ℕ
 fileRow row c = getD (fileWords row) c 0

@@ -6,7 +6,7 @@ use mathlib.Core.List.{List, [], _∷_}
 use Prim.Native.Nat.{ℕ}
 use native.Mathlib.Omega.{arith}
 use lib.ListN.{length}
-use Rattle.rules.specs.Layout.{OPEN-FILE-WIDTH, FILE-KIND, FILE-OWNER, FILE-BITS, FILE-LABEL, FILE-LENGTH, FILE-LINKS, FILE-VERSION, OPEN-SLOT, OPEN-OFFSET, FREE, PLAIN, DIRECTORY}
+use Rattle.rules.specs.Layout.{OPEN-FILE-WIDTH, FILE-KIND, FILE-OWNER, FILE-BITS, FILE-LABEL, FILE-LENGTH, FILE-LINKS, FILE-VERSION, OPEN-SLOT, OPEN-OFFSET, FREE, PLAIN, DIRECTORY, FILE-GROUP}
 use Rattle.rules.specs.Store.{Store, Fixed, view, slot, ofdOf, subjectOf, tab, applyAll, isOpen}
 use Rattle.rules.specs.Refusals.{GRANTED}
 use Rattle.rules.specs.Paths.{Name}
@@ -146,6 +146,7 @@ module _ (Q : List ℕ) (s : Store) (h : SoundStore s) (c : Call) (f : ℕ) wher
     bytes = kept-block s t f (h .sized) (k .sized) (used-small t k f (y .used)) (unfold tablesOf in l .bytes);
     kind = l .words FILE-KIND ((λ e. omega arith), (λ e. omega arith));
     owner = l .words FILE-OWNER ((λ e. omega arith), (λ e. omega arith));
+    group = l .words FILE-GROUP ((λ e. omega arith), (λ e. omega arith));
     label = l .words FILE-LABEL ((λ e. omega arith), (λ e. omega arith));
     length = l .words FILE-LENGTH ((λ e. omega arith), (λ e. omega arith));
     version = l .words FILE-VERSION ((λ e. omega arith), (λ e. omega arith));
@@ -158,7 +159,7 @@ abbrev Changed : List ℕ → Store → Call → ℕ → Outcome → Type 0
 Changed Q s c f x = SameFile s (x .store) f ⊎ (((x .reply .refusal ≡ GRANTED) × AsksWrite s c f) ⊎ ((x .reply .refusal ≡ GRANTED) × AsksTruncation Q s c f))
 
 unchanged : (s : Store) (f : ℕ) → SameFile s s f
-unchanged s f = record { bytes = refl; kind = refl; owner = refl; label = refl; length = refl; version = refl }
+unchanged s f = record { bytes = refl; kind = refl; owner = refl; group = refl; label = refl; length = refl; version = refl }
 
 module _ (Q : List ℕ) (s : Store) (h : SoundStore s) (c : Call) (f : ℕ) where
   decided : {d : Decision} → Fit (Granting Q s h c) d → Stays Q s h c f (storeAfter s c d) → Changed Q s c f (outcomeOf s c d)
@@ -194,7 +195,7 @@ module _ (K : Fixed) (s : Store) (c : Call) (f : ℕ) where
 -- ---- a list of calls
 
 same-both : {s t u : Store} {f : ℕ} → SameFile s t f → SameFile t u f → SameFile s u f
-same-both a b = record { bytes = b .bytes ∙ a .bytes; kind = b .kind ∙ a .kind; owner = b .owner ∙ a .owner; label = b .label ∙ a .label; length = b .length ∙ a .length; version = b .version ∙ a .version }
+same-both a b = record { bytes = b .bytes ∙ a .bytes; kind = b .kind ∙ a .kind; owner = b .owner ∙ a .owner; group = b .group ∙ a .group; label = b .label ∙ a .label; length = b .length ∙ a .length; version = b .version ∙ a .version }
 
 pub open-unwritten : (K : Fixed) (s : Store) (f : ℕ) (cs : List Call) → OpenAfterEach K s f cs → Unwritten K s f cs → SameFile s (final K s cs) f
 unfolding OpenAfterEach Unwritten final

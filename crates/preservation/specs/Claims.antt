@@ -7,7 +7,7 @@ use mathlib.Core.Bool.{true}
 use mathlib.Core.Logic.{_⊎_}
 use mathlib.Core.List.{List, [], _∷_}
 use lib.ListN.{length}
-use Rattle.rules.specs.Layout.{SLOTS, FILE-WIDTH, BLOCK, OPEN-FILES, OPEN-FILE-WIDTH, PROCESSES, PROCESS-WIDTH, RIGHTS-SIZE, DESCRIPTORS, FILE-KIND, FILE-OWNER, FILE-BITS, FILE-LABEL, FILE-LENGTH, FILE-LINKS, FILE-VERSION, OPEN-SLOT, OPEN-OFFSET, OPEN-REFERENCES, PROCESS-USER, FREE, PLAIN}
+use Rattle.rules.specs.Layout.{SLOTS, FILE-WIDTH, BLOCK, OPEN-FILES, OPEN-FILE-WIDTH, PROCESSES, PROCESS-WIDTH, RIGHTS-SIZE, DESCRIPTORS, FILE-KIND, FILE-OWNER, FILE-BITS, FILE-LABEL, FILE-LENGTH, FILE-LINKS, FILE-VERSION, OPEN-SLOT, OPEN-OFFSET, OPEN-REFERENCES, PROCESS-USER, FREE, PLAIN, FILE-GROUP}
 use Rattle.rules.specs.Scan.{repeat}
 use Rattle.rules.specs.Store.{Store, Fixed, View, view, block, up, plus, slot, fdOf, isOpen}
 use Rattle.rules.specs.Refusals.{GRANTED}
@@ -108,6 +108,7 @@ pub record SameFile (s t : Store) (f : ℕ) : Type 0 where
   pub bytes : block (t .contents) f ≡ block (s .contents) f
   pub kind : word t f FILE-KIND ≡ word s f FILE-KIND
   pub owner : word t f FILE-OWNER ≡ word s f FILE-OWNER
+  pub group : word t f FILE-GROUP ≡ word s f FILE-GROUP
   pub label : word t f FILE-LABEL ≡ word s f FILE-LABEL
   pub length : word t f FILE-LENGTH ≡ word s f FILE-LENGTH
   pub version : word t f FILE-VERSION ≡ word s f FILE-VERSION

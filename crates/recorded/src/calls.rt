@@ -47,7 +47,7 @@ fn print_bytes(bytes: &[u8]) {
 
 fn print_fields(f: [u32; 8]) {
     let mut k = 0;
-    while k < 7 {
+    while k < 8 {
         print_number(f[k]);
         k += 1;
     }

@@ -95,12 +95,12 @@ fn answer_fields(value: u32, r: Record) -> Answer
     let fields = [
         r.kind,
         r.owner,
+        r.group,
         bits.0,
         r.label,
         r.length,
         r.links,
         r.version,
-        0,
     ];
     Answer {
         refusal: 0,

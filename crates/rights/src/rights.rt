@@ -2,8 +2,9 @@
 ghost use mathlib.Core.Path.{_≡_};
 ghost use Rattle.rules.specs.Layout.{FILE-WIDTH};
 ghost use Rattle.rules.specs.Store.{tab};
-ghost use Rattle.rules.specs.Rights.{stands, covers, rightsIn, bitsGrant, owns, labelGrants};
+ghost use Rattle.rules.specs.Rights.{stands, covers, rightsIn, bitsGrant, executable, bitsExecute, owns, labelGrants};
 ghost use Rattle.rules.specs.Walk.{bitsAllow, labelAllows};
+ghost use Rattle.rules.specs.DecidePaths.{bitsAllowExecute};
 use rules::ids::Slot;
 use rules::request::Subject;
 use rules::rights::Bits;
@@ -31,25 +32,58 @@ fn covers_all(held: Rights, want: Rights) -> bool
     stands_in(held.0, want.0)
 }
 
-// The rights that the bits give to everyone are enough.
-fn bits_cover(bits: Bits, want: Rights) -> bool
-    ensures { λ r. ⌜ r ≡ covers (rightsIn bits) want ⌝ }
+// What the bits give the subject: to the owner, else to the group, else to others. Only the lowest three digits count.
+fn rights_in(who: Subject, owner: u32, group: u32, bits: Bits) -> Rights
+    ensures { λ r. ⌜ r ≡ rightsIn who owner group bits ⌝ }
 {
-    covers_all(Rights(bits.0), want)
+    let own = who.user == owner;
+    if own {
+        return Rights(bits.0 / 64);
+    }
+    let member = who.group == group;
+    if member {
+        return Rights(bits.0 / 8);
+    }
+    Rights(bits.0)
 }
 
-fn bits_grant(who: Subject, owner: u32, bits: Bits, want: Rights) -> bool
-    ensures { λ r. ⌜ r ≡ bitsGrant who owner bits want ⌝ }
+fn bits_cover(who: Subject, owner: u32, group: u32, bits: Bits, want: Rights) -> bool
+    ensures { λ r. ⌜ r ≡ covers (rightsIn who owner group bits) want ⌝ }
+{
+    covers_all(rights_in(who, owner, group, bits), want)
+}
+
+fn bits_grant(who: Subject, owner: u32, group: u32, bits: Bits, want: Rights) -> bool
+    ensures { λ r. ⌜ r ≡ bitsGrant who owner group bits want ⌝ }
 {
     let root = who.user == 0;
     if root {
         return true;
     }
-    let own = who.user == owner;
-    if own {
+    bits_cover(who, owner, group, bits, want)
+}
+
+// One of the three execute bits is set.
+fn executable(bits: Bits) -> bool
+    ensures { λ r. ⌜ r ≡ executable bits ⌝ }
+{
+    if stands_in(bits.0 / 64, 1) {
         return true;
     }
-    bits_cover(bits, want)
+    if stands_in(bits.0 / 8, 1) {
+        return true;
+    }
+    stands_in(bits.0, 1)
+}
+
+fn bits_execute(who: Subject, owner: u32, group: u32, bits: Bits) -> bool
+    ensures { λ r. ⌜ r ≡ bitsExecute who owner group bits ⌝ }
+{
+    let root = who.user == 0;
+    if root {
+        return executable(bits);
+    }
+    bits_cover(who, owner, group, bits, Rights::EXECUTE)
 }
 
 // The subject is user 0 or the owner.
@@ -76,8 +110,21 @@ pub fn bits_allow(files: &[u32], who: Subject, s: Slot, want: Rights) -> bool
     bits_grant(
         who,
         tables::files::owner(files, s),
+        tables::files::group(files, s),
         tables::files::bits(files, s),
         want,
+    )
+}
+
+// The bits of slot s let it be executed: by user 0 only if someone may.
+pub fn bits_allow_execute(files: &[u32], who: Subject, s: Slot) -> bool
+    ensures { λ r. ⌜ r ≡ bitsAllowExecute (tab FILE-WIDTH (now (files .entry))) who s ⌝ }
+{
+    bits_execute(
+        who,
+        tables::files::owner(files, s),
+        tables::files::group(files, s),
+        tables::files::bits(files, s),
     )
 }
 

@@ -19,6 +19,7 @@ use rules::rights::OpenMode;
 use tables::layout::BLOCK;
 use tables::layout::DIRENT_WIDTH;
 use tables::layout::FILE_BITS;
+use tables::layout::FILE_GROUP;
 use tables::layout::FILE_KIND;
 use tables::layout::FILE_LABEL;
 use tables::layout::FILE_LENGTH;
@@ -51,6 +52,7 @@ pub fn put_record(files: &mut [u32], s: Slot, r: Record)
     let bits = r.bits;
     put(files, at + FILE_KIND, r.kind);
     put(files, at + FILE_OWNER, r.owner);
+    put(files, at + FILE_GROUP, r.group);
     put(files, at + FILE_BITS, bits.0);
     put(files, at + FILE_LABEL, r.label);
     put(files, at + FILE_LENGTH, r.length);

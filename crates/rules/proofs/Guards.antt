@@ -2,11 +2,11 @@
 -- edit of specs/ in must-fail/ that breaks it. The calls are made by `act`, with no soundness test.
 use Prim.Native.Nat.{ℕ, _*_, _+_}
 use mathlib.Core.Path.{_≡_, refl}
-use mathlib.Core.Bool.{true}
+use mathlib.Core.Bool.{true, false}
 use mathlib.Core.List.{List, [], _∷_, _++_}
 use lib.ListN.{take, set, replicate}
 use Rattle.rules.specs.Computing.{computing}
-use Rattle.rules.specs.Layout.{FILE-WIDTH, FILE-KIND, FILE-VERSION, PLAIN, PROCESS-LABEL, WORD-MAX, SLASH}
+use Rattle.rules.specs.Layout.{FILE-WIDTH, FILE-KIND, FILE-GROUP, FILE-VERSION, PLAIN, PROCESS-LABEL, WORD-MAX, SLASH}
 use Rattle.rules.specs.Store.{Store, store, tab, procOf, block}
 use Rattle.rules.specs.Sound.{policySound, sizesSound}
 use Rattle.rules.specs.Calls.{Call}
@@ -40,6 +40,9 @@ changesBits p path bits = call p 8 0 bits path
 
 abbrev reads : (process fd : ℕ) → Call
 reads p i = call p 11 i 0 []
+
+abbrev executes : (process : ℕ) (path : List ℕ) → Call
+executes p path = call p 17 0 0 path
 
 abbrev forks : (process : ℕ) → Call
 forks p = call p 15 0 0 []
@@ -98,6 +101,43 @@ both-asks-only-write = refl
 read-in-mode-2 : answer (opens 1 KEY-PATH 2 ∷ []) (reads 1 0) .refusal ≡ 5
 unfolding computing afterFrom
 read-in-mode-2 = refl
+
+-- ---- owner, group and others (paper 02, R-4). /fares/now belongs to user 10 and to group 1; process 2 is user 20 of group 1
+
+-- "Document 01 followed source document 001, where an owner always passes": bits 044 shut the owner out
+owner-passes : answer (changesBits 1 FARES-NOW 36 ∷ []) (opens 1 FARES-NOW 1) .refusal ≡ 9
+unfolding computing afterFrom
+owner-passes = refl
+
+-- "else": bits 0704 shut the group out, though others may read
+group-or-others : answer (changesBits 1 FARES-NOW 452 ∷ []) (opens 2 FARES-NOW 1) .refusal ≡ 9
+unfolding computing afterFrom
+group-or-others = refl
+
+-- "the owner by the owner's bits": bits 0470 do not let the owner write
+owner-and-group-swapped : answer (changesBits 1 FARES-NOW 312 ∷ []) (opens 1 FARES-NOW 2) .refusal ≡ 9
+unfolding computing afterFrom
+owner-and-group-swapped = refl
+
+-- "executing needs at least one execute bit set": bits 0644
+user-0-executes-anything : answer (changesBits 1 FARES-NOW 420 ∷ []) (executes 0 FARES-NOW) .refusal ≡ 9
+unfolding computing afterFrom
+user-0-executes-anything = refl
+
+-- "User 0 passes": it searches a directory of bits 0
+user-0-needs-a-bit-to-search : answer (changesBits 1 FARES-PATH 0 ∷ []) (opens 0 FARES-NOW 1) .refusal ≡ 0
+unfolding computing afterFrom
+user-0-needs-a-bit-to-search = refl
+
+-- rights of the policy stay 0 to 7
+policy-rights-to-511 : policySound (set consolePolicy 0 8) ≡ false
+unfolding computing
+policy-rights-to-511 = refl
+
+-- "A new file takes its caller's" group
+new-file-group-0 : tab FILE-WIDTH (after (creates 1 FARES-X ∷ []) .files) 4 FILE-GROUP ≡ 1
+unfolding computing afterFrom
+new-file-group-0 = refl
 
 -- ---- files that outlive their names
 

@@ -14,7 +14,7 @@ use Rattle.rules.specs.Walk.{isDirectory, isPlain, bitsAllow, labelAllow
 use Rattle.rules.specs.Calls.{Call, operation, wellFormed}
 use Rattle.rules.specs.Checks.{need, after, inUse, held, ofdHeld, isAbsent, freeSlot, freeOfd, freeFd, freePid, gains, loses, freed, unnaming, releasing}
 use Rattle.rules.specs.DecidePaths.{allowed, newOpen, truncated, opening, openRoom, openFile, openMode, decideOpen, newRecord, createRoom, createAt, decideCreate, unlinkAt, decideUnlink, removeAt, decideRemove}
-use Rattle.rules.specs.DecidePaths.{linkRoom, linkAt, linkTo, decideLink, listEntry, listAt, decideList, changeBitsAt, decideChangeBits, decideStat, executeAt, decideExecute}
+use Rattle.rules.specs.DecidePaths.{linkRoom, linkAt, linkTo, decideLink, listEntry, listAt, decideList, changeBitsAt, decideChangeBits, decideStat, bitsAllowExecute, executeAt, decideExecute}
 use Rattle.rules.specs.Decide.{decideClose, remaining, readOpen, decideRead, writeAt, placement, writeFile, writeSome, writeOpen, decideWrite, decideSeek, duplicateTo, decideDuplicate, forkTo, decideFork, decideOwn, decide}
 use Rattle.rules.specs.declared.ids.Slot.{Slot}
 use Rattle.rules.specs.declared.ids.Fd.{Fd}
@@ -173,7 +173,7 @@ module _ (Q : List ℕ) (v : View) (c : Call) where
         Passed op.Duplicate (freeFd (v .desc) (c .process) .0) output.Nothing (effect.Duplicated (freeFd (v .desc) (c .process)) ofd (up (v .openFiles (ofd .0) OPEN-REFERENCES)))
     forks : isPid (freePid (v .proc)) ≡ true → Passed op.Fork (freePid (v .proc) .0) output.Nothing (effect.Forked (freePid (v .proc)) who)
     exits : Passed op.Exit 0 output.Nothing effect.Exited
-    executes : (at : Location) → Walked at → isPlain file (at .slot) ≡ true → Allowed (at .slot) EXECUTE →
+    executes : (at : Location) → Walked at → isPlain file (at .slot) ≡ true → bitsAllowExecute file who (at .slot) ≡ true → labelAllows file Q who (at .slot) EXECUTE ≡ true →
         Passed op.Execute 0 output.Nothing (effect.Relabelled (moved Q (who .label) (file (at .slot .0) FILE-LABEL)))
 
   -- process (2), form (3), then the call's own checks
@@ -245,7 +245,7 @@ module _ (Q : List ℕ) (v : View) (c : Call) where
   own-fit op.Duplicate = need-fit _ _ _ (λ h. need-fit _ _ _ (λ i. granting _ _ _ (duplicates h i)))
   own-fit op.Fork = need-fit _ _ _ (λ q. granting _ _ _ (forks q))
   own-fit op.Exit = granting _ _ _ exits
-  own-fit op.Execute = after-fit _ _ (λ at w. need-fit _ _ _ (λ p. allowed-fit (at .slot) EXECUTE _ (λ a. granting _ _ _ (executes at w p a))))
+  own-fit op.Execute = after-fit _ _ (λ at w. need-fit _ _ _ (λ p. need-fit _ _ _ (λ b. need-fit _ _ _ (λ l. granting _ _ _ (executes at w p b l)))))
   own-fit op.Unknown = refusing _ _
 
   pub permitted : Fit Permit (decide Q v c)

@@ -74,7 +74,7 @@ module _ (Q : List ℕ) (v : View) (c d : Call) where
   carried-same t o n out e a (passed.duplicates h i) = rw (a .process)
   carried-same t o n out e a (passed.forks q) = rw (a .process)
   carried-same t o n out e a passed.exits = rw (a .process)
-  carried-same t o n out e a (passed.executes at w p r) = rw (a .process)
+  carried-same t o n out e a (passed.executes at w p b l) = rw (a .process)
 
   outcome-same : (t : Store) (x : Decision) → Agree (uses (operation c)) c d → Fit (Permit Q v c) x → outcomeOf t c x ≡ outcomeOf t d x
   unfolding outcomeOf replyTo storeAfter

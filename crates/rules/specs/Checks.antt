@@ -99,7 +99,7 @@ loses file d i = record { dir = d; dirent = i; length = file (d .0) FILE-LENGTH 
 
 -- the record of a freed slot: its version goes up by one
 abbrev pub freed : Table → Slot → Record
-freed file s = record { kind = FREE; owner = 0; bits = bitsAt 0; label = 0; length = 0; links = 0; version = up (file (s .0) FILE-VERSION) }
+freed file s = record { kind = FREE; owner = 0; group = 0; bits = bitsAt 0; label = 0; length = 0; links = 0; version = up (file (s .0) FILE-VERSION) }
 
 -- the plain file in slot s loses a name
 unfoldable pub unnaming : (file openFiles : Table) → Slot → Unnamed

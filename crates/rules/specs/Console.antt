@@ -21,14 +21,14 @@ KEY = 107 ∷ 101 ∷ 121 ∷ []
 abbrev pub filled : ℕ → List ℕ → List ℕ
 filled n l = l ++ zeros (n - length l)
 
--- 0 root, owner 0, bits 5; 1 /fares, owner 10, bits 5; 2 /fares/now, owner 10, bits 4; 3 /key, owner 10, bits 0, label 3
+-- 0 root, owner 0, bits 0755; 1 /fares, owner 10, bits 0755; 2 /fares/now, owner 10, bits 0744; 3 /key, owner 10, bits 0700, label 3; all groups 1
 abbrev pub consoleFiles : List ℕ
 consoleFiles =
     filled (SLOTS * FILE-WIDTH)
-    (2 ∷ 0 ∷ 5 ∷ 0 ∷ 2 ∷ 0 ∷ 0 ∷
-    2 ∷ 10 ∷ 5 ∷ 0 ∷ 1 ∷ 1 ∷ 0 ∷
-    1 ∷ 10 ∷ 4 ∷ 0 ∷ 5 ∷ 1 ∷ 0 ∷
-    1 ∷ 10 ∷ 0 ∷ 3 ∷ 4 ∷ 1 ∷ 0 ∷ [])
+    (2 ∷ 0 ∷ 1 ∷ 493 ∷ 0 ∷ 2 ∷ 0 ∷ 0 ∷
+    2 ∷ 10 ∷ 1 ∷ 493 ∷ 0 ∷ 1 ∷ 1 ∷ 0 ∷
+    1 ∷ 10 ∷ 1 ∷ 484 ∷ 0 ∷ 5 ∷ 1 ∷ 0 ∷
+    1 ∷ 10 ∷ 1 ∷ 448 ∷ 3 ∷ 4 ∷ 1 ∷ 0 ∷ [])
 
 -- /fares/now holds "2.40" and byte 10; the four bytes of /key are a parameter
 abbrev pub consoleContents : List ℕ → List ℕ
@@ -39,9 +39,9 @@ consoleContents key =
     ++ filled BLOCK key
     ++ zeros ((SLOTS - 4) * BLOCK)
 
--- processes 0, 1, 2: users 0, 10, 20, labels 0, 1, 2, holding nothing
+-- processes 0, 1, 2: users 0, 10, 20, group 1, labels 0, 1, 2, holding nothing
 abbrev pub consoleProcesses : List ℕ
-consoleProcesses = filled (PROCESSES * PROCESS-WIDTH) (filled PROCESS-WIDTH (1 ∷ 0 ∷ 0 ∷ []) ++ filled PROCESS-WIDTH (1 ∷ 10 ∷ 1 ∷ []) ++ filled PROCESS-WIDTH (1 ∷ 20 ∷ 2 ∷ []))
+consoleProcesses = filled (PROCESSES * PROCESS-WIDTH) (filled PROCESS-WIDTH (1 ∷ 0 ∷ 1 ∷ 0 ∷ []) ++ filled PROCESS-WIDTH (1 ∷ 10 ∷ 1 ∷ 1 ∷ []) ++ filled PROCESS-WIDTH (1 ∷ 20 ∷ 1 ∷ 2 ∷ []))
 
 unfoldable pub consoleWith : (key : List ℕ) → Store
 consoleWith key = store consoleFiles (consoleContents key) (zeros (OPEN-FILES * OPEN-FILE-WIDTH)) consoleProcesses

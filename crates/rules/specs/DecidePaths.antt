@@ -4,9 +4,9 @@ use mathlib.Core.Bool.{Bool, true, false, cond, not}
 use mathlib.Core.List.{List, [], _∷_}
 use lib.Dec.{eqb, ltb}
 use Rattle.rules.specs.Choice.{every}
-use Rattle.rules.specs.Layout.{SLOTS, OPEN-FILES, DESCRIPTORS, DIRENTS, FILE-OWNER, FILE-BITS, FILE-LABEL, FILE-LENGTH, FILE-LINKS, FILE-VERSION, PLAIN, DIRECTORY}
+use Rattle.rules.specs.Layout.{SLOTS, OPEN-FILES, DESCRIPTORS, DIRENTS, FILE-OWNER, FILE-GROUP, FILE-BITS, FILE-LABEL, FILE-LENGTH, FILE-LINKS, FILE-VERSION, PLAIN, DIRECTORY}
 use Rattle.rules.specs.Store.{Table, Tree, slot, isSlot, isFd, isOfd, isDirent, bitsAt, recordOf, up}
-use Rattle.rules.specs.Rights.{READ, WRITE, EXECUTE, owns, moved, modeOf, modeRights}
+use Rattle.rules.specs.Rights.{READ, WRITE, EXECUTE, bitsExecute, owns, moved, modeOf, modeRights}
 use Rattle.rules.specs.Directories.{freeDirent, direntRanked}
 use Rattle.rules.specs.Walk.{isDirectory, isPlain, bitsAllow, labelAllows, walkPath, walkNew}
 use Rattle.rules.specs.Checks.{need, granted, after, isAbsent, freeSlot, freeOfd, freeFd, gains, loses, freed, unnaming}
@@ -46,6 +46,7 @@ abbrev pub truncated : Table → Slot → Record
 truncated file s = record {
   kind = PLAIN;
   owner = file (s .0) FILE-OWNER;
+  group = file (s .0) FILE-GROUP;
   bits = bitsAt (file (s .0) FILE-BITS);
   label = file (s .0) FILE-LABEL;
   length = 0;
@@ -86,7 +87,7 @@ decideOpen Q t openFiles desc p who n path = after (walkPath t Q who path) (λ a
 -- place (13). Owner is the caller's user, bits as given, label the parent's. Value: the slot"
 
 abbrev pub newRecord : Table → Subject → (kind : ℕ) → Bits → (d s : Slot) → Record
-newRecord file who kind bits d s = record { kind = kind; owner = who .user; bits = bits; label = file (d .0) FILE-LABEL; length = 0; links = 1; version = file (s .0) FILE-VERSION }
+newRecord file who kind bits d s = record { kind = kind; owner = who .user; group = who .group; bits = bits; label = file (d .0) FILE-LABEL; length = 0; links = 1; version = file (s .0) FILE-VERSION }
 
 abbrev pub created : Table → Subject → (kind : ℕ) → Bits → (d s : Slot) → Dirent → Decision
 created file who kind bits d s i = granted (s .0) (effect.Created (gains file d i) s (newRecord file who kind bits d s))
@@ -198,11 +199,16 @@ decideStat Q t who path = after (walkPath t Q who path) (λ at. described (t .fi
 abbrev pub executed : List ℕ → Table → Subject → Slot → Decision
 executed Q file who s = granted 0 (effect.Relabelled (moved Q (who .label) (file (s .0) FILE-LABEL)))
 
+-- user 0 searches any directory, but executes only what someone may
+abbrev pub bitsAllowExecute : Table → Subject → Slot → Bool
+bitsAllowExecute file who s = bitsExecute who (file (s .0) FILE-OWNER) (file (s .0) FILE-GROUP) (bitsAt (file (s .0) FILE-BITS))
+
 unfoldable pub executeAt : List ℕ → Table → Subject → Slot → Decision
 executeAt Q file who s =
     need (isPlain file s) WrongKind
-    (allowed file Q who s EXECUTE
-    (executed Q file who s))
+    (need (bitsAllowExecute file who s) BitsForbid
+    (need (labelAllows file Q who s EXECUTE) LabelForbids
+    (executed Q file who s)))
 
 unfoldable pub decideExecute : List ℕ → Tree → Subject → List ℕ → Decision
 decideExecute Q t who path = after (walkPath t Q who path) (λ at. executeAt Q (t .file) who (at .slot))

@@ -28,7 +28,7 @@ use Rattle.rules.specs.declared.decision.Effect.{Effect}
 use Rattle.rules.specs.declared.decision.Effect.the-variants as effect
 
 abbrev pub words : Record → List ℕ
-words r = r .kind ∷ r .owner ∷ r .bits .0 ∷ r .label ∷ r .length ∷ r .links ∷ r .version ∷ []
+words r = r .kind ∷ r .owner ∷ r .group ∷ r .bits .0 ∷ r .label ∷ r .length ∷ r .links ∷ r .version ∷ []
 
 -- ---- names
 
@@ -111,9 +111,9 @@ released p i t = applyAll (closeChanges p (fdOf i) (releasing (view t .tree .fil
 unfoldable pub releasedAll : Pid → Store → Store
 releasedAll p t = repeat (released p) 0 DESCRIPTORS t
 
--- a child's own words: in use, and its parent's user and label
+-- a child's own words: in use, and its parent's user, group and label
 unfoldable pub forkChanges : (child : Pid) → Subject → List Change
-forkChanges q who = procTo (q .0) (1 ∷ who .user ∷ who .label ∷ []) ∷ []
+forkChanges q who = procTo (q .0) (1 ∷ who .user ∷ who .group ∷ who .label ∷ []) ∷ []
 
 -- ---- what each effect does
 

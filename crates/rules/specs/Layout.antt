@@ -43,7 +43,7 @@ PATH = 64
 -- ---- a file's record
 
 abbrev pub FILE-WIDTH : ℕ
-FILE-WIDTH = 7
+FILE-WIDTH = 8
 
 abbrev pub FILE-KIND : ℕ
 FILE-KIND = 0
@@ -51,22 +51,25 @@ FILE-KIND = 0
 abbrev pub FILE-OWNER : ℕ
 FILE-OWNER = 1
 
+abbrev pub FILE-GROUP : ℕ
+FILE-GROUP = 2
+
 abbrev pub FILE-BITS : ℕ
-FILE-BITS = 2
+FILE-BITS = 3
 
 abbrev pub FILE-LABEL : ℕ
-FILE-LABEL = 3
+FILE-LABEL = 4
 
 abbrev pub FILE-LENGTH : ℕ
-FILE-LENGTH = 4
+FILE-LENGTH = 5
 
 -- how many directory entries name it (the paper's names)
 abbrev pub FILE-LINKS : ℕ
-FILE-LINKS = 5
+FILE-LINKS = 6
 
 -- the paper's stamp
 abbrev pub FILE-VERSION : ℕ
-FILE-VERSION = 6
+FILE-VERSION = 7
 
 -- kinds
 abbrev pub FREE : ℕ
@@ -96,13 +99,13 @@ OPEN-OFFSET = 2
 abbrev pub OPEN-REFERENCES : ℕ
 OPEN-REFERENCES = 3
 
--- ---- a process: three words of its own, then its descriptors (0 nothing, e + 1 open file e)
+-- ---- a process: four words of its own, then its descriptors (0 nothing, e + 1 open file e)
 
 abbrev pub PROCESS-WIDTH : ℕ
-PROCESS-WIDTH = 11
+PROCESS-WIDTH = 12
 
 abbrev pub PROCESS-DESCRIPTOR : ℕ
-PROCESS-DESCRIPTOR = 3
+PROCESS-DESCRIPTOR = 4
 
 abbrev pub PROCESS-USED : ℕ
 PROCESS-USED = 0
@@ -110,9 +113,12 @@ PROCESS-USED = 0
 abbrev pub PROCESS-USER : ℕ
 PROCESS-USER = 1
 
+abbrev pub PROCESS-GROUP : ℕ
+PROCESS-GROUP = 2
+
 -- a process's label
 abbrev pub PROCESS-LABEL : ℕ
-PROCESS-LABEL = 2
+PROCESS-LABEL = 3
 
 -- ---- the policy: rights, then transitions
 
@@ -131,12 +137,16 @@ KIND-MAX = 2
 abbrev pub USER-MAX : ℕ
 USER-MAX = 65535
 
+abbrev pub GROUP-MAX : ℕ
+GROUP-MAX = 65535
+
 -- rights: of the policy, and those that bits are made of
 abbrev pub RIGHTS-MAX : ℕ
 RIGHTS-MAX = 7
 
+-- bits: the owner's rights, the group's and the others', each with values of its own (64, 8, 1)
 abbrev pub BITS-MAX : ℕ
-BITS-MAX = 7
+BITS-MAX = 511
 
 abbrev pub LABEL-MAX : ℕ
 LABEL-MAX = 15

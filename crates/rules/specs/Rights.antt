@@ -43,7 +43,7 @@ rightsValid rights.OutOfRange = false
 abbrev pub rightsKnown : ℕ → Bool
 rightsKnown n = rightsValid (rightsOf n)
 
--- permission bits, 0 to 7
+-- permission bits, 0 to 511
 unfoldable pub bitsOf : ℕ → BitsNumber
 bitsOf n = cond (leb n BITS-MAX) (bits.Valid (record { 0 = n })) bits.OutOfRange
 
@@ -113,13 +113,22 @@ stands held want = implies (eqb (want % 2) 1) (eqb (held % 2) 1)
 unfoldable pub covers : Rights → Rights → Bool
 covers held want = every (stands (held .0 / 4) (want .0 / 4) ∷ stands (held .0 / 2) (want .0 / 2) ∷ stands (held .0) (want .0) ∷ [])
 
--- the rights that the bits give to everyone
-abbrev pub rightsIn : Bits → Rights
-rightsIn b = record { 0 = b .0 }
+-- "POSIX judges the owner by the owner's bits, else a member of the file's group by the group's, else by the others'": the first that fits decides
+-- alone. Only the lowest three digits of what it gives are looked at
+unfoldable pub rightsIn : Subject → (owner group : ℕ) → Bits → Rights
+rightsIn who owner group b = cond (eqb (who .user) owner) (record { 0 = b .0 / 64 }) (cond (eqb (who .group) group) (record { 0 = b .0 / 8 }) (record { 0 = b .0 }))
 
--- "The bits grant a right to user 0, to the owner, or if all wanted rights stand in the bits"
-unfoldable pub bitsGrant : Subject → (owner : ℕ) → Bits → Rights → Bool
-bitsGrant who owner b want = some (eqb (who .user) 0 ∷ eqb (who .user) owner ∷ covers (rightsIn b) want ∷ [])
+-- "User 0 passes"; anyone else if all wanted rights stand in the bits
+unfoldable pub bitsGrant : Subject → (owner group : ℕ) → Bits → Rights → Bool
+bitsGrant who owner group b want = some (eqb (who .user) 0 ∷ covers (rightsIn who owner group b) want ∷ [])
+
+-- one of the three execute bits is set
+unfoldable pub executable : Bits → Bool
+executable b = some (stands (b .0 / 64) (EXECUTE .0) ∷ stands (b .0 / 8) (EXECUTE .0) ∷ stands (b .0) (EXECUTE .0) ∷ [])
+
+-- "User 0 passes, but executing needs at least one execute bit set"
+unfoldable pub bitsExecute : Subject → (owner group : ℕ) → Bits → Bool
+bitsExecute who owner group b = cond (eqb (who .user) 0) (executable b) (covers (rightsIn who owner group b) EXECUTE)
 
 -- "owner or user 0"
 unfoldable pub owns : Subject → (owner : ℕ) → Bool

@@ -7,8 +7,8 @@ use lib.ListN.{length, getD, drop}
 use Rattle.rules.specs.Choice.{every, some, implies}
 use Rattle.rules.specs.Scan.{all, any, count, total, first}
 use Rattle.rules.specs.Layout.{SLOTS, BLOCK, DIRENT-WIDTH, DIRENTS, NAME, NAMES, OPEN-FILES, PROCESSES, DESCRIPTORS, FILE-WIDTH, OPEN-FILE-WIDTH, PROCESS-WIDTH, RIGHTS-SIZE, NO-TRANSITION, SLASH}
-use Rattle.rules.specs.Layout.{FILE-KIND, FILE-OWNER, FILE-BITS, FILE-LABEL, FILE-LENGTH, FILE-LINKS, FILE-VERSION, FREE, PLAIN, DIRECTORY, OPEN-SLOT, OPEN-MODE, OPEN-OFFSET, OPEN-REFERENCES, PROCESS-USED, PROCESS-USER, PROCESS-LABEL}
-use Rattle.rules.specs.Layout.{KIND-MAX, USER-MAX, LABEL-MAX, WORD-MAX}
+use Rattle.rules.specs.Layout.{FILE-KIND, FILE-OWNER, FILE-GROUP, FILE-BITS, FILE-LABEL, FILE-LENGTH, FILE-LINKS, FILE-VERSION, FREE, PLAIN, DIRECTORY, OPEN-SLOT, OPEN-MODE, OPEN-OFFSET, OPEN-REFERENCES, PROCESS-USED, PROCESS-USER, PROCESS-GROUP, PROCESS-LABEL}
+use Rattle.rules.specs.Layout.{KIND-MAX, USER-MAX, GROUP-MAX, LABEL-MAX, WORD-MAX}
 use Rattle.rules.specs.Store.{Store, Fixed, Table, Tree, View, view, slot, isOpen}
 use Rattle.rules.specs.Rights.{rightsKnown, bitsKnown, modeOf, modeKept}
 use Rattle.rules.specs.Paths.{Name, isDots, sameName}
@@ -35,15 +35,22 @@ policySound Q = every (eqb (length Q) (RIGHTS-SIZE + RIGHTS-SIZE) ∷ all (right
 
 -- ---- a file's record: "all fields in range"; "A free record is zero but for its stamp"
 
--- what says who may do what: owner, bits and label
+-- whose it is: owner and group
+unfoldable pub ownersFree : Table → ℕ → Bool
+ownersFree file s = every (eqb (file s FILE-OWNER) 0 ∷ eqb (file s FILE-GROUP) 0 ∷ [])
+
+-- what says who may do what: owner and group, bits, label
 unfoldable pub accessFree : Table → ℕ → Bool
-accessFree file s = every (eqb (file s FILE-OWNER) 0 ∷ eqb (file s FILE-BITS) 0 ∷ eqb (file s FILE-LABEL) 0 ∷ [])
+accessFree file s = every (ownersFree file s ∷ eqb (file s FILE-BITS) 0 ∷ eqb (file s FILE-LABEL) 0 ∷ [])
 
 unfoldable pub recordFree : Table → ℕ → Bool
 recordFree file s = every (accessFree file s ∷ eqb (file s FILE-LENGTH) 0 ∷ eqb (file s FILE-LINKS) 0 ∷ [])
 
+unfoldable pub ownersSound : Table → ℕ → Bool
+ownersSound file s = every (leb (file s FILE-OWNER) USER-MAX ∷ leb (file s FILE-GROUP) GROUP-MAX ∷ [])
+
 unfoldable pub accessSound : Table → ℕ → Bool
-accessSound file s = every (leb (file s FILE-OWNER) USER-MAX ∷ bitsKnown (file s FILE-BITS) ∷ leb (file s FILE-LABEL) LABEL-MAX ∷ [])
+accessSound file s = every (ownersSound file s ∷ bitsKnown (file s FILE-BITS) ∷ leb (file s FILE-LABEL) LABEL-MAX ∷ [])
 
 unfoldable pub fieldsSound : Table → ℕ → Bool
 fieldsSound file s = every (leb (file s FILE-KIND) KIND-MAX ∷ accessSound file s ∷ leb (file s FILE-VERSION) WORD-MAX ∷ [])
@@ -176,15 +183,15 @@ descSound desc p i = leb (desc p i) OPEN-FILES
 unfoldable pub descFree : Table → ℕ → ℕ → Bool
 descFree desc p i = eqb (desc p i) 0
 
--- who it is: user and label
+-- who it is: user, group and label
 unfoldable pub subjectFree : Table → ℕ → Bool
-subjectFree proc p = every (eqb (proc p PROCESS-USER) 0 ∷ eqb (proc p PROCESS-LABEL) 0 ∷ [])
+subjectFree proc p = every (eqb (proc p PROCESS-USER) 0 ∷ eqb (proc p PROCESS-GROUP) 0 ∷ eqb (proc p PROCESS-LABEL) 0 ∷ [])
 
 unfoldable pub procFree : (proc desc : Table) → ℕ → Bool
 procFree proc desc p = every (subjectFree proc p ∷ all (descFree desc p) 0 DESCRIPTORS ∷ [])
 
 unfoldable pub subjectSound : Table → ℕ → Bool
-subjectSound proc p = every (leb (proc p PROCESS-USER) USER-MAX ∷ leb (proc p PROCESS-LABEL) LABEL-MAX ∷ [])
+subjectSound proc p = every (leb (proc p PROCESS-USER) USER-MAX ∷ leb (proc p PROCESS-GROUP) GROUP-MAX ∷ leb (proc p PROCESS-LABEL) LABEL-MAX ∷ [])
 
 unfoldable pub procUsed : (proc desc : Table) → ℕ → Bool
 procUsed proc desc p = every (eqb (proc p PROCESS-USED) 1 ∷ subjectSound proc p ∷ all (descSound desc p) 0 DESCRIPTORS ∷ [])

@@ -7,7 +7,7 @@ use lib.ListN.{length, getD, take, drop, set, replicate}
 use lib.Seq.{sets}
 use Rattle.rules.specs.Choice.{every}
 use Rattle.rules.specs.Scan.{any}
-use Rattle.rules.specs.Layout.{OPEN-SLOT, OPEN-REFERENCES, SLOTS, OPEN-FILES, PROCESSES, DIRENTS, BLOCK, FILE-WIDTH, FILE-KIND, FILE-OWNER, FILE-BITS, FILE-LABEL, FILE-LENGTH, FILE-LINKS, FILE-VERSION, PLAIN, OPEN-FILE-WIDTH, PROCESS-WIDTH, PROCESS-DESCRIPTOR, PROCESS-USER, PROCESS-LABEL, DESCRIPTORS}
+use Rattle.rules.specs.Layout.{OPEN-SLOT, OPEN-REFERENCES, SLOTS, OPEN-FILES, PROCESSES, DIRENTS, BLOCK, FILE-WIDTH, FILE-KIND, FILE-OWNER, FILE-GROUP, FILE-BITS, FILE-LABEL, FILE-LENGTH, FILE-LINKS, FILE-VERSION, PLAIN, OPEN-FILE-WIDTH, PROCESS-WIDTH, PROCESS-DESCRIPTOR, PROCESS-USER, PROCESS-GROUP, PROCESS-LABEL, DESCRIPTORS}
 use Rattle.rules.specs.declared.decision.Record.{Record}
 use Rattle.rules.specs.declared.ids.Slot.{Slot}
 use Rattle.rules.specs.declared.ids.Pid.{Pid}
@@ -138,12 +138,13 @@ isOpen openFiles s = openBut openFiles (ofdOf OPEN-FILES) s
 
 -- who asks: process p
 abbrev pub subjectOf : Table → Pid → Subject
-subjectOf proc p = record { user = proc (p .0) PROCESS-USER; label = proc (p .0) PROCESS-LABEL }
+subjectOf proc p = record { user = proc (p .0) PROCESS-USER; group = proc (p .0) PROCESS-GROUP; label = proc (p .0) PROCESS-LABEL }
 
 abbrev pub recordOf : Table → Slot → Record
 recordOf file s = record {
   kind = file (s .0) FILE-KIND;
   owner = file (s .0) FILE-OWNER;
+  group = file (s .0) FILE-GROUP;
   bits = bitsAt (file (s .0) FILE-BITS);
   label = file (s .0) FILE-LABEL;
   length = file (s .0) FILE-LENGTH;

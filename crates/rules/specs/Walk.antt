@@ -3,7 +3,7 @@ use Prim.Native.Nat.{ℕ, _+_}
 use mathlib.Core.Bool.{Bool, true, false}
 use mathlib.Core.List.{List, [], _∷_}
 use lib.Dec.{eqb, ltb}
-use Rattle.rules.specs.Layout.{FILE-KIND, FILE-OWNER, FILE-BITS, FILE-LABEL, DIRECTORY, PLAIN, DIRENTS}
+use Rattle.rules.specs.Layout.{FILE-KIND, FILE-OWNER, FILE-GROUP, FILE-BITS, FILE-LABEL, DIRECTORY, PLAIN, DIRENTS}
 use Rattle.rules.specs.Store.{Table, Tree, slot, entry, isDirent, bitsAt}
 use Rattle.rules.specs.Rights.{EXECUTE, bitsGrant, labelGrants}
 use Rattle.rules.specs.Paths.{Name, names}
@@ -28,7 +28,7 @@ isPlain file s = eqb (file (s .0) FILE-KIND) PLAIN
 
 -- the subject has the rights over slot s, by its bits and by its label
 abbrev pub bitsAllow : Table → Subject → Slot → Rights → Bool
-bitsAllow file who s want = bitsGrant who (file (s .0) FILE-OWNER) (bitsAt (file (s .0) FILE-BITS)) want
+bitsAllow file who s want = bitsGrant who (file (s .0) FILE-OWNER) (file (s .0) FILE-GROUP) (bitsAt (file (s .0) FILE-BITS)) want
 
 abbrev pub labelAllows : Table → List ℕ → Subject → Slot → Rights → Bool
 labelAllows file Q who s want = labelGrants Q who (file (s .0) FILE-LABEL) want

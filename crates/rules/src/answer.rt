@@ -8,6 +8,6 @@ pub struct Answer {
     pub name_length: u32,
     // The listed name, then 0.
     pub name: [u8; 16],
-    // Stat: kind, owner, bits, label, length, links, version, 0; else all 0.
+    // Stat: kind, owner, group, bits, label, length, links, version; else all 0.
     pub fields: [u32; 8],
 }

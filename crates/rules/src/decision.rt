@@ -32,6 +32,7 @@ pub enum Walk {
 pub struct Record {
     pub kind: u32,
     pub owner: u32,
+    pub group: u32,
     pub bits: Bits,
     pub label: u32,
     pub length: u32,

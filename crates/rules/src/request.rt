@@ -45,5 +45,6 @@ pub struct Parts {
 // Who asks.
 pub struct Subject {
     pub user: u32,
+    pub group: u32,
     pub label: u32,
 }

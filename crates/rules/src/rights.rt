@@ -43,7 +43,7 @@ impl Rights {
     }
 }
 
-// Permission bits: the rights that a file gives to everyone.
+// Permission bits: the rights that a file gives to its owner (64 each), its group (8 each) and others.
 pub struct Bits(pub u32);
 
 pub enum BitsNumber {
@@ -55,7 +55,7 @@ impl Bits {
     pub fn new(n: u32) -> BitsNumber
         ensures { λ r. ⌜ r ≡ bitsOf n ⌝ }
     {
-        let known = n <= 7;
+        let known = n <= 511;
         if known {
             return BitsNumber::Valid(Bits(n));
         }

@@ -20,7 +20,7 @@ unfolding hexOf
 hex-append [] ys = refl
 hex-append (x ∷ xs) ys = rw (hex-append xs ys)
 
-pub stat-length : (f : List ℕ) → length (statBytes f) ≡ 13
+pub stat-length : (f : List ℕ) → length (statBytes f) ≡ 16
 unfolding statBytes little
 stat-length f = refl
 
@@ -49,7 +49,7 @@ module _ (f : List ℕ) where
   pub none-length : eqb (getD f 0 0) 0 ≡ true → 0 ≡ length (fieldBytes f)
   none-length e = rw (fields-none f e)
 
-  pub some-length : eqb (getD f 0 0) 0 ≡ false → 13 ≡ length (fieldBytes f)
+  pub some-length : eqb (getD f 0 0) 0 ≡ false → 16 ≡ length (fieldBytes f)
   some-length e = rw (fields-some f e, stat-length)
 
   module _ (X : List ℕ) (at : ℕ) where

@@ -92,21 +92,25 @@ fn write_digits(out: &mut [u8], at: usize, k: u8, n: u32) -> usize
 }
 
 // Stat's bytes, little end first.
-fn stat_bytes(f: [u32; 8]) -> [u8; 13]
+fn stat_bytes(f: [u32; 8]) -> [u8; 16]
     ensures { λ r. ⌜ r ≡ statBytes f ⌝ }
 {
     let kind = f[0];
     let owner = f[1];
-    let bits = f[2];
-    let label = f[3];
-    let length = f[4];
-    let links = f[5];
-    let version = f[6];
+    let group = f[2];
+    let bits = f[3];
+    let label = f[4];
+    let length = f[5];
+    let links = f[6];
+    let version = f[7];
     [
         (kind % 256) as u8,
         (owner % 256) as u8,
         (owner / 256 % 256) as u8,
+        (group % 256) as u8,
+        (group / 256 % 256) as u8,
         (bits % 256) as u8,
+        (bits / 256 % 256) as u8,
         (label % 256) as u8,
         (length % 256) as u8,
         (length / 256 % 256) as u8,
@@ -122,13 +126,13 @@ fn stat_bytes(f: [u32; 8]) -> [u8; 13]
 // How many bytes stat's fields are: none for an answer without fields.
 fn fields_length(f: [u32; 8]) -> usize
     ensures is { λ r. ⌜ r ≡ length (fieldBytes f) ⌝ }
-    ensures few { λ r. ⌜ r ≤ 13 ⌝ }
+    ensures few { λ r. ⌜ r ≤ 16 ⌝ }
 {
     let none = f[0] == 0;
     if none {
         return 0;
     }
-    13
+    16
 }
 
 fn write_fields(out: &mut [u8], at: usize, f: [u32; 8]) -> usize
@@ -208,7 +212,7 @@ fn name_length(name: [u8; 16], n: u32) -> usize
 // How many bytes an answer has beside its numbers.
 fn data_length(a: Answer, buffer: &[u8]) -> usize
     ensures is { λ r. ⌜ r ≡ length (dataOf a (now (buffer .entry))) ⌝ }
-    ensures few { λ r. ⌜ r ≤ 4294967324 ⌝ }
+    ensures few { λ r. ⌜ r ≤ 4294967327 ⌝ }
 {
     let name = a.name;
     let fields = a.fields;

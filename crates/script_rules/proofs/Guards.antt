@@ -154,8 +154,8 @@ larger-read = refl
 reply : (value names : ℕ) (name fields : List ℕ) → Answer
 reply value names name fields = record { refusal = 0; stop = 7; value = value; «name_length» = names; name = name; fields = fields }
 
--- "kind 1, owner 2, bits 1, label 1, length 2, names 2, stamp 4 bytes, little end first"
-stat-bytes : answerText (reply 0 0 (replicate 16 0) (1 ∷ 258 ∷ 3 ∷ 4 ∷ 512 ∷ 772 ∷ 16909060 ∷ 0 ∷ [])) [] ≡ bytes "answer=0\nvalue=0\ndata=01020103040002040304030201\n"
+-- "kind 1, owner 2, .. label 1, length 2, names 2, stamp 4 bytes, little end first"; group 2 after owner, bits 2
+stat-bytes : answerText (reply 0 0 (replicate 16 0) (1 ∷ 258 ∷ 515 ∷ 259 ∷ 4 ∷ 512 ∷ 772 ∷ 16909060 ∷ [])) [] ≡ bytes "answer=0\nvalue=0\ndata=01020103020301040002040304030201\n"
 unfolding computing reply
 stat-bytes = refl
 

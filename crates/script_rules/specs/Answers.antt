@@ -4,20 +4,22 @@ use mathlib.Core.Bool.{Bool, true, false, cond}
 use mathlib.Core.List.{List, [], _∷_, _++_}
 use lib.Dec.{eqb}
 use lib.ListN.{length, getD, take}
-use Rattle.rules.specs.Layout.{FILE-KIND, FILE-OWNER, FILE-BITS, FILE-LABEL, FILE-LENGTH, FILE-LINKS, FILE-VERSION}
+use Rattle.rules.specs.Layout.{FILE-KIND, FILE-OWNER, FILE-GROUP, FILE-BITS, FILE-LABEL, FILE-LENGTH, FILE-LINKS, FILE-VERSION}
 use Rattle.rules.specs.declared.answer.Answer.{Answer}
 use Rattle.script_rules.specs.Text.{NEWLINE, decimal, hexOf, little}
 
--- "for stat, kind 1, owner 2, bits 1, label 1, length 2, names 2, stamp 4 bytes, little end first"
+-- "for stat, kind 1, owner 2, .. label 1, length 2, names 2, stamp 4 bytes, little end first"; and by R-4 "two for bits instead of one, and two for
+-- the group after owner"
 unfoldable pub statBytes : List ℕ → List ℕ
 statBytes f =
     little 1 (getD f FILE-KIND 0)
     ++ (little 2 (getD f FILE-OWNER 0)
-    ++ (little 1 (getD f FILE-BITS 0)
+    ++ (little 2 (getD f FILE-GROUP 0)
+    ++ (little 2 (getD f FILE-BITS 0)
     ++ (little 1 (getD f FILE-LABEL 0)
     ++ (little 2 (getD f FILE-LENGTH 0)
     ++ (little 2 (getD f FILE-LINKS 0)
-    ++ little 4 (getD f FILE-VERSION 0))))))
+    ++ little 4 (getD f FILE-VERSION 0)))))))
 
 -- of an answer with fields; a file's kind is never 0
 unfoldable pub fieldBytes : List ℕ → List ℕ

@@ -158,7 +158,7 @@ module _ (Q : List ℕ) (v : View) (b : Based v) (c : Call) where
   own-fit _ (passed.duplicates h i) = (silent, duplicated _ _ _ (ltb-true _ _ i))
   own-fit _ (passed.forks q) = (silent, forked _ _ refl)
   own-fit _ passed.exits = (silent, exited)
-  own-fit _ (passed.executes at w p a) = (silent, relabelled (at .slot .0) _ refl)
+  own-fit _ (passed.executes at w p b l) = (silent, relabelled (at .slot .0) _ refl)
 
   pub decide-fit : Fit (Grant Q v (c .process)) (decide Q v c)
   unfolding inUse

@@ -10,8 +10,10 @@ use crate::fields::is_word;
 use rules::ids::Fd;
 use rules::ids::Pid;
 use tables::layout::DESCRIPTORS;
+use tables::layout::GROUP_MAX;
 use tables::layout::LABEL_MAX;
 use tables::layout::OPEN_FILES;
+use tables::layout::PROCESS_GROUP;
 use tables::layout::PROCESS_LABEL;
 use tables::layout::PROCESS_USED;
 use tables::layout::PROCESS_USER;
@@ -66,6 +68,9 @@ fn subject_free(processes: &[u32], p: Pid) -> bool
     if !is_word(processes, PROCESS_WIDTH * (p.0 as usize) + PROCESS_USER, 0) {
         return false;
     }
+    if !is_word(processes, PROCESS_WIDTH * (p.0 as usize) + PROCESS_GROUP, 0) {
+        return false;
+    }
     is_word(processes, PROCESS_WIDTH * (p.0 as usize) + PROCESS_LABEL, 0)
 }
 
@@ -83,6 +88,9 @@ fn subject_sound(processes: &[u32], p: Pid) -> bool
 {
     let at = PROCESS_WIDTH * (p.0 as usize);
     if !at_most(processes, at + PROCESS_USER, USER_MAX) {
+        return false;
+    }
+    if !at_most(processes, at + PROCESS_GROUP, GROUP_MAX) {
         return false;
     }
     at_most(processes, at + PROCESS_LABEL, LABEL_MAX)

@@ -1,11 +1,12 @@
-// The file table, a record of 7 words for each slot, and the contents, 512 bytes a slot.
+// The file table, a record of 8 words for each slot, and the contents, 512 bytes a slot.
 ghost use mathlib.Core.Path.{_≡_};
 ghost use lib.Dec.{eqb};
-ghost use Rattle.rules.specs.Layout.{FILE-WIDTH, FILE-KIND, FILE-OWNER, FILE-BITS, FILE-LABEL, FILE-LENGTH, FILE-LINKS, FILE-VERSION, FREE, PLAIN, DIRECTORY};
+ghost use Rattle.rules.specs.Layout.{FILE-WIDTH, FILE-KIND, FILE-OWNER, FILE-GROUP, FILE-BITS, FILE-LABEL, FILE-LENGTH, FILE-LINKS, FILE-VERSION, FREE, PLAIN, DIRECTORY};
 ghost use Rattle.rules.specs.Store.{tab, bitsAt, block, hidden, shownOf, recordOf};
 use crate::layout::BLOCK;
 use crate::layout::DIRECTORY;
 use crate::layout::FILE_BITS;
+use crate::layout::FILE_GROUP;
 use crate::layout::FILE_KIND;
 use crate::layout::FILE_LABEL;
 use crate::layout::FILE_LENGTH;
@@ -32,6 +33,12 @@ pub fn owner(files: &[u32], s: Slot) -> u32
     ensures { λ r. ⌜ r ≡ tab FILE-WIDTH (now (files .entry)) (s .0) FILE-OWNER ⌝ }
 {
     get(files, FILE_WIDTH * (s.0 as usize) + FILE_OWNER)
+}
+
+pub fn group(files: &[u32], s: Slot) -> u32
+    ensures { λ r. ⌜ r ≡ tab FILE-WIDTH (now (files .entry)) (s .0) FILE-GROUP ⌝ }
+{
+    get(files, FILE_WIDTH * (s.0 as usize) + FILE_GROUP)
 }
 
 pub fn bits(files: &[u32], s: Slot) -> Bits
@@ -70,6 +77,7 @@ pub fn record(files: &[u32], s: Slot) -> Record
     Record {
         kind: kind(files, s),
         owner: owner(files, s),
+        group: group(files, s),
         bits: bits(files, s),
         label: label(files, s),
         length: length(files, s),

@@ -31,23 +31,25 @@ pub const NAMES: u8 = 8;
 pub const PATH: usize = 64;
 
 // A file's record: how many words it has, and their columns.
-pub const FILE_WIDTH: usize = 7;
+pub const FILE_WIDTH: usize = 8;
 
 pub const FILE_KIND: usize = 0;
 
 pub const FILE_OWNER: usize = 1;
 
-pub const FILE_BITS: usize = 2;
+pub const FILE_GROUP: usize = 2;
 
-pub const FILE_LABEL: usize = 3;
+pub const FILE_BITS: usize = 3;
 
-pub const FILE_LENGTH: usize = 4;
+pub const FILE_LABEL: usize = 4;
+
+pub const FILE_LENGTH: usize = 5;
 
 // How many directory entries name it (the paper's names).
-pub const FILE_LINKS: usize = 5;
+pub const FILE_LINKS: usize = 6;
 
 // The paper's stamp.
-pub const FILE_VERSION: usize = 6;
+pub const FILE_VERSION: usize = 7;
 
 // Kinds.
 pub const FREE: u32 = 0;
@@ -69,16 +71,18 @@ pub const OPEN_OFFSET: usize = 2;
 pub const OPEN_REFERENCES: usize = 3;
 
 // A process: how many words it has, how many of them are its own, and their columns. Its descriptors follow.
-pub const PROCESS_WIDTH: usize = 11;
+pub const PROCESS_WIDTH: usize = 12;
 
-pub const PROCESS_DESCRIPTOR: usize = 3;
+pub const PROCESS_DESCRIPTOR: usize = 4;
 
 pub const PROCESS_USED: usize = 0;
 
 pub const PROCESS_USER: usize = 1;
 
+pub const PROCESS_GROUP: usize = 2;
+
 // A process's label.
-pub const PROCESS_LABEL: usize = 2;
+pub const PROCESS_LABEL: usize = 3;
 
 // No transition.
 pub const NO_TRANSITION: u32 = 255;
@@ -87,6 +91,8 @@ pub const NO_TRANSITION: u32 = 255;
 pub const KIND_MAX: u32 = 2;
 
 pub const USER_MAX: u32 = 65535;
+
+pub const GROUP_MAX: u32 = 65535;
 
 pub const LABEL_MAX: u32 = 15;
 

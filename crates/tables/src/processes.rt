@@ -1,9 +1,10 @@
-// The processes, 8 records of 11 words: in use, user, label, 8 descriptors.
+// The processes, 8 records of 12 words: in use, user, group, label, 8 descriptors.
 ghost use mathlib.Core.Path.{_≡_};
-ghost use Rattle.rules.specs.Layout.{PROCESS-USED, PROCESS-USER, PROCESS-LABEL};
+ghost use Rattle.rules.specs.Layout.{PROCESS-USED, PROCESS-USER, PROCESS-GROUP, PROCESS-LABEL};
 ghost use Rattle.rules.specs.Store.{procOf, descOf, subjectOf};
 use crate::layout::DESCRIPTORS;
 use crate::layout::PROCESS_DESCRIPTOR;
+use crate::layout::PROCESS_GROUP;
 use crate::layout::PROCESS_LABEL;
 use crate::layout::PROCESS_USED;
 use crate::layout::PROCESS_USER;
@@ -25,6 +26,12 @@ pub fn user(processes: &[u32], p: Pid) -> u32
     get(processes, PROCESS_WIDTH * (p.0 as usize) + PROCESS_USER)
 }
 
+pub fn group(processes: &[u32], p: Pid) -> u32
+    ensures { λ r. ⌜ r ≡ procOf (now (processes .entry)) (p .0) PROCESS-GROUP ⌝ }
+{
+    get(processes, PROCESS_WIDTH * (p.0 as usize) + PROCESS_GROUP)
+}
+
 pub fn label(processes: &[u32], p: Pid) -> u32
     ensures { λ r. ⌜ r ≡ procOf (now (processes .entry)) (p .0) PROCESS-LABEL ⌝ }
 {
@@ -37,6 +44,7 @@ pub fn subject(processes: &[u32], p: Pid) -> Subject
 {
     Subject {
         user: user(processes, p),
+        group: group(processes, p),
         label: label(processes, p),
     }
 }

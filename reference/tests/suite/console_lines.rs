@@ -1,6 +1,6 @@
 //! The lines of "The test console", each from a fresh console.
 
-use crate::console::{Console, FREE};
+use crate::console::{Console, FILE_BITS, FREE};
 use crate::steps::{no, stopped};
 
 #[test]
@@ -52,7 +52,7 @@ fn only_owner_and_user_0_change_bits() {
     let mut console = Console::new();
     assert_eq!(console.change_bits(2, "/fares/now", 6), no(9));
     assert_eq!(console.change_bits(0, "/fares/now", 6), Ok(0));
-    assert_eq!(console.file(2)[2], 6);
+    assert_eq!(console.file(2)[FILE_BITS], 6);
 }
 
 #[test]
@@ -68,10 +68,10 @@ fn a_walk_says_where_it_stopped() {
 #[test]
 fn a_gap_is_filled_with_0() {
     let mut console = Console::new();
-    assert_eq!(console.create(1, "/fares/x", 0), Ok(4));
-    assert_eq!(console.open(1, "/fares/x", 2), Ok(0));
-    assert_eq!(console.seek(1, 0, 3), Ok(3));
-    assert_eq!(console.write(1, 0, b"A"), Ok(1));
+    assert_eq!(console.create(0, "/fares/x", 7), Ok(4));
+    assert_eq!(console.open(0, "/fares/x", 2), Ok(0));
+    assert_eq!(console.seek(0, 0, 3), Ok(3));
+    assert_eq!(console.write(0, 0, b"A"), Ok(1));
     assert_eq!(console.length(4), 4);
     assert_eq!(console.bytes(4), [0, 0, 0, 65]);
 }
@@ -99,11 +99,11 @@ fn paths_of_8_and_9_names() {
     let mut path = String::from("/fares");
     for slot in 4..11 {
         path.push_str("/d");
-        assert_eq!(console.make_directory(1, &path, 7), Ok(slot));
+        assert_eq!(console.make_directory(1, &path, 0o700), Ok(slot));
     }
     assert_eq!(console.stat(1, &path).map(|fields| fields[0]), Ok(2));
     path.push_str("/d");
-    assert_eq!(console.make_directory(1, &path, 7), no(3));
+    assert_eq!(console.make_directory(1, &path, 0o700), no(3));
     assert_eq!(console.stat(1, &path), Err((3, 0)));
 }
 

@@ -1,6 +1,6 @@
 //! What the calls on descriptors do.
 
-use crate::console::{request, Console};
+use crate::console::{request, Console, PROCESS_DESCRIPTOR};
 use crate::steps::no;
 use reference::Request;
 
@@ -18,7 +18,7 @@ fn close_drops_the_descriptor_and_then_the_open_file() {
     assert_eq!(console.open_file(0), [2, 1, 0, 2]);
     assert_eq!(console.close(1, 0), Ok(0));
     assert_eq!(console.open_file(0), [2, 1, 0, 1]);
-    assert_eq!(console.process(1)[3..5], [0, 1]);
+    assert_eq!(console.process(1)[PROCESS_DESCRIPTOR..][..2], [0, 1]);
     assert_eq!(console.close(1, 1), Ok(0));
     assert_eq!(console.open_file(0), [0, 0, 0, 0]);
     assert_eq!(console.close(1, 1), no(4));

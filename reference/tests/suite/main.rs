@@ -1,8 +1,11 @@
 //! The store, tested through its public functions alone.
 
+mod bits;
+mod classes;
 mod console;
 mod console_lines;
 mod descriptor_calls;
+mod groups;
 mod mistakes;
 mod path_calls;
 mod paths;

@@ -6,22 +6,22 @@ use crate::steps::{no, stopped};
 #[test]
 fn create_makes_an_empty_file_of_the_caller() {
     let mut console = Console::new();
-    console.files[7 + 3] = 9; // the label of /fares
+    console.set_label(1, 9);
     console.policy[16 + 9] = 7;
     console.set_version(4, 77);
-    assert_eq!(console.create(1, "/fares/x", 6), Ok(4));
-    assert_eq!(console.file(4), [PLAIN, 10, 6, 9, 0, 1, 77]);
+    assert_eq!(console.create(1, "/fares/x", 0o766), Ok(4));
+    assert_eq!(console.file(4), [PLAIN, 10, 1, 0o766, 9, 0, 1, 77]);
     assert_eq!(console.stat(1, "/fares/x"), Ok(console.file(4)));
-    assert_eq!(console.file(1), [DIRECTORY, 10, 5, 9, 2, 1, 1]);
+    assert_eq!(console.file(1), [DIRECTORY, 10, 1, 0o755, 9, 2, 1, 1]);
 }
 
 #[test]
 fn make_directory_makes_an_empty_directory() {
     let mut console = Console::new();
-    assert_eq!(console.make_directory(0, "/d", 5), Ok(4));
-    assert_eq!(console.file(4), [DIRECTORY, 0, 5, 0, 0, 1, 0]);
+    assert_eq!(console.make_directory(0, "/d", 0o755), Ok(4));
+    assert_eq!(console.file(4), [DIRECTORY, 0, 1, 0o755, 0, 0, 1, 0]);
     assert_eq!(console.create(0, "/d/x", 0), Ok(5));
-    assert_eq!(console.file(4), [DIRECTORY, 0, 5, 0, 1, 1, 1]);
+    assert_eq!(console.file(4), [DIRECTORY, 0, 1, 0o755, 0, 1, 1, 1]);
 }
 
 #[test]
@@ -45,20 +45,20 @@ fn unlink_takes_one_name_and_the_last_frees() {
     let mut console = Console::new();
     assert_eq!(console.link(1, "/fares/now", "/fares/x"), Ok(0));
     assert_eq!(console.unlink(1, "/fares/now"), Ok(0));
-    assert_eq!(console.file(2), [PLAIN, 10, 4, 0, 5, 1, 0]);
+    assert_eq!(console.file(2), [PLAIN, 10, 1, 0o744, 0, 5, 1, 0]);
     assert_eq!(console.unlink(1, "/fares/x"), Ok(0));
-    assert_eq!(console.file(2), [FREE, 0, 0, 0, 0, 0, 1]);
+    assert_eq!(console.file(2), [FREE, 0, 0, 0, 0, 0, 0, 1]);
     assert!(console.block(2).iter().all(|&byte| byte == 0));
-    assert_eq!(console.file(1), [DIRECTORY, 10, 5, 0, 0, 1, 3]);
+    assert_eq!(console.file(1), [DIRECTORY, 10, 1, 0o755, 0, 0, 1, 3]);
 }
 
 #[test]
 fn a_removed_directory_is_freed_at_once() {
     let mut console = Console::new();
-    assert_eq!(console.make_directory(1, "/fares/d", 5), Ok(4));
+    assert_eq!(console.make_directory(1, "/fares/d", 0o755), Ok(4));
     assert_eq!(console.remove_directory(1, "/fares/d"), Ok(0));
-    assert_eq!(console.file(4), [FREE, 0, 0, 0, 0, 0, 1]);
-    assert_eq!(console.file(1), [DIRECTORY, 10, 5, 0, 1, 1, 2]);
+    assert_eq!(console.file(4), [FREE, 0, 0, 0, 0, 0, 0, 1]);
+    assert_eq!(console.file(1), [DIRECTORY, 10, 1, 0o755, 0, 1, 1, 2]);
     assert_eq!(console.create(1, "/fares/x", 0), Ok(4));
     assert_eq!(console.version(4), 1);
 }
@@ -75,7 +75,7 @@ fn a_link_needs_a_directory_entry_and_no_slot() {
     for slot in 4..SLOTS {
         let number = slot - 4;
         let made = match DIRECTORIES[1..].get(number) {
-            Some(directory) => console.make_directory(1, directory, 7),
+            Some(directory) => console.make_directory(1, directory, 0o700),
             None => console.create(1, &format!("{}/{slot}", DIRECTORIES[number / 15]), 0),
         };
         assert_eq!(made, Ok(slot as u32));
@@ -116,12 +116,12 @@ fn names_are_listed_in_byte_order() {
 #[test]
 fn the_root_is_listed_without_searching_it() {
     let mut console = Console::new();
-    console.files[2] = 4;
+    console.set_bits(0, 0o744);
     assert_eq!(console.list(2, "/", 0), Ok(Some(b"fares".to_vec())));
     assert_eq!(console.list(2, "/", 1), Ok(Some(b"key".to_vec())));
     assert_eq!(console.list(2, "/", 2), Ok(None));
     assert_eq!(console.list(2, "/fares", 0), Err((9, 1)));
-    console.files[2] = 1;
+    console.set_bits(0, 0o711);
     assert_eq!(console.list(2, "/", 0), Err((9, 0)));
     assert!(console.list(2, "/fares", 0).is_ok());
 }
@@ -129,7 +129,7 @@ fn the_root_is_listed_without_searching_it() {
 #[test]
 fn a_name_of_14_bytes_is_listed_whole() {
     let mut console = Console::new();
-    assert_eq!(console.make_directory(1, "/fares/d", 5), Ok(4));
+    assert_eq!(console.make_directory(1, "/fares/d", 0o755), Ok(4));
     assert_eq!(console.create(1, "/fares/d/12345678901234", 0), Ok(5));
     let name = b"12345678901234".to_vec();
     assert_eq!(console.list(1, "/fares/d", 0), Ok(Some(name)));
@@ -139,19 +139,21 @@ fn a_name_of_14_bytes_is_listed_whole() {
 fn change_bits_asks_for_label_write_and_not_the_bits() {
     let mut console = Console::new();
     assert_eq!(console.change_bits(1, "/key", 7), Ok(0));
-    assert_eq!(console.file(3), [PLAIN, 10, 7, 3, 4, 1, 0]);
+    assert_eq!(console.file(3), [PLAIN, 10, 1, 7, 3, 4, 1, 0]);
     assert_eq!(console.change_bits(0, "/key", 7), no(10));
     assert_eq!(console.change_bits(2, "/key", 7), no(9));
     assert_eq!(console.change_bits(0, "/", 0), Ok(0));
-    assert_eq!(console.file(0), [DIRECTORY, 0, 0, 0, 2, 0, 0]);
-    assert_eq!(console.change_bits(1, "/", 5), no(9));
+    assert_eq!(console.file(0), [DIRECTORY, 0, 1, 0, 0, 2, 0, 0]);
+    assert_eq!(console.change_bits(1, "/", 0o755), no(9));
 }
 
 #[test]
 fn stat_asks_for_no_right_on_the_file() {
     let mut console = Console::new();
-    assert_eq!(console.stat(2, "/key"), Ok([PLAIN, 10, 0, 3, 4, 1, 0]));
-    assert_eq!(console.stat(2, "/"), Ok([DIRECTORY, 0, 5, 0, 2, 0, 0]));
+    let key = [PLAIN, 10, 1, 0o700, 3, 4, 1, 0];
+    assert_eq!(console.stat(2, "/key"), Ok(key));
+    let root = [DIRECTORY, 0, 1, 0o755, 0, 2, 0, 0];
+    assert_eq!(console.stat(2, "/"), Ok(root));
 }
 
 #[test]
@@ -160,12 +162,12 @@ fn open_wants_the_rights_of_its_mode() {
         for rights in 0..8 {
             let enough = rights & wanted == wanted;
             let mut console = Console::open_policy();
-            console.files[7 * 2 + 2] = rights;
+            console.set_bits(2, 0o700 + 0o11 * rights);
             let expected = if enough { Ok(0) } else { no(9) };
             assert_eq!(console.open(2, "/fares/now", mode), expected);
 
             let mut console = Console::new();
-            console.files[7 * 3 + 2] = 7;
+            console.set_bits(3, 0o777);
             console.policy[16 * 2 + 3] = rights as u8;
             let expected = if enough { Ok(0) } else { no(10) };
             assert_eq!(console.open(2, "/key", mode), expected);
@@ -197,15 +199,15 @@ fn truncating_leaves_other_open_files_offsets() {
 #[test]
 fn search_is_asked_by_bits_then_by_label_in_every_directory() {
     let mut console = Console::new();
-    console.files[2] = 4; // the root's bits
+    console.set_bits(0, 0o744);
     assert_eq!(console.stat(2, "/fares/now"), Err((9, 1)));
     assert_eq!(console.create(2, "/x", 0), stopped(9, 1));
-    console.files[2] = 1;
+    console.set_bits(0, 0o711);
     assert!(console.stat(2, "/fares/now").is_ok());
-    console.files[7 + 2] = 6; // those of /fares
+    console.set_bits(1, 0o766);
     assert_eq!(console.stat(2, "/fares/none"), Err((9, 2)));
     assert!(console.stat(1, "/fares/now").is_ok());
-    console.files[7 + 3] = 3; // the label of /fares
+    console.set_label(1, 3);
     assert_eq!(console.stat(0, "/fares/none"), Err((10, 2)));
     assert_eq!(console.create(0, "/fares/now", 0), stopped(10, 2));
     assert_eq!(console.unlink(2, "/fares/now"), stopped(9, 2));

@@ -1,10 +1,10 @@
 //! What fork, exit and execute do.
 
-use crate::console::{Console, FREE};
+use crate::console::{Console, FREE, PROCESS_WIDTH};
 use crate::steps::no;
 
 #[test]
-fn a_child_has_the_same_user_label_and_open_files() {
+fn a_child_has_the_same_user_group_label_and_open_files() {
     let mut console = Console::new();
     assert_eq!(console.open(1, "/fares/now", 3), Ok(0));
     assert_eq!(console.duplicate(1, 0), Ok(1));
@@ -12,7 +12,7 @@ fn a_child_has_the_same_user_label_and_open_files() {
     assert_eq!(console.close(1, 0), Ok(0));
     assert_eq!(console.fork(1), Ok(3));
     assert_eq!(console.process(3), console.process(1));
-    assert_eq!(console.process(3), [1, 10, 1, 0, 1, 2, 0, 0, 0, 0, 0]);
+    assert_eq!(console.process(3), [1, 10, 1, 1, 0, 1, 2, 0, 0, 0, 0, 0]);
     assert_eq!(console.open_file(0), [2, 3, 0, 2]);
     assert_eq!(console.open_file(1), [3, 2, 0, 2]);
 }
@@ -28,7 +28,7 @@ fn a_child_is_the_lowest_free_process() {
     assert_eq!(console.exit(0), Ok(0));
     assert_eq!(console.fork(2), Ok(0));
     assert_eq!(console.fork(0), Ok(5));
-    assert_eq!(console.process(0)[..3], [1, 20, 2]);
+    assert_eq!(console.process(0)[..4], [1, 20, 1, 2]);
 }
 
 #[test]
@@ -39,9 +39,9 @@ fn exit_closes_all_and_frees_the_process() {
     assert_eq!(console.open(1, "/fares/now", 2), Ok(2));
     assert_eq!(console.unlink(1, "/fares/now"), Ok(0));
     assert_eq!(console.exit(1), Ok(0));
-    assert_eq!(console.process(1), [0; 11]);
+    assert_eq!(console.process(1), [0; PROCESS_WIDTH]);
     assert!(console.open_files.iter().all(|&word| word == 0));
-    assert_eq!(console.file(2), [FREE, 0, 0, 0, 0, 0, 1]);
+    assert_eq!(console.file(2), [FREE, 0, 0, 0, 0, 0, 0, 1]);
     assert_eq!(console.exit(1), no(2));
 }
 
@@ -69,11 +69,11 @@ fn all_processes_may_exit() {
 #[test]
 fn execute_moves_the_label_by_the_transition() {
     let mut console = Console::new();
-    console.files[7 * 2 + 2] = 1; // the bits of /fares/now
+    console.set_bits(2, 0o711);
     console.policy[256 + 16 * 2] = 9;
     assert_eq!(console.open(2, "/fares/now", 1), no(9));
     assert_eq!(console.execute(2, "/fares/now"), Ok(0));
-    assert_eq!(console.process(2)[..3], [1, 20, 9]);
+    assert_eq!(console.process(2)[..4], [1, 20, 1, 9]);
     assert_eq!(console.stat(2, "/fares"), Err((10, 1)));
 }
 
@@ -82,19 +82,19 @@ fn execute_without_a_transition_leaves_the_label() {
     let mut console = Console::new();
     console.policy[256 + 16] = 0; // from 1, where the caller has 2
     console.policy[256 + 16 * 2 + 1] = 0; // by 1, where the file has 0
-    console.files[7 * 2 + 2] = 1;
+    console.set_bits(2, 0o711);
     let before = console.clone();
     assert_eq!(console.execute(2, "/fares/now"), Ok(0));
     assert_eq!(console, before);
 }
 
 #[test]
-fn execute_leaves_user_and_descriptors() {
+fn execute_leaves_user_group_and_descriptors() {
     let mut console = Console::new();
     console.policy[256 + 16] = 2;
     assert_eq!(console.open(1, "/fares/now", 3), Ok(0));
     assert_eq!(console.execute(1, "/fares/now"), Ok(0));
-    assert_eq!(console.process(1), [1, 10, 2, 1, 0, 0, 0, 0, 0, 0, 0]);
+    assert_eq!(console.process(1), [1, 10, 1, 2, 1, 0, 0, 0, 0, 0, 0, 0]);
     assert_eq!(console.write(1, 0, b"3"), Ok(1));
 }
 

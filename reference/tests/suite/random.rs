@@ -1,6 +1,6 @@
 //! Many calls by chance: what holds of every call must hold of each of them.
 
-use crate::console::{Console, SLOTS};
+use crate::console::{Console, FILE_WIDTH, PROCESS_WIDTH, SLOTS};
 use reference::Request;
 
 const NAMES: [&str; 5] = ["now", "key", "a", "b", "c"];
@@ -47,7 +47,7 @@ impl Chance {
         let number = match call {
             _ if self.one_in(20) => self.below(65_536),
             1 => MODES[self.below(MODES.len())],
-            2 | 3 | 8 => self.below(8),
+            2 | 3 | 8 => self.below(512),
             13 => self.below(514),
             _ => self.below(5),
         };
@@ -80,6 +80,7 @@ fn sound_stores_stay_sound() {
             Console::open_policy()
         };
         console.policy[256..272].copy_from_slice(&[1; 16]);
+        console.set_group(2, round % 3);
         for _ in 0..400 {
             let mut request = chance.request();
             if request.call == 16 && !chance.one_in(20) {
@@ -130,10 +131,10 @@ fn damage(console: &mut Console, chance: &mut Chance) {
         _ => chance.below(5) as u32,
     };
     match chance.below(5) {
-        0 => console.files[chance.below(SLOTS * 7)] = word,
+        0 => console.files[chance.below(SLOTS * FILE_WIDTH)] = word,
         1 => console.contents[chance.below(4 * 512)] = word as u8,
         2 => console.open_files[chance.below(32 * 4)] = word,
-        3 => console.processes[chance.below(8 * 11)] = word,
+        3 => console.processes[chance.below(8 * PROCESS_WIDTH)] = word,
         _ => console.policy[chance.below(512)] = word as u8,
     }
 }

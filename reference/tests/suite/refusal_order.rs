@@ -1,6 +1,6 @@
 //! Which refusal is given where several hold.
 
-use crate::console::{request, Console};
+use crate::console::{request, Console, FILE_KIND};
 use crate::steps::{no, outcome, stopped};
 use reference::Request;
 
@@ -9,7 +9,7 @@ fn unsound_then_no_process_then_malformed() {
     let mut console = Console::new();
     let answer = console.raw(request(9, 99), b"", b"", &mut []);
     assert_eq!(outcome(&answer), no(2));
-    console.files[0] = 3;
+    console.set_field(0, FILE_KIND, 3);
     let answer = console.raw(request(9, 99), b"", b"", &mut []);
     assert_eq!(outcome(&answer), no(1));
 }
@@ -20,8 +20,8 @@ fn malformed_before_anything_about_the_store() {
     assert_eq!(console.seek(1, 0, 513), no(3)); // nothing held
     assert_eq!(console.seek(1, 200, 513), no(3));
     assert_eq!(console.open(1, "/none", 9), no(3));
-    assert_eq!(console.create(1, "/fares/now", 8), no(3));
-    assert_eq!(console.change_bits(1, "/none", 8), no(3));
+    assert_eq!(console.create(1, "/fares/now", 512), no(3));
+    assert_eq!(console.change_bits(1, "/none", 512), no(3));
     assert_eq!(console.link(1, "/none", "/fares/"), no(3));
     assert_eq!(console.link(1, "/none", "/"), no(3));
     assert_eq!(console.open(1, "/none", 1), stopped(6, 1));
@@ -50,14 +50,14 @@ fn not_held_before_no_free_descriptor() {
 #[test]
 fn a_directory_is_judged_kind_bits_label_name() {
     let mut console = Console::new();
-    console.files[7 * 3 + 2] = 0; // /key: plain, no bits, a forbidding label
+    console.set_bits(3, 0o700); // /key: plain, no bits for 2, a forbidding label
     assert_eq!(console.open(2, "/key/x", 1), stopped(7, 2));
-    console.files[7 + 2] = 4; // /fares may not be searched by bits
-    console.files[7 + 3] = 3; // nor by label
+    console.set_bits(1, 0o744); // /fares may not be searched by bits
+    console.set_label(1, 3); // nor by label
     assert_eq!(console.open(2, "/fares/none", 1), stopped(9, 2));
-    console.files[7 + 2] = 5;
+    console.set_bits(1, 0o755);
     assert_eq!(console.open(2, "/fares/none", 1), stopped(10, 2));
-    console.files[7 + 3] = 0;
+    console.set_label(1, 0);
     assert_eq!(console.open(2, "/fares/none", 1), stopped(6, 2));
 }
 
@@ -70,7 +70,7 @@ fn open_goes_walk_kind_bits_label_room() {
     assert_eq!(console.open(2, "/fares/none", 2), stopped(6, 2));
     assert_eq!(console.open(2, "/fares", 2), no(8));
     assert_eq!(console.open(2, "/key", 2), no(9));
-    console.files[7 * 3 + 2] = 7;
+    console.set_bits(3, 0o777);
     assert_eq!(console.open(2, "/key", 2), no(10));
     console.policy[16 * 2 + 3] = 2;
     assert_eq!(console.open(2, "/key", 2), no(13));
@@ -86,11 +86,11 @@ fn create_goes_walk_name_bits_label_room() {
         let make = |console: &mut Console, path: &[u8]| {
             outcome(&console.call(request(2, call), path, b"", &mut []))
         };
-        console.files[7 + 2] = 5;
+        console.set_bits(1, 0o755);
         assert_eq!(make(&mut console, b"/fares/now/x"), stopped(7, 3));
         assert_eq!(make(&mut console, b"/fares/now"), no(11));
         assert_eq!(make(&mut console, b"/fares/x"), no(9));
-        console.files[7 + 2] = 7;
+        console.set_bits(1, 0o777);
         assert_eq!(make(&mut console, b"/fares/x"), no(10));
         console.policy[16 * 2] = 7;
         assert_eq!(make(&mut console, b"/fares/x"), no(13));
@@ -101,11 +101,11 @@ fn create_goes_walk_name_bits_label_room() {
 #[test]
 fn unlink_goes_walk_kind_bits_label() {
     let mut console = Console::new();
-    assert_eq!(console.make_directory(1, "/fares/d", 5), Ok(4));
+    assert_eq!(console.make_directory(1, "/fares/d", 0o755), Ok(4));
     assert_eq!(console.unlink(2, "/fares/x"), stopped(6, 2));
     assert_eq!(console.unlink(2, "/fares/d"), no(8));
     assert_eq!(console.unlink(2, "/fares/now"), no(9));
-    console.files[7 + 2] = 7;
+    console.set_bits(1, 0o777);
     assert_eq!(console.unlink(2, "/fares/now"), no(10));
 }
 
@@ -115,7 +115,7 @@ fn remove_directory_goes_walk_kind_bits_label_empty() {
     assert_eq!(console.remove_directory(2, "/x"), stopped(6, 1));
     assert_eq!(console.remove_directory(2, "/key"), no(8));
     assert_eq!(console.remove_directory(2, "/fares"), no(9));
-    console.files[2] = 7;
+    console.set_bits(0, 0o777);
     assert_eq!(console.remove_directory(2, "/fares"), no(10));
     console.policy[16 * 2] = 7;
     assert_eq!(console.remove_directory(2, "/fares"), no(12));
@@ -132,7 +132,7 @@ fn link_goes_old_kind_new_name_bits_label_room() {
     assert_eq!(console.link(2, "/fares/now", "/x/y"), stopped(6, 1));
     assert_eq!(console.link(2, "/fares/now", "/fares/now"), no(11));
     assert_eq!(console.link(2, "/fares/now", "/fares/x"), no(9));
-    console.files[7 + 2] = 7;
+    console.set_bits(1, 0o777);
     assert_eq!(console.link(2, "/fares/now", "/fares/x"), no(10));
     console.policy[16 * 2] = 7;
     assert_eq!(console.link(2, "/fares/now", "/fares/x"), no(13));
@@ -141,8 +141,8 @@ fn link_goes_old_kind_new_name_bits_label_room() {
 #[test]
 fn list_goes_walk_kind_bits_label() {
     let mut console = Console::new();
-    console.files[7 + 2] = 0;
-    console.files[7 + 3] = 3;
+    console.set_bits(1, 0o700);
+    console.set_label(1, 3);
     assert_eq!(console.list(2, "/x", 0), Err((6, 1)));
     assert_eq!(console.list(2, "/key", 0), Err((8, 0)));
     assert_eq!(console.list(2, "/fares", 0), Err((9, 0)));

@@ -1,25 +1,25 @@
 //! Each refusal, in the calls that can give it.
 
-use crate::console::{request, Console, SLOTS};
+use crate::console::{request, Console, FILE_LENGTH, FILE_WIDTH, PROCESS_WIDTH, SLOTS};
 use crate::steps::{no, outcome, stopped};
 use reference::Request;
 
 #[test]
 fn refusal_1_for_tables_of_another_size() {
     let resized: [fn(&mut Console); 11] = [
-        |console| console.files.truncate(SLOTS * 7 - 1),
+        |console| console.files.truncate(SLOTS * FILE_WIDTH - 1),
         |console| console.files.push(0),
         |console| console.contents.truncate(SLOTS * 512 - 1),
         |console| console.contents.push(0),
         |console| console.open_files.truncate(127),
         |console| console.open_files.push(0),
-        |console| console.processes.truncate(87),
+        |console| console.processes.truncate(8 * PROCESS_WIDTH - 1),
         |console| console.processes.push(0),
         |console| console.policy.truncate(511),
         |console| console.policy.push(255),
         |console| {
             // All that a store of 64 slots has.
-            console.files.truncate(64 * 7);
+            console.files.truncate(64 * FILE_WIDTH);
             console.contents.truncate(64 * 512);
         },
     ];
@@ -39,7 +39,7 @@ fn refusal_1_for_tables_of_another_size() {
 #[test]
 fn refusal_1_for_whole_records_too_many_or_too_few() {
     let mut console = Console::new();
-    console.files.extend([0; 7]);
+    console.files.extend([0; FILE_WIDTH]);
     console.contents.extend([0; 512]);
     let answer = console.raw(request(0, 15), b"", b"", &mut []);
     assert_eq!(outcome(&answer), no(1));
@@ -56,7 +56,7 @@ fn refusal_1_for_whole_records_too_many_or_too_few() {
 #[test]
 fn refusal_1_for_an_unsound_store_and_an_unsound_policy() {
     let mut console = Console::new();
-    console.files[7 * 2 + 4] = 513;
+    console.set_field(2, FILE_LENGTH, 513);
     let before = console.clone();
     let answer = console.raw(request(2, 9), b"/fares/now", b"", &mut []);
     assert_eq!(outcome(&answer), no(1));
@@ -101,15 +101,15 @@ fn refusal_3_for_unknown_modes() {
 }
 
 #[test]
-fn refusal_3_for_bits_over_7() {
-    for bits in [8, 255, 256, 65_535] {
+fn refusal_3_for_bits_over_511() {
+    for bits in [512, 513, 1024, 65_535] {
         let mut console = Console::new();
         assert_eq!(console.create(1, "/fares/x", bits), no(3));
         assert_eq!(console.make_directory(1, "/fares/x", bits), no(3));
         assert_eq!(console.change_bits(1, "/fares/now", bits), no(3));
     }
     let mut console = Console::new();
-    assert_eq!(console.change_bits(1, "/fares/now", 7), Ok(0));
+    assert_eq!(console.change_bits(1, "/fares/now", 511), Ok(0));
 }
 
 #[test]
@@ -227,7 +227,7 @@ fn refusal_9_where_bits_or_ownership_forbid() {
     assert_eq!(console.link(2, "/fares/now", "/fares/x"), no(9));
     assert_eq!(console.change_bits(2, "/fares/now", 0), no(9));
     assert_eq!(console.execute(2, "/fares/now"), no(9));
-    assert_eq!(console.change_bits(1, "/fares", 1), Ok(0));
+    assert_eq!(console.change_bits(1, "/fares", 0o711), Ok(0));
     assert_eq!(console.list(2, "/fares", 0), Err((9, 0)));
 }
 
@@ -235,7 +235,7 @@ fn refusal_9_where_bits_or_ownership_forbid() {
 fn refusal_10_where_the_label_forbids() {
     let mut console = Console::new();
     for slot in 0..4 {
-        console.files[7 * slot + 2] = 7;
+        console.set_bits(slot, 0o777);
     }
     assert_eq!(console.open(2, "/fares/now", 2), no(10));
     assert_eq!(console.create(2, "/fares/x", 0), no(10));
@@ -245,7 +245,7 @@ fn refusal_10_where_the_label_forbids() {
     assert_eq!(console.link(2, "/fares/now", "/fares/x"), no(10));
     assert_eq!(console.execute(2, "/key"), no(10));
     assert_eq!(console.change_bits(0, "/key", 0), no(10));
-    console.files[7 + 3] = 3; // the label of /fares
+    console.set_label(1, 3);
     assert_eq!(console.list(0, "/fares", 0), Err((10, 0)));
 }
 

@@ -1,6 +1,6 @@
 //! The answers of scripted calls.
 
-use crate::console::Console;
+use crate::console::{Console, FILE_GROUP, FILE_LENGTH, FILE_OWNER, PROCESS_WIDTH};
 use crate::script::{block, lines, script, Block};
 use reference::{Reason, Replayed};
 
@@ -48,7 +48,7 @@ fn the_longest_answer() {
     let mut console = Console::new();
     let bytes: Vec<u8> = (0..512).map(|byte| byte as u8).collect();
     console.set_bytes(2, &bytes);
-    console.files[7 * 2 + 4] = 512;
+    console.set_field(2, FILE_LENGTH, 512);
     console.scripted(open(2, "/fares/now", 1));
     let expected = lines(0, 512, &bytes);
     let script = read(2, 512).text();
@@ -84,20 +84,20 @@ fn a_listed_name() {
 }
 
 #[test]
-fn stat_is_13_bytes_little_end_first() {
+fn stat_is_16_bytes_little_end_first() {
     let mut console = Console::new();
     let mut stat = |path: &str| console.scripted(block(1, 9).path(path));
     assert_eq!(
         stat("/fares/now"),
-        "answer=0\nvalue=0\ndata=010a0004000500010000000000\n"
+        "answer=0\nvalue=0\ndata=010a000100e401000500010000000000\n"
     );
     assert_eq!(
         stat("/key"),
-        "answer=0\nvalue=0\ndata=010a0000030400010000000000\n"
+        "answer=0\nvalue=0\ndata=010a000100c001030400010000000000\n"
     );
     assert_eq!(
         stat("/"),
-        "answer=0\nvalue=0\ndata=02000005000200000000000000\n"
+        "answer=0\nvalue=0\ndata=0200000100ed01000200000000000000\n"
     );
     assert_eq!(stat("/no"), lines(6, 0, b""));
 }
@@ -105,25 +105,26 @@ fn stat_is_13_bytes_little_end_first() {
 #[test]
 fn the_widths_of_stat() {
     let mut console = Console::new();
-    console.files[7 * 2 + 1] = 0xfffe;
-    console.files[7 * 2 + 3] = 15;
+    console.set_field(2, FILE_OWNER, 0xfffe);
+    console.set_field(2, FILE_GROUP, 0xfdfc);
+    console.set_label(2, 15);
     console.policy[16 + 15] = 7;
     console.set_bytes(2, &[7; 512]);
-    console.files[7 * 2 + 4] = 0x0200;
+    console.set_field(2, FILE_LENGTH, 0x0200);
     console.set_version(2, 0x89ab_cdef);
     assert_eq!(
         console.scripted(block(1, 9).path("/fares/now")),
-        "answer=0\nvalue=0\ndata=01feff040f00020100efcdab89\n"
+        "answer=0\nvalue=0\ndata=01fefffcfde4010f00020100efcdab89\n"
     );
 }
 
 #[test]
 fn the_other_calls_use_their_parts() {
     let blocks = [
-        block(1, 2).path("/fares/x").number(6),
-        block(1, 3).path("/fares/d").number(7),
+        block(1, 2).path("/fares/x").number(0o766),
+        block(1, 3).path("/fares/d").number(0o777),
         block(1, 6).path("/fares/x").data("/fares/d/y"),
-        block(1, 8).path("/fares/x").number(4),
+        block(1, 8).path("/fares/x").number(0o744),
         open(1, "/fares/x", 3),
         block(1, 14).descriptor(0),
         block(1, 12).descriptor(1).data([0, 10, 255]),
@@ -210,9 +211,9 @@ fn a_second_path_may_hold_byte_10() {
 #[test]
 fn every_unbroken_block_on_unsound_tables_is_answered_1() {
     let unsound: [fn(&mut Console); 4] = [
-        |console| console.files[7 * 2 + 4] = 513,
+        |console| console.set_field(2, FILE_LENGTH, 513),
         |console| console.policy[0] = 8,
-        |console| console.processes.truncate(87),
+        |console| console.processes.truncate(8 * PROCESS_WIDTH - 1),
         |console| console.contents.clear(),
     ];
     let blocks = [

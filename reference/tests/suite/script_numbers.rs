@@ -66,10 +66,25 @@ fn by_number(plain: &Block, expected: [String; 4]) {
 #[test]
 fn a_high_mode_or_high_bits() {
     let refused = [3; 4].map(|refusal| lines(refusal, 0, b""));
-    by_number(&block(1, 1).path("/fares/now"), refused.clone());
-    by_number(&block(1, 2).path("/fares/x"), refused.clone());
-    by_number(&block(1, 3).path("/fares/x"), refused.clone());
-    by_number(&block(1, 8).path("/fares/now"), refused);
+    by_number(&block(1, 1).path("/fares/now"), refused);
+    let up_to_511 = |value| {
+        let granted = lines(0, value, b"");
+        [granted.clone(), granted.clone(), granted, lines(3, 0, b"")]
+    };
+    by_number(&block(1, 2).path("/fares/x"), up_to_511(4));
+    by_number(&block(1, 3).path("/fares/x"), up_to_511(4));
+    by_number(&block(1, 8).path("/fares/now"), up_to_511(0));
+}
+
+/// Taken modulo 512, these too would be granted.
+#[test]
+fn the_bits_next_to_511() {
+    for (call, path, value) in [(2, "/fares/x", 4), (3, "/fares/x", 4), (8, "/fares/now", 0)] {
+        let with = |bits| Console::new().scripted(block(1, call).path(path).number(bits));
+        assert_eq!(with(511), lines(0, value, b""));
+        assert_eq!(with(512), lines(3, 0, b""));
+        assert_eq!(with(513), lines(3, 0, b""));
+    }
 }
 
 #[test]

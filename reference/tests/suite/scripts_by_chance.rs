@@ -28,10 +28,12 @@ fn scripted(request: Request, path: &str, data: &[u8]) -> Block {
 /// The lines that a direct call's answer has in a script.
 fn answer_lines(call: u8, answer: &Answer, buffer: &[u8]) -> String {
     let mut data = answer.name.clone();
-    if let Some([kind, owner, bits, label, length, links, version]) = answer.fields {
+    if let Some([kind, owner, group, bits, label, length, links, version]) = answer.fields {
         data.extend([kind as u8]);
         data.extend((owner as u16).to_le_bytes());
-        data.extend([bits as u8, label as u8]);
+        data.extend((group as u16).to_le_bytes());
+        data.extend((bits as u16).to_le_bytes());
+        data.extend([label as u8]);
         data.extend((length as u16).to_le_bytes());
         data.extend((links as u16).to_le_bytes());
         data.extend(version.to_le_bytes());

@@ -1,6 +1,6 @@
 //! The seventeen calls, short to write.
 
-use crate::console::{request, Console};
+use crate::console::{request, Console, FILE_WIDTH};
 use reference::{Answer, Request};
 
 /// The value, or the refusal and the name at which a walk stopped.
@@ -82,7 +82,7 @@ impl Console {
         self.on_path(process, 8, bits, path)
     }
 
-    pub fn stat(&mut self, process: u8, path: &str) -> Result<[u32; 7], (u32, u32)> {
+    pub fn stat(&mut self, process: u8, path: &str) -> Result<[u32; FILE_WIDTH], (u32, u32)> {
         let answer = self.call(request(process, 9), path.as_bytes(), b"", &mut []);
         outcome(&answer).map(|value| {
             assert_eq!(value, 0);

@@ -43,7 +43,7 @@ fn a_new_name_raises_its_directory() {
     let mut console = Console::new();
     assert_eq!(console.create(1, "/fares/x", 0), Ok(4));
     assert_eq!(versions(&console), [0, 1, 0, 0, 0, 0]);
-    assert_eq!(console.make_directory(1, "/fares/d", 5), Ok(5));
+    assert_eq!(console.make_directory(1, "/fares/d", 0o755), Ok(5));
     assert_eq!(versions(&console), [0, 2, 0, 0, 0, 0]);
     assert_eq!(console.link(1, "/fares/now", "/fares/d/y"), Ok(0));
     assert_eq!(versions(&console), [0, 2, 0, 0, 0, 1]);
@@ -74,7 +74,7 @@ fn freeing_by_close_raises_only_the_file() {
 #[test]
 fn other_calls_raise_nothing() {
     let mut console = Console::new();
-    assert_eq!(console.change_bits(1, "/fares/now", 7), Ok(0));
+    assert_eq!(console.change_bits(1, "/fares/now", 0o777), Ok(0));
     assert_eq!(console.open(2, "/fares/now", 3), no(10));
     assert_eq!(console.open(1, "/fares/now", 3), Ok(0));
     assert!(console.read(1, 0, 16).is_ok());

@@ -6,7 +6,7 @@ use mritvelja::Tables;
 /// An empty store whose root everyone may read and search.
 pub fn blank() -> Tables {
     let mut tables = Tables::empty();
-    tables.file_mut(ROOT)[FILE_BITS] = READ | EXECUTE;
+    tables.file_mut(ROOT)[FILE_BITS] = 0o555;
     tables
 }
 

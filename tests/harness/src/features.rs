@@ -6,7 +6,7 @@ use mritvelja::Tables;
 
 type Test = fn(&Tables) -> bool;
 
-const FEATURES: [(&str, Test); 9] = [
+const FEATURES: [(&str, Test); 11] = [
     ("a directory 8 names deep", eight_deep),
     ("a directory with 16 names", full_directory),
     ("no free slot", no_free_slot),
@@ -16,6 +16,8 @@ const FEATURES: [(&str, Test); 9] = [
     ("an open file without a name", unnamed),
     ("a version at the wrap", at_wrap),
     ("a transition", has_transition),
+    ("an owner with fewer rights than others", owner_below_others),
+    ("a group with fewer rights than others", group_below_others),
 ];
 
 #[derive(Default)]
@@ -76,4 +78,20 @@ fn has_transition(tables: &Tables) -> bool {
     tables.policy[RIGHTS_SIZE..]
         .iter()
         .any(|&label| label != NO_TRANSITION)
+}
+
+/// Whether a file gives a class not all that it gives the others.
+fn is_below_others(tables: &Tables, shift: u32) -> bool {
+    (0..SLOTS).any(|slot| {
+        let bits = tables.file(slot)[FILE_BITS];
+        bits & !(bits >> shift) & 7 != 0
+    })
+}
+
+fn owner_below_others(tables: &Tables) -> bool {
+    is_below_others(tables, 6)
+}
+
+fn group_below_others(tables: &Tables) -> bool {
+    is_below_others(tables, 3)
 }

@@ -3,7 +3,9 @@
 use reference::Answer;
 
 /// As the console writes them.
-const FIELDS: [&str; 7] = ["kind", "owner", "bits", "label", "length", "names", "stamp"];
+const FIELDS: [&str; 8] = [
+    "kind", "owner", "group", "bits", "label", "length", "names", "stamp",
+];
 
 /// Bytes, with `\xNN` for those that are not printed as they are.
 pub fn text(bytes: &[u8]) -> String {

@@ -20,13 +20,13 @@ fn open_store() -> Tables {
 
 fn add_file(tables: &mut Tables, directory: usize, dirent: usize, name: &[u8], slot: usize) {
     let length = FILE_BYTES as u32;
-    *tables.file_mut(slot) = [PLAIN, 0, 7, 0, length, 0, 0];
+    *tables.file_mut(slot) = [PLAIN, 0, 0, 0o777, 0, length, 0, 0];
     tables.block_mut(slot)[..FILE_BYTES].fill(7);
     add_name(tables, directory, dirent, name, slot);
 }
 
 fn add_directory(tables: &mut Tables, parent: usize, dirent: usize, name: &[u8], slot: usize) {
-    *tables.file_mut(slot) = [DIRECTORY, 0, 7, 0, 0, 0, 0];
+    *tables.file_mut(slot) = [DIRECTORY, 0, 0, 0o777, 0, 0, 0, 0];
     add_name(tables, parent, dirent, name, slot);
 }
 

@@ -12,7 +12,8 @@ const FREE_ZERO: &str = "free ones are zero";
 pub const DEFECTS: &[(&str, &str, Break)] = &[
     (RANGE, "kind over 2", kind),
     (RANGE, "owner over 65,535", owner),
-    (RANGE, "bits over 7", bits),
+    (RANGE, "group over 65,535", file_group),
+    (RANGE, "bits over 511", bits),
     (RANGE, "file label over 15", file_label),
     (RANGE, "open slot past the last", open_slot),
     (RANGE, "mode 0", mode_zero),
@@ -20,6 +21,7 @@ pub const DEFECTS: &[(&str, &str, Break)] = &[
     (RANGE, "offset over 512", offset),
     (RANGE, "in-use mark over 1", used_mark),
     (RANGE, "user over 65,535", user),
+    (RANGE, "process's group over 65,535", process_group),
     (RANGE, "process label over 15", process_label),
     (RANGE, "descriptor over 32", descriptor),
     (RANGE, "rights over 7", rights),
@@ -29,8 +31,10 @@ pub const DEFECTS: &[(&str, &str, Break)] = &[
         policy_transition,
     ),
     (FREE_ZERO, "free record with a field", free_record),
+    (FREE_ZERO, "free record with a group", free_group),
     (FREE_ZERO, "free open file with a field", free_open_file),
     (FREE_ZERO, "free process with user or label", free_process),
+    (FREE_ZERO, "free process with a group", free_process_group),
     (
         FREE_ZERO,
         "free process with a descriptor",
@@ -56,8 +60,12 @@ fn owner(tables: &mut Tables, chance: &mut Chance) -> Option<()> {
     file_field(tables, chance, FILE_OWNER, 65_535)
 }
 
+fn file_group(tables: &mut Tables, chance: &mut Chance) -> Option<()> {
+    file_field(tables, chance, FILE_GROUP, 65_535)
+}
+
 fn bits(tables: &mut Tables, chance: &mut Chance) -> Option<()> {
-    file_field(tables, chance, FILE_BITS, 7)
+    file_field(tables, chance, FILE_BITS, 511)
 }
 
 fn file_label(tables: &mut Tables, chance: &mut Chance) -> Option<()> {
@@ -113,6 +121,10 @@ fn user(tables: &mut Tables, chance: &mut Chance) -> Option<()> {
     process_field(tables, chance, PROCESS_USER, 65_535)
 }
 
+fn process_group(tables: &mut Tables, chance: &mut Chance) -> Option<()> {
+    process_field(tables, chance, PROCESS_GROUP, 65_535)
+}
+
 fn process_label(tables: &mut Tables, chance: &mut Chance) -> Option<()> {
     process_field(tables, chance, PROCESS_LABEL, 15)
 }
@@ -141,6 +153,12 @@ fn free_record(tables: &mut Tables, chance: &mut Chance) -> Option<()> {
     Some(())
 }
 
+fn free_group(tables: &mut Tables, chance: &mut Chance) -> Option<()> {
+    let slot = slot_of(tables, chance, FREE)?;
+    tables.file_mut(slot)[FILE_GROUP] = 1;
+    Some(())
+}
+
 fn free_open_file(tables: &mut Tables, chance: &mut Chance) -> Option<()> {
     let open_file = open_file(tables, chance, false)?;
     let column = chance.pick(&[OPEN_SLOT, OPEN_MODE, OPEN_OFFSET]);
@@ -153,6 +171,12 @@ fn free_process(tables: &mut Tables, chance: &mut Chance) -> Option<()> {
     let process = process(tables, chance, false)?;
     let column = chance.pick(&[PROCESS_USER, PROCESS_LABEL]);
     tables.process_mut(process)[column] = 1;
+    Some(())
+}
+
+fn free_process_group(tables: &mut Tables, chance: &mut Chance) -> Option<()> {
+    let process = process(tables, chance, false)?;
+    tables.process_mut(process)[PROCESS_GROUP] = 1;
     Some(())
 }
 

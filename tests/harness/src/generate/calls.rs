@@ -11,7 +11,11 @@ use mritvelja::Tables;
 /// How often each call is made, the unknown ones at 0.
 const WEIGHTS: [usize; 18] = [1, 14, 8, 6, 5, 5, 5, 6, 5, 6, 9, 10, 10, 5, 4, 3, 2, 5];
 const MODES: [u16; 9] = [1, 1, 1, 2, 3, 4, 10, 11, 12];
-const ODD_NUMBERS: [u16; 12] = [0, 5, 8, 9, 13, 16, 17, 256, 257, 512, 513, 65_535];
+/// Mostly of a file that everyone may use; some shut its owner or its group out.
+const BITS: [u16; 12] = [
+    0o777, 0o777, 0o777, 0o777, 0o755, 0o744, 0o577, 0o077, 0o707, 0o704, 0o111, 0,
+];
+const ODD_NUMBERS: [u16; 13] = [0, 5, 8, 9, 13, 16, 17, 256, 257, 511, 512, 513, 65_535];
 
 /// Makes calls for one store; it keeps the store's names at hand.
 pub struct CallMaker {
@@ -126,7 +130,8 @@ impl Scene<'_> {
         }
         match call {
             1 => self.chance.pick(&MODES),
-            2 | 3 | 8 => self.chance.pick(&[7, 7, 7, 5, 6, 4, 3, 2, 1, 0]),
+            2 | 3 | 8 if self.chance.one_in(5) => self.chance.below(512) as u16,
+            2 | 3 | 8 => self.chance.pick(&BITS),
             7 => self.chance.below(10) as u16,
             13 => self.chance.pick(&[0, 0, 1, 5, 30, 100, 500, 511, 512, 512]),
             _ => self.chance.below(65_536) as u16,
@@ -264,12 +269,16 @@ impl Scene<'_> {
 
     /// Whether the caller likely has these rights: a guess that only shapes the calls.
     fn may(&self, slot: usize, rights: u32) -> bool {
-        let user = self.tables.process(self.process)[PROCESS_USER];
-        let label = self.tables.process(self.process)[PROCESS_LABEL] as usize;
-        let bits = self.tables.file(slot)[FILE_BITS];
-        let by_bits =
-            user == 0 || user == self.tables.file(slot)[FILE_OWNER] || bits & rights == rights;
-        let over = self.tables.file(slot)[FILE_LABEL] as usize;
+        let (who, file) = (self.tables.process(self.process), self.tables.file(slot));
+        let shift = if who[PROCESS_USER] == file[FILE_OWNER] {
+            6
+        } else if who[PROCESS_GROUP] == file[FILE_GROUP] {
+            3
+        } else {
+            0
+        };
+        let by_bits = who[PROCESS_USER] == 0 || file[FILE_BITS] >> shift & rights == rights;
+        let (label, over) = (who[PROCESS_LABEL] as usize, file[FILE_LABEL] as usize);
         by_bits && u32::from(self.tables.rights(label, over)) & rights == rights
     }
 }

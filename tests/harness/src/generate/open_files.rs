@@ -64,7 +64,8 @@ fn make_unnamed(chance: &mut Chance, tables: &mut Tables, slot: usize) -> usize 
     let length = chance.below(BLOCK + 1);
     let version = tables.file(slot)[FILE_VERSION];
     let label = chance.below(LABELS) as u32;
-    *tables.file_mut(slot) = [PLAIN, 10, 7, label, length as u32, 0, version];
+    let (group, bits) = (chance.below(3) as u32, chance.below(512) as u32);
+    *tables.file_mut(slot) = [PLAIN, 10, group, bits, label, length as u32, 0, version];
     let bytes = chance.bytes(length);
     tables.block_mut(slot)[..length].copy_from_slice(&bytes);
     slot

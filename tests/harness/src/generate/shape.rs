@@ -35,8 +35,9 @@ pub struct Shape {
     pub unnamed: usize,
     /// Descriptors are given out process by process, so that some have all.
     pub packed: bool,
-    /// Users and labels are drawn from this many.
+    /// Users, groups and labels are drawn from this many.
     pub users: usize,
+    pub groups: usize,
     pub labels: usize,
     pub strictness: Strictness,
     /// How many in a hundred transitions lead somewhere.
@@ -63,6 +64,7 @@ impl Shape {
             unnamed: chance.pick(&[0, 1, 2, 5]),
             packed: chance.one_in(3),
             users: chance.pick(&[1, 2, 3, 4]),
+            groups: chance.pick(&[1, 2, 3, 4]),
             labels: chance.pick(&[1, 2, 4, LABELS]),
             strictness: Shape::strictness(chance),
             transitions: chance.pick(&[0, 5, 30, 100]),

@@ -9,6 +9,7 @@ use mritvelja::layout::*;
 use mritvelja::Tables;
 
 const USERS: [u32; 4] = [0, 10, 20, 65_535];
+const GROUPS: [u32; 4] = [1, 0, 10, 65_535];
 
 struct Maker<'a> {
     chance: &'a mut Chance,
@@ -85,9 +86,11 @@ impl Maker<'_> {
     }
 
     fn set_root(&mut self) {
-        let (owner, bits, label) = (self.user(), self.bits(), self.label());
+        let (owner, group) = (self.user(), self.group());
+        let (bits, label) = (self.bits(), self.label());
         self.tables.file_mut(0)[FILE_OWNER] = owner;
-        self.tables.file_mut(0)[FILE_BITS] = bits | EXECUTE;
+        self.tables.file_mut(0)[FILE_GROUP] = group;
+        self.tables.file_mut(0)[FILE_BITS] = bits | 0o111;
         self.tables.file_mut(0)[FILE_LABEL] = label;
     }
 
@@ -124,10 +127,11 @@ impl Maker<'_> {
     }
 
     fn set_file(&mut self, slot: usize, kind: u32) {
-        let (owner, bits, label) = (self.user(), self.bits(), self.label());
+        let (owner, group) = (self.user(), self.group());
+        let (bits, label) = (self.bits(), self.label());
         let version = self.tables.file(slot)[FILE_VERSION];
         let length = if kind == PLAIN { self.length() } else { 0 };
-        let record = [kind, owner, bits, label, length as u32, 0, version];
+        let record = [kind, owner, group, bits, label, length as u32, 0, version];
         *self.tables.file_mut(slot) = record;
         let bytes = self.chance.bytes(length);
         self.tables.block_mut(slot)[..length].copy_from_slice(&bytes);
@@ -175,9 +179,10 @@ impl Maker<'_> {
         let mut numbers: Vec<usize> = (0..PROCESSES).collect();
         self.chance.shuffle(&mut numbers);
         for &process in &numbers[..self.shape.processes] {
-            let (user, label) = (self.user(), self.label());
+            let (user, group, label) = (self.user(), self.group(), self.label());
             self.tables.process_mut(process)[PROCESS_USED] = 1;
             self.tables.process_mut(process)[PROCESS_USER] = user;
+            self.tables.process_mut(process)[PROCESS_GROUP] = group;
             self.tables.process_mut(process)[PROCESS_LABEL] = label;
         }
     }
@@ -189,7 +194,19 @@ impl Maker<'_> {
         }
     }
 
+    fn group(&mut self) -> u32 {
+        match self.chance.below(20) {
+            0 => self.chance.below(65_536) as u32,
+            _ => self.chance.pick(&GROUPS[..self.shape.groups]),
+        }
+    }
+
+    /// The rights of the three classes, each by itself, so that an owner may have fewer than others.
     fn bits(&mut self) -> u32 {
+        (0..3).fold(0, |bits, _| bits << 3 | self.class_rights())
+    }
+
+    fn class_rights(&mut self) -> u32 {
         match self.chance.below(8) {
             0 => self.chance.below(8) as u32,
             1 => 5,

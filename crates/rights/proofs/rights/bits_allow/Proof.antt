@@ -2,4 +2,11 @@ use Rattle.rights.proofs.rights.bits_allow.Statement.{statement}
 use Rattle.rights.proofs.rights.bits_allow.Tie as tie
 
 pub bits-allow-spec : {M : Type 1} → statement M
-bits-allow-spec = tie.close (tie.spec (λ c κs. tt) (λ c κs. tt) (λ c κs. tt) (λ c. cc))
+bits-allow-spec =
+    tie.close
+    (tie.spec
+    (λ c κs. tt)
+    (λ c κs. tt)
+    (λ c κs. tt)
+    (λ c κs. tt)
+    (λ c. cc))

@@ -24,8 +24,12 @@ put-record-spec =
     (λ c. search needs)
     (λ c κs. tt)
     (λ c. search needs)
+    (λ c κs. tt)
+    (λ c. search needs)
     (λ c.
-    let at-put7 = c .before .before in
+    let at-put8 = c .before .before in
+    let at-slice-known8 = at-put8 .before .before in
+    let at-put7 = at-slice-known8 .before .before in
     let at-slice-known7 = at-put7 .before .before in
     let at-put6 = at-slice-known7 .before .before in
     let at-slice-known6 = at-put6 .before .before in
@@ -38,4 +42,4 @@ put-record-spec =
     let at-put2 = at-slice-known3 .before .before in
     let at-slice-known2 = at-put2 .before .before in
     let at-put = at-slice-known2 .before .before in
-    rw (at-put7 .put7 .ensures, at-put6 .put6 .ensures, at-put5 .put5 .ensures, at-put4 .put4 .ensures, at-put3 .put3 .ensures, at-put2 .put2 .ensures, at-put .put .ensures)))
+    rw (at-put8 .put8 .ensures, at-put7 .put7 .ensures, at-put6 .put6 .ensures, at-put5 .put5 .ensures, at-put4 .put4 .ensures, at-put3 .put3 .ensures, at-put2 .put2 .ensures, at-put .put .ensures)))

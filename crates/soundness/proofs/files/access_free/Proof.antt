@@ -9,9 +9,6 @@ unfolding accessFree
 access-free-spec =
     tie.close
     (tie.spec
-    (λ c. search needs)
-    (λ c. search needs)
-    (λ c. search needs)
     (λ c κs. tt)
     (λ c. search steps)
     (λ c. search needs)

@@ -9,9 +9,6 @@ unfolding accessSound
 access-sound-spec =
     tie.close
     (tie.spec
-    (λ c. search needs)
-    (λ c. search needs)
-    (λ c. search needs)
     (λ c κs. tt)
     (λ c. search steps)
     (λ c κs. tt)

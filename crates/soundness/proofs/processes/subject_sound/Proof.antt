@@ -16,4 +16,7 @@ subject-sound-spec =
     (λ c. search steps)
     (λ c. search needs)
     (λ c κs. tt)
+    (λ c. search steps)
+    (λ c. search needs)
+    (λ c κs. tt)
     (λ c. search steps))
