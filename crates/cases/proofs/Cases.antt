@@ -5,14 +5,14 @@ use mathlib.Core.List.{List, [], _∷_}
 use Rattle.rules.specs.Computing.{computing}
 use Rattle.rules.specs.Sound.{policySound}
 use Rattle.rules.specs.Console.{console, consoleFixed, consolePolicy}
-use Rattle.cases.specs.Rows.{Row, withAll, same, sameReply, sameStore, rowHolds, holds}
+use Rattle.cases.specs.Rows.{Row, withAll, same, sameNumbers, sameOut, sameReply, sameSlots, sameStore, rowHolds, holds}
 use Rattle.cases.specs.Table.{AllCases, table, line-1, line-1-slashes, line-2, line-3, line-4, line-5, line-6, line-7, line-8, line-9}
 use Rattle.cases.proofs.Quick.{quick, quickSound, sound-of}
 use Rattle.cases.proofs.Lines.{needed, onward, check, more}
 
 -- opens all that a row computes with
 unfoldable computed : Bool
-unfolding computing console consolePolicy withAll same sameReply sameStore rowHolds quick needed onward check
+unfolding computing console consolePolicy withAll same sameNumbers sameOut sameReply sameSlots sameStore rowHolds quick needed onward check
 computed = true
 
 pub policy-sound : policySound consolePolicy ≡ true

@@ -11,7 +11,7 @@ use Rattle.rules.specs.Sound.{sound, policySound}
 use Rattle.rules.specs.Step.{Outcome, act}
 use Rattle.rules.specs.Console.{console, consoleFixed, consolePolicy}
 use Rattle.rules.proofs.Tests.{test}
-use Rattle.cases.specs.Rows.{Now, Row, withAll, same, sameStore, rowHolds, lineHolds, holds}
+use Rattle.cases.specs.Rows.{Now, Row, withAll, same, sameSlots, sameStore, rowHolds, lineHolds, holds}
 use Rattle.cases.proofs.Quick.{quickSound, both-pass, sound-of, step-act}
 
 -- a test that is needed only if rows follow
@@ -45,10 +45,11 @@ store-eq : {F F′ C C′ E E′ P P′ : List ℕ} → F ≡ F′ → C ≡ C�
 store-eq p q r u = rw (p, q, r, u)
 
 same-store : (s t : Store) → sameStore s t ≡ true → s ≡ t
-unfolding sameStore
+unfolding sameStore sameSlots
 same-store s t e =
-    store-eq (same-eq _ _ (test 0 _ e)) (same-eq _ _ (test 1 _ e))
-    (same-eq _ _ (test 2 _ e)) (same-eq _ _ (test 3 _ e))
+    let slots = test 0 _ e in
+    store-eq (same-eq _ _ (test 0 _ slots)) (same-eq _ _ (test 1 _ slots))
+    (same-eq _ _ (test 1 _ e)) (same-eq _ _ (test 2 _ e))
 
 -- ---- lines
 

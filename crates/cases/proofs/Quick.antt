@@ -19,7 +19,7 @@ use Rattle.rules.specs.Walk.{isDirectory}
 use Rattle.rules.specs.Store.{Store, Fixed, Tree, View, view, slot, block, tab, procOf, descOf, hidden, shownOf, Table}
 use Rattle.rules.specs.Calls.{Call}
 use Rattle.rules.specs.Step.{act, step}
-use Rattle.rules.specs.Sound.{sound, policySound, storeSound, sizesSound, tablesSound, recordSound, linksAt, linksFrom, linksTo, linksSound, kindSound, slotSound, openSound, procSound}
+use Rattle.rules.specs.Sound.{sound, policySound, storeSound, slotsSized, sizesSound, treeSound, tablesSound, recordSound, linksAt, linksFrom, linksTo, linksSound, kindSound, slotSound, openSound, procSound}
 use Rattle.rules.proofs.Tests.{test}
 
 -- the contents cut into n blocks, each bound by a `let`, which is computed when it is asked for, and then once
@@ -58,10 +58,12 @@ quickLinks t ns s = cond (eqb s 0) (eqb (t .file s FILE-LINKS) 0) (eqb (t .file 
 unfoldable pub quickSlot : Tree → (openFiles : Table) → List ℕ → ℕ → Bool
 quickSlot t openFiles ns s = every (recordSound (t .file) s ∷ quickLinks t ns s ∷ kindSound t openFiles s ∷ [])
 
+unfoldable pub quickTree : Tree → (openFiles : Table) → Bool
+quickTree t openFiles = let ns = named t 0 SLOTS in every (isDirectory (t .file) (slot 0) ∷ all (quickSlot t openFiles ns) 0 SLOTS ∷ [])
+
 unfoldable pub quickTables : View → Bool
 quickTables v =
-    let ns = named (v .tree) 0 SLOTS in
-    every (isDirectory (v .tree .file) (slot 0) ∷ all (quickSlot (v .tree) (v .openFiles) ns) 0 SLOTS
+    every (quickTree (v .tree) (v .openFiles)
     ∷ all (openSound (v .tree .file) (v .openFiles) (v .desc)) 0 OPEN-FILES ∷ all (procSound (v .proc) (v .desc)) 0 PROCESSES ∷ [])
 
 unfoldable pub quickSound : Store → Bool
@@ -69,7 +71,7 @@ quickSound s = cond (sizesSound s) (quickTables (quickView s)) false
 
 -- opens all of it, for proofs by computation
 unfoldable pub quick : Bool
-unfolding cut quickShown entries named tally quickLinks quickSlot quickTables quickSound
+unfolding cut quickShown entries named tally quickLinks quickSlot quickTree quickTables quickSound
 quick = true
 
 -- ---- block s of the cut is block s
@@ -133,9 +135,13 @@ slot-same : (t : Tree) (openFiles : Table) (s : ℕ) → quickSlot t openFiles (
 unfolding quickSlot slotSound quickLinks linksSound linksTo total fold
 slot-same t openFiles s = rw (links-same t s 0 SLOTS)
 
+tree-same : (t : Tree) (openFiles : Table) → quickTree t openFiles ≡ treeSound t openFiles
+unfolding quickTree treeSound
+tree-same t openFiles = rw (fun-ext (slot-same t openFiles))
+
 tables-same : (v : View) → quickTables v ≡ tablesSound v
 unfolding quickTables tablesSound
-tables-same v = rw (fun-ext (slot-same (v .tree) (v .openFiles)))
+tables-same v = rw (tree-same (v .tree) (v .openFiles))
 
 -- ---- where the sizes are right the quick view is the view; elsewhere neither is looked at
 
@@ -147,8 +153,8 @@ view-same : (s : Store) → length (s .contents) ≡ SLOTS * BLOCK → quickView
 view-same s e = ap (showing s) (shown-same (s .files) (s .contents) e)
 
 contents-size : (s : Store) → sizesSound s ≡ true → length (s .contents) ≡ SLOTS * BLOCK
-unfolding sizesSound
-contents-size s e = eqb-true _ _ (test 1 _ e)
+unfolding sizesSound slotsSized
+contents-size s e = eqb-true _ _ (test 1 _ (test 0 _ e))
 
 pub quick-sound : (s : Store) → quickSound s ≡ storeSound s
 unfolding quickSound storeSound

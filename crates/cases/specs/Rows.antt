@@ -48,13 +48,20 @@ same [] (y ∷ ys) = false
 same (x ∷ xs) [] = false
 same (x ∷ xs) (y ∷ ys) = cond (eqb x y) (same xs ys) false
 
+unfoldable pub sameNumbers : Reply → Reply → Bool
+sameNumbers a b = every (eqb (a .refusal) (b .refusal) ∷ eqb (a .stop) (b .stop) ∷ eqb (a .value) (b .value) ∷ [])
+
+unfoldable pub sameOut : Reply → Reply → Bool
+sameOut a b = every (same (a .name) (b .name) ∷ same (a .fields) (b .fields) ∷ same (a .buffer) (b .buffer) ∷ [])
+
 unfoldable pub sameReply : Reply → Reply → Bool
-sameReply a b =
-    every (eqb (a .refusal) (b .refusal) ∷ eqb (a .stop) (b .stop) ∷ eqb (a .value) (b .value) ∷ same (a .name) (b .name)
-    ∷ same (a .fields) (b .fields) ∷ same (a .buffer) (b .buffer) ∷ [])
+sameReply a b = every (sameNumbers a b ∷ sameOut a b ∷ [])
+
+unfoldable pub sameSlots : Store → Store → Bool
+sameSlots s t = every (same (s .files) (t .files) ∷ same (s .contents) (t .contents) ∷ [])
 
 unfoldable pub sameStore : Store → Store → Bool
-sameStore s t = every (same (s .files) (t .files) ∷ same (s .contents) (t .contents) ∷ same (s .openFiles) (t .openFiles) ∷ same (s .processes) (t .processes) ∷ [])
+sameStore s t = every (sameSlots s t ∷ same (s .openFiles) (t .openFiles) ∷ same (s .processes) (t .processes) ∷ [])
 
 unfoldable pub rowHolds : Store → Outcome → Row → Bool
 rowHolds before x r = every (sameReply (x .reply) (r .reply) ∷ sameStore (x .store) (withAll (r .leaves) before) ∷ [])

@@ -91,8 +91,11 @@ abbrev pub argumentIn : List ℕ → ℕ
 argumentIn l = partNumber l (partPlace l NUMBER)
 
 -- a call's numbers have 8 bits, and the last 16; a line with a larger one makes no call
+unfoldable pub areBytes : (process call fd : ℕ) → Bool
+areBytes p c f = every (ltb p 256 ∷ ltb c 256 ∷ ltb f 256 ∷ [])
+
 unfoldable pub inRange : (process call fd n : ℕ) → Bool
-inRange p c f n = every (ltb p 256 ∷ ltb c 256 ∷ ltb f 256 ∷ ltb n 65536 ∷ [])
+inRange p c f n = every (areBytes p c f ∷ ltb n 65536 ∷ [])
 
 unfoldable pub requestOf : (process call fd n : ℕ) → Request
 requestOf p c f n = record { process = record { 0 = p % 256 }; call = c % 256; fd = record { 0 = f % 256 }; number = n % 65536 }

@@ -5,7 +5,7 @@ ghost use lib.ListN.{take};
 ghost use lib.Seq.{sets};
 ghost use Rattle.rules.specs.Choice.{every};
 ghost use Rattle.rules.specs.Calls.{callOf};
-ghost use Rattle.console.specs.Calls.{PATH, DATA, callNumber, rowOf, placeOf, partNumber, partLength, partBytes, partPlace, inRange, requestOf, bufferSize, fits, parsed, outcomeOn, calledTables, lineCalled};
+ghost use Rattle.console.specs.Calls.{PATH, DATA, callNumber, rowOf, placeOf, partNumber, partLength, partBytes, partPlace, areBytes, inRange, requestOf, bufferSize, fits, parsed, outcomeOn, calledTables, lineCalled};
 use crate::numbers::number;
 use crate::printing::print_text;
 use crate::settings::Console;
@@ -95,8 +95,8 @@ fn part_text(line: &[u8], k: usize, out: &mut [u8]) -> usize
     unescape(word(line, k), out)
 }
 
-fn in_range(process: u64, call: u64, fd: u64, n: u64) -> bool
-    ensures { λ r. ⌜ r ≡ inRange process call fd n ⌝ }
+fn are_bytes(process: u64, call: u64, fd: u64) -> bool
+    ensures { λ r. ⌜ r ≡ areBytes process call fd ⌝ }
 {
     let process_fits = process < 256;
     if !process_fits {
@@ -106,8 +106,13 @@ fn in_range(process: u64, call: u64, fd: u64, n: u64) -> bool
     if !call_fits {
         return false;
     }
-    let fd_fits = fd < 256;
-    if !fd_fits {
+    fd < 256
+}
+
+fn in_range(process: u64, call: u64, fd: u64, n: u64) -> bool
+    ensures { λ r. ⌜ r ≡ inRange process call fd n ⌝ }
+{
+    if !are_bytes(process, call, fd) {
         return false;
     }
     n < 65536

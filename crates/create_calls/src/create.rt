@@ -11,8 +11,8 @@ use directories::changes::free_in;
 use directories::changes::gaining;
 use directories::changes::is_absent;
 use resolution::walk::walk_new;
-use rights::rights::bits_allow;
-use rights::rights::label_allows;
+use rights::rights::Permission;
+use rights::rights::permission_over;
 use rules::decision::Decision;
 use rules::decision::Effect;
 use rules::decision::Location;
@@ -124,13 +124,10 @@ fn create_at(
     if !is_absent(at) {
         return Decision::Refused(Refusal::NameThere, 0);
     }
-    if !bits_allow(files, who, d, Rights::WRITE) {
-        return Decision::Refused(Refusal::BitsForbid, 0);
+    match permission_over(files, policy, who, d, Rights::WRITE) {
+        Permission::Allowed => create_free(files, contents, who, kind, bits, d),
+        Permission::Forbidden(r) => Decision::Refused(r, 0),
     }
-    if !label_allows(files, policy, who, d, Rights::WRITE) {
-        return Decision::Refused(Refusal::LabelForbids, 0);
-    }
-    create_free(files, contents, who, kind, bits, d)
 }
 
 fn create_with(

@@ -9,8 +9,8 @@ use directories::changes::gaining;
 use directories::changes::is_absent;
 use resolution::walk::walk_new;
 use resolution::walk::walk_path;
-use rights::rights::bits_allow;
-use rights::rights::label_allows;
+use rights::rights::Permission;
+use rights::rights::permission_over;
 use rules::decision::Decision;
 use rules::decision::Effect;
 use rules::decision::Location;
@@ -69,13 +69,10 @@ fn link_at(
     if !is_absent(at) {
         return Decision::Refused(Refusal::NameThere, 0);
     }
-    if !bits_allow(files, who, d, Rights::WRITE) {
-        return Decision::Refused(Refusal::BitsForbid, 0);
+    match permission_over(files, policy, who, d, Rights::WRITE) {
+        Permission::Allowed => link_free(files, contents, old, d),
+        Permission::Forbidden(r) => Decision::Refused(r, 0),
     }
-    if !label_allows(files, policy, who, d, Rights::WRITE) {
-        return Decision::Refused(Refusal::LabelForbids, 0);
-    }
-    link_free(files, contents, old, d)
 }
 
 // The new name, once the old file is found.

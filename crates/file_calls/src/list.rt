@@ -5,8 +5,8 @@ ghost use Rattle.rules.specs.Directories.{direntRanked};
 ghost use Rattle.rules.specs.DecidePaths.{listEntry, listAt, decideList};
 use directories::entries::dirent_ranked;
 use resolution::walk::walk_path;
-use rights::rights::bits_allow;
-use rights::rights::label_allows;
+use rights::rights::Permission;
+use rights::rights::permission_over;
 use rules::decision::Decision;
 use rules::decision::Effect;
 use rules::decision::Output;
@@ -41,13 +41,10 @@ fn list_at(files: &[u32], contents: &[u8], policy: &[u8], who: Subject, k: u32, 
     if !is_directory(files, d) {
         return Decision::Refused(Refusal::WrongKind, 0);
     }
-    if !bits_allow(files, who, d, Rights::READ) {
-        return Decision::Refused(Refusal::BitsForbid, 0);
+    match permission_over(files, policy, who, d, Rights::READ) {
+        Permission::Allowed => list_ranked(files, contents, k, d),
+        Permission::Forbidden(r) => Decision::Refused(r, 0),
     }
-    if !label_allows(files, policy, who, d, Rights::READ) {
-        return Decision::Refused(Refusal::LabelForbids, 0);
-    }
-    list_ranked(files, contents, k, d)
 }
 
 pub fn decide_list(

@@ -12,8 +12,8 @@ ghost use Rattle.rules.specs.declared.decision.Effect.the-variants as effect;
 use allocation::free::free_fd;
 use allocation::free::free_ofd;
 use resolution::walk::walk_path;
-use rights::rights::bits_allow;
-use rights::rights::label_allows;
+use rights::rights::Permission;
+use rights::rights::permission_over;
 use rules::decision::Decision;
 use rules::decision::Effect;
 use rules::decision::NewOpen;
@@ -174,13 +174,10 @@ fn open_file(
         return Decision::Refused(Refusal::WrongKind, 0);
     }
     let want = rights_of(m);
-    if !bits_allow(files, who, s, want) {
-        return Decision::Refused(Refusal::BitsForbid, 0);
+    match permission_over(files, policy, who, s, want) {
+        Permission::Allowed => open_free(files, open_files, processes, p, m, truncating, s),
+        Permission::Forbidden(r) => Decision::Refused(r, 0),
     }
-    if !label_allows(files, policy, who, s, want) {
-        return Decision::Refused(Refusal::LabelForbids, 0);
-    }
-    open_free(files, open_files, processes, p, m, truncating, s)
 }
 
 fn open_mode(

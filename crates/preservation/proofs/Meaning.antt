@@ -12,8 +12,8 @@ use Rattle.rules.specs.Layout.{KIND-MAX, USER-MAX, BITS-MAX, LABEL-MAX, MODE-MA
 use Rattle.rules.specs.Store.{Store, Table}
 use Rattle.rules.specs.Rights.{bitsKnown, modeOf, modeKept}
 use Rattle.rules.specs.Directories.{direntAt}
-use Rattle.rules.specs.Sound.{sizesSound, recordFree, recordSound, direntSound, differs, isNew, direntsSound, ownersFree, ownersSound, accessFree, accessSound, fieldsSound, subjectFree, subjectSound}
-use Rattle.rules.specs.Sound.{openFree, openUsed, openSound, descSound, descFree, procFree, procUsed, procSound}
+use Rattle.rules.specs.Sound.{slotsSized, sizesSound, recordFree, recordSound, direntSound, differs, isNew, entriesSound, direntsSound, ownersFree, ownersSound, accessFree, accessSound, fieldsSound, subjectFree, subjectSound}
+use Rattle.rules.specs.Sound.{openFree, onPlainFile, openUsed, openSound, descSound, descFree, procFree, procUsed, procSound}
 use Rattle.rules.proofs.Ranges.{bits-known, mode-kept}
 use Rattle.preservation.proofs.Tests.{Means, means-every, means-and, means-last, means-imp, means-cond, means-or3, means-eq, means-lt, means-le, means-not, means-test, means-all, means-same}
 use Rattle.preservation.proofs.Tables.{col}
@@ -25,13 +25,17 @@ use Rattle.preservation.proofs.Counted.{names-counted, holders-counted}
 
 -- ---- sizes
 
+means-slots-sized : (s : Store) → Means (slotsSized s) ((length (s .files) ≡ SLOTS * FILE-WIDTH) × (length (s .contents) ≡ SLOTS * BLOCK))
+unfolding slotsSized
+means-slots-sized s = means-every (means-and (means-eq (length (s .files)) (SLOTS * FILE-WIDTH)) (means-last (means-eq (length (s .contents)) (SLOTS * BLOCK))))
+
 pub means-sized : (s : Store) → Means (sizesSound s) (Sized s)
 unfolding sizesSound
 means-sized s = means-same
-    (means-every (means-and (means-eq (length (s .files)) (SLOTS * FILE-WIDTH)) (means-and (means-eq (length (s .contents)) (SLOTS * BLOCK))
-    (means-and (means-eq (length (s .openFiles)) (OPEN-FILES * OPEN-FILE-WIDTH)) (means-last (means-eq (length (s .processes)) (PROCESSES * PROCESS-WIDTH)))))))
-    (λ w. record { files-size = w .0; contents-size = w .1 .0; open-files-size = w .1 .1 .0; processes-size = w .1 .1 .1 })
-    (λ w. (w .files-size, (w .contents-size, (w .open-files-size, w .processes-size))))
+    (means-every (means-and (means-slots-sized s)
+    (means-and (means-eq (length (s .openFiles)) (OPEN-FILES * OPEN-FILE-WIDTH)) (means-last (means-eq (length (s .processes)) (PROCESSES * PROCESS-WIDTH))))))
+    (λ w. record { files-size = w .0 .0; contents-size = w .0 .1; open-files-size = w .1 .0; processes-size = w .1 .1 })
+    (λ w. ((w .files-size, w .contents-size), (w .open-files-size, w .processes-size)))
 
 -- ---- bits and modes
 
@@ -92,28 +96,29 @@ module _ (file : Table) (D : List ℕ) (rows : ℕ → ℕ → ℕ) (agree : (i 
   unfolding isNew
   means-new i = means-all i (differs D i) (λ j. (rows i NAME ≡ 0 → ⊥) → (rows j NAME ≡ 0 → ⊥) → sameRow (rows i) (rows j) ≡ true → ⊥) (means-differs i)
 
-  pub means-dirents : (n : ℕ) → Means (direntsSound file D n) (Directory (col file FILE-KIND) rows × ((n ≡ nameCount rows) × ((b : ℕ) → b < length D → DIRENTS * DIRENT-WIDTH ≤ b → getD D b 0 ≡ 0)))
-  unfolding direntsSound
-  means-dirents n = means-same w
-      (λ u. (record { dirents = u .0; different = λ p hp q hq ne. apart (u .1 .0) p hp q hq ne (decLt p q) }, u .1 .1))
-      (λ u. (u .0 .dirents, ((λ i hi j hj. u .0 .different i hi j (omega arith) (λ e. omega arith)), u .1)))
+  means-entries : Means (entriesSound file D) (Directory (col file FILE-KIND) rows)
+  unfolding entriesSound
+  means-entries = means-same w
+      (λ u. record { dirents = u .0; different = λ p hp q hq ne. apart (u .1) p hp q hq ne (decLt p q) })
+      (λ u. (u .dirents, λ i hi j hj. u .different i hi j (omega arith) (λ e. omega arith)))
     where
-      w : Means (direntsSound file D n) (All DIRENTS (λ i. Dirent (col file FILE-KIND) (rows i))
-          × (All DIRENTS (λ i. All i (λ j. (rows i NAME ≡ 0 → ⊥) → (rows j NAME ≡ 0 → ⊥) → sameRow (rows i) (rows j) ≡ true → ⊥))
-          × ((n ≡ nameCount rows) × ((b : ℕ) → b < length D → DIRENTS * DIRENT-WIDTH ≤ b → getD D b 0 ≡ 0))))
-      w = rw (names-counted D rows agree) (means-every (means-and (means-all DIRENTS (direntSound file D) _ (means-dirent D rows agree file)) (means-and (means-all DIRENTS (isNew D) _ means-new)
-          (means-and (means-eq n (nameCount rows)) (means-last (means-zeros D (DIRENTS * DIRENT-WIDTH)))))))
+      w : Means (entriesSound file D) (All DIRENTS (λ i. Dirent (col file FILE-KIND) (rows i)) × All DIRENTS (λ i. All i (λ j. (rows i NAME ≡ 0 → ⊥) → (rows j NAME ≡ 0 → ⊥) → sameRow (rows i) (rows j) ≡ true → ⊥)))
+      w = means-every (means-and (means-all DIRENTS (direntSound file D) _ (means-dirent D rows agree file)) (means-last (means-all DIRENTS (isNew D) _ means-new)))
 
       apart : All DIRENTS (λ i. All i (λ j. (rows i NAME ≡ 0 → ⊥) → (rows j NAME ≡ 0 → ⊥) → sameRow (rows i) (rows j) ≡ true → ⊥)) →
           (p : ℕ) → p < DIRENTS → (q : ℕ) → q < DIRENTS → (p ≡ q → ⊥) → Dec (p < q) → (rows p NAME ≡ 0 → ⊥) → (rows q NAME ≡ 0 → ⊥) → sameRow (rows p) (rows q) ≡ true → ⊥
       apart u p hp q hq ne (yes l) a b e = u q hq p l b a (sameRow-sym (rows p) (rows q) e)
       apart u p hp q hq ne (no l) a b e = u p hp q (omega arith) a b e
 
+  pub means-dirents : (n : ℕ) → Means (direntsSound file D n) (Directory (col file FILE-KIND) rows × ((n ≡ nameCount rows) × ((b : ℕ) → b < length D → DIRENTS * DIRENT-WIDTH ≤ b → getD D b 0 ≡ 0)))
+  unfolding direntsSound
+  means-dirents n = rw (names-counted D rows agree) (means-every (means-and means-entries (means-and (means-eq n (nameCount rows)) (means-last (means-zeros D (DIRENTS * DIRENT-WIDTH))))))
+
 -- ---- open files and processes
 
 pub means-open-file : (file openFiles desc : Table) (e : ℕ) → Means (openSound file openFiles desc e)
     ((openFiles e OPEN-REFERENCES ≡ holderCount desc e) × OpenFile (col file FILE-KIND) (openFiles e))
-unfolding openSound openFree openUsed
+unfolding openSound openFree openUsed onPlainFile
 means-open-file file openFiles desc e = means-same w
     (λ u. (
       u .0,
@@ -121,21 +126,21 @@ means-open-file file openFiles desc e = means-same w
         slot-zero = λ z. u .1 .0 z .0;
         mode-zero = λ z. u .1 .0 z .1 .0;
         offset-zero = λ z. u .1 .0 z .1 .1;
-        slot-small = λ n. u .1 .1 n .0;
-        plain = λ n. u .1 .1 n .1 .0;
-        mode-least = λ n. u .1 .1 n .1 .1 .0 .0;
-        mode-most = λ n. u .1 .1 n .1 .1 .0 .1;
-        offset-most = λ n. u .1 .1 n .1 .1 .1;
+        slot-small = λ n. u .1 .1 n .0 .0;
+        plain = λ n. u .1 .1 n .0 .1;
+        mode-least = λ n. u .1 .1 n .1 .0 .0;
+        mode-most = λ n. u .1 .1 n .1 .0 .1;
+        offset-most = λ n. u .1 .1 n .1 .1;
       },
     ))
-    (λ u. let o = u .1 in (u .0, ((λ z. (o .slot-zero z, (o .mode-zero z, o .offset-zero z))), λ n. (o .slot-small n, (o .plain n, ((o .mode-least n, o .mode-most n), o .offset-most n))))))
+    (λ u. let o = u .1 in (u .0, ((λ z. (o .slot-zero z, (o .mode-zero z, o .offset-zero z))), λ n. ((o .slot-small n, o .plain n), ((o .mode-least n, o .mode-most n), o .offset-most n)))))
   where
     w : Means (openSound file openFiles desc e) ((openFiles e OPEN-REFERENCES ≡ holderCount desc e)
         × ((openFiles e OPEN-REFERENCES ≡ 0 → (openFiles e OPEN-SLOT ≡ 0) × ((openFiles e OPEN-MODE ≡ 0) × (openFiles e OPEN-OFFSET ≡ 0)))
-        × ((openFiles e OPEN-REFERENCES ≡ 0 → ⊥) → (openFiles e OPEN-SLOT < SLOTS) × ((file (openFiles e OPEN-SLOT) FILE-KIND ≡ PLAIN) × (((1 ≤ openFiles e OPEN-MODE) × (openFiles e OPEN-MODE ≤ MODE-MAX)) × (openFiles e OPEN-OFFSET ≤ BLOCK))))))
+        × ((openFiles e OPEN-REFERENCES ≡ 0 → ⊥) → ((openFiles e OPEN-SLOT < SLOTS) × (file (openFiles e OPEN-SLOT) FILE-KIND ≡ PLAIN)) × (((1 ≤ openFiles e OPEN-MODE) × (openFiles e OPEN-MODE ≤ MODE-MAX)) × (openFiles e OPEN-OFFSET ≤ BLOCK)))))
     w = rw (holders-counted desc e) (means-every (means-and (means-eq (openFiles e OPEN-REFERENCES) (holderCount desc e)) (means-last (means-cond (means-eq (openFiles e OPEN-REFERENCES) 0)
         (means-every (means-and (means-eq (openFiles e OPEN-SLOT) 0) (means-and (means-eq (openFiles e OPEN-MODE) 0) (means-last (means-eq (openFiles e OPEN-OFFSET) 0)))))
-        (means-every (means-and (means-lt (openFiles e OPEN-SLOT) SLOTS) (means-and (means-eq (file (openFiles e OPEN-SLOT) FILE-KIND) PLAIN) (means-and (means-mode (openFiles e OPEN-MODE)) (means-last (means-le (openFiles e OPEN-OFFSET) BLOCK))))))))))
+        (means-every (means-and (means-every (means-and (means-lt (openFiles e OPEN-SLOT) SLOTS) (means-last (means-eq (file (openFiles e OPEN-SLOT) FILE-KIND) PLAIN)))) (means-and (means-mode (openFiles e OPEN-MODE)) (means-last (means-le (openFiles e OPEN-OFFSET) BLOCK)))))))))
 
 -- The test goes by whether the process is in use: of a free one the limits are left out, since its words are 0, and of a used one the zeros.
 pub means-process : (proc desc : Table) (p : ℕ) → Means (procSound proc desc p) (Process (proc p) (desc p))

@@ -9,9 +9,9 @@ use lib.Dec.{eqb, leb}
 use lib.ListN.{length, getD, take, drop, length-drop}
 use lib.Seq.{length-take-le, getD-take, getD-drop}
 use borrow.Author.Tests.{eqb-true, eq-eqb}
-use Rattle.rules.specs.Layout.{NAME, NAMES, PATH, SLASH}
+use Rattle.rules.specs.Layout.{NAME, NAMES, SLASH}
 use Rattle.rules.specs.Choice.{every}
-use Rattle.rules.specs.Paths.{Name, isSlash, notSlash, notZero, span, skip, nextName, nameEnd, firstNames, names, isDots, nameOk, namesOk, noZero, shapeOk, endOk, pathOk, isRoot, lastName}
+use Rattle.rules.specs.Paths.{Name, isSlash, notSlash, notZero, span, skip, nextName, nameEnd, firstNames, names, isDots, nameOk, namesOk, noZero, sizeOk, shapeOk, endOk, namesFit, pathOk, isRoot, lastName}
 use Rattle.rules.specs.Calls.{pathBelowRoot}
 use Rattle.rules.proofs.Walks.{Each}
 use Rattle.preservation.proofs.Tests.{split, means-every, means-and, means-last, means-le, means-not, means-test}
@@ -110,11 +110,11 @@ pub record GoodPath (p : List ℕ) : Type 0 where
   pub short : length (names p) ≤ NAMES
 
 pub path-good : (p : List ℕ) → pathOk p ≡ true → GoodPath p
-unfolding pathOk shapeOk
+unfolding pathOk shapeOk namesFit
 path-good p e =
-    let w = means-every (means-and (means-every (means-and (means-test (leb 1 (length p))) (means-and (means-test (leb (length p) PATH)) (means-and (means-test (isSlash (getD p 0 0))) (means-last (means-test (noZero p)))))))
-    (means-and (means-le (length (names p)) NAMES) (means-and (means-test (namesOk (names p))) (means-last (means-test (endOk p)))))) .holds e in
-    record { good = good-names (names p) (first-good (NAMES + 1) p (clean-path p (w .0 .1 .1 .1))) (w .1 .1 .0); short = w .1 .0 }
+    let w = means-every (means-and (means-every (means-and (means-test (sizeOk p)) (means-and (means-test (isSlash (getD p 0 0))) (means-last (means-test (noZero p))))))
+    (means-and (means-every (means-and (means-le (length (names p)) NAMES) (means-last (means-test (namesOk (names p)))))) (means-last (means-test (endOk p))))) .holds e in
+    record { good = good-names (names p) (first-good (NAMES + 1) p (clean-path p (w .0 .1 .1))) (w .1 .0 .1); short = w .1 .0 .0 }
 
 pub below-root : (p : List ℕ) → pathBelowRoot p ≡ true → GoodPath p × (0 < length (names p))
 unfolding pathBelowRoot isRoot

@@ -14,7 +14,7 @@ use Rattle.rules.specs.Layout.{FILE-KIND, FILE-LENGTH, FILE-LINKS, OPEN-SLOT, O
 use Rattle.rules.specs.Choice.{some}
 use Rattle.rules.specs.Store.{Store, Fixed, view, slot, tab, block, shownOf, isOpen}
 use Rattle.rules.specs.Directories.{direntAt}
-use Rattle.rules.specs.Sound.{sizesSound, allZero, direntsSound, linksSound, directorySound, plainSound, kindSound, slotSound, openSound, procSound, tablesSound, storeSound, policySound, sound}
+use Rattle.rules.specs.Sound.{sizesSound, allZero, direntsSound, linksSound, directorySound, plainSound, kindSound, slotSound, openSound, procSound, treeSound, tablesSound, storeSound, policySound, sound}
 use Rattle.preservation.proofs.Tests.{Means, means-every, means-and, means-last, means-cond, means-choice, means-or, means-eq, means-lt, means-le, means-test, means-all, means-within, means-same}
 use Rattle.preservation.proofs.Tables.{Tables, col, direntRow}
 use Rattle.preservation.proofs.Sound.{All, Sound, File, Block, Directory, OpenFile, Process, nameCount, linkCount, depthWithin, openCount, holderCount}
@@ -113,63 +113,70 @@ module _ (s : Store) (z : Sized s) where
 
   -- ---- all tables
 
+  abbrev OfTree : Type 0
+  OfTree = (file 0 FILE-KIND ≡ DIRECTORY) × All SLOTS OfSlot
+
+  means-tree : Means (treeSound (view s .tree) (view s .openFiles)) OfTree
+  unfolding treeSound
+  means-tree = means-every (means-and (means-eq (file 0 FILE-KIND) DIRECTORY) (means-last (means-within SLOTS (slotSound (view s .tree) (view s .openFiles)) OfSlot means-slot)))
+
   abbrev OfTables : Type 0
-  OfTables = (file 0 FILE-KIND ≡ DIRECTORY) × (All SLOTS OfSlot × (All OPEN-FILES (λ e. (tab OPEN-FILE-WIDTH (s .openFiles) e OPEN-REFERENCES ≡ holderCount (view s .desc) e)
-      × OpenFile kind (tab OPEN-FILE-WIDTH (s .openFiles) e)) × All PROCESSES (λ p. Process (view s .proc p) (view s .desc p))))
+  OfTables = OfTree × (All OPEN-FILES (λ e. (tab OPEN-FILE-WIDTH (s .openFiles) e OPEN-REFERENCES ≡ holderCount (view s .desc) e)
+      × OpenFile kind (tab OPEN-FILE-WIDTH (s .openFiles) e)) × All PROCESSES (λ p. Process (view s .proc p) (view s .desc p)))
 
   means-parts : Means (tablesSound (view s)) OfTables
   unfolding tablesSound
-  means-parts = means-every (means-and (means-eq (file 0 FILE-KIND) DIRECTORY) (means-and (means-within SLOTS (slotSound (view s .tree) (view s .openFiles)) OfSlot means-slot)
-      (means-and (means-all OPEN-FILES (openSound (view s .tree .file) (view s .openFiles) (view s .desc)) _ (means-open-file (view s .tree .file) (view s .openFiles) (view s .desc))) (means-last (means-all PROCESSES (procSound (view s .proc) (view s .desc)) _ (means-process (view s .proc) (view s .desc)))))))
+  means-parts = means-every (means-and means-tree
+      (means-and (means-all OPEN-FILES (openSound (view s .tree .file) (view s .openFiles) (view s .desc)) _ (means-open-file (view s .tree .file) (view s .openFiles) (view s .desc))) (means-last (means-all PROCESSES (procSound (view s .proc) (view s .desc)) _ (means-process (view s .proc) (view s .desc))))))
 
   -- What the test says slot by slot, group by group. The test finds a block's zeros by kind: a slot neither directory nor plain is free, of length 0.
   from-parts : OfTables → Sound (tablesOf s)
   unfolding tablesOf
   from-parts w = record {
     slots = record {
-      files = λ d h. w .1 .0 d h .0;
-      root-kind = w .0;
-      root-links = w .1 .0 0 (omega arith) .1 .0 .0 refl;
+      files = λ d h. w .0 .1 d h .0;
+      root-kind = w .0 .0;
+      root-links = w .0 .1 0 (omega arith) .1 .0 .0 refl;
       blocks = blocks;
     };
     tree = record {
-      dirs = λ d h e. w .1 .0 d h .1 .1 .0 e .0 .0;
-      lengths = λ d h e. w .1 .0 d h .1 .1 .0 e .0 .1 .0;
-      links = λ d h. w .1 .0 d h .1 .0 .1;
-      depths = depths-from kind rows (λ u hu e p hp. w .1 .0 u hu .1 .1 .0 e .0 .0 .dirents p hp .slot-small) (λ d h e n. sym (w .1 .0 d h .1 .0 .1 n) ∙ once d h e n) (λ d h e. w .1 .0 d h .1 .1 .0 e .1 .1);
+      dirs = λ d h e. w .0 .1 d h .1 .1 .0 e .0 .0;
+      lengths = λ d h e. w .0 .1 d h .1 .1 .0 e .0 .1 .0;
+      links = λ d h. w .0 .1 d h .1 .0 .1;
+      depths = depths-from kind rows (λ u hu e p hp. w .0 .1 u hu .1 .1 .0 e .0 .0 .dirents p hp .slot-small) (λ d h e n. sym (w .0 .1 d h .1 .0 .1 n) ∙ once d h e n) (λ d h e. w .0 .1 d h .1 .1 .0 e .1 .1);
     };
     live = record {
       once = λ d h _ e n. once d h e n;
       alive = λ d h _ e. plain d h e .1 .0;
     };
     opens = record {
-      open-files = λ e h. w .1 .1 .0 e h .1;
-      refs = λ e h. w .1 .1 .0 e h .0;
+      open-files = λ e h. w .1 .0 e h .1;
+      refs = λ e h. w .1 .0 e h .0;
     };
-    procs = w .1 .1 .1;
+    procs = w .1 .1;
   }
     where
       once : (d : ℕ) → d < SLOTS → file d FILE-KIND ≡ DIRECTORY → (d ≡ 0 → ⊥) → file d FILE-LINKS ≡ 1
-      once d h e n = w .1 .0 d h .1 .1 .0 e .1 .0 n
+      once d h e n = w .0 .1 d h .1 .1 .0 e .1 .0 n
 
       plain : (d : ℕ) → d < SLOTS → file d FILE-KIND ≡ PLAIN → OfPlain d
-      plain d h e = w .1 .0 d h .1 .1 .1 (λ q. omega (arith, e)) .0 e
+      plain d h e = w .0 .1 d h .1 .1 .1 (λ q. omega (arith, e)) .0 e
 
       blocks : (d : ℕ) → d < SLOTS → Block (file d FILE-KIND) (file d FILE-LENGTH) (tab BLOCK (s .contents) d)
       blocks d h = by (ℕ-discrete (file d FILE-KIND) DIRECTORY) (ℕ-discrete (file d FILE-KIND) PLAIN)
         where
           by : Dec (file d FILE-KIND ≡ DIRECTORY) → Dec (file d FILE-KIND ≡ PLAIN) → Block (file d FILE-KIND) (file d FILE-LENGTH) (tab BLOCK (s .contents) d)
-          by (yes e) p = record { length-most = λ n. absurd (n e); past-zero = λ n. absurd (n e); tail-zero = λ _. w .1 .0 d h .1 .1 .0 e .0 .1 .1 }
+          by (yes e) p = record { length-most = λ n. absurd (n e); past-zero = λ n. absurd (n e); tail-zero = λ _. w .0 .1 d h .1 .1 .0 e .0 .1 .1 }
           by (no n) (yes e) = record { length-most = λ _. plain d h e .0; past-zero = λ _. plain d h e .1 .1; tail-zero = λ q. absurd (n q) }
           by (no n) (no o) =
-              let f : file d FILE-KIND ≡ FREE = omega (arith, w .1 .0 d h .0 .kind-most, n, o) in
-              let l : file d FILE-LENGTH ≡ 0 = w .1 .0 d h .0 .length-zero f in
-              record { length-most = λ _. omega arith; past-zero = λ _ b hb _. w .1 .0 d h .1 .1 .1 n .1 o b hb (omega arith); tail-zero = λ q. absurd (n q) }
+              let f : file d FILE-KIND ≡ FREE = omega (arith, w .0 .1 d h .0 .kind-most, n, o) in
+              let l : file d FILE-LENGTH ≡ 0 = w .0 .1 d h .0 .length-zero f in
+              record { length-most = λ _. omega arith; past-zero = λ _ b hb _. w .0 .1 d h .1 .1 .1 n .1 o b hb (omega arith); tail-zero = λ q. absurd (n q) }
 
   -- Back again: the depth that the test computes is the one that the tree has.
   to-parts : Sound (tablesOf s) → OfTables
   unfolding tablesOf
-  to-parts h = (h .slots .root-kind, (slots, ((λ e he. (h .opens .refs e he, h .opens .open-files e he)), h .procs)))
+  to-parts h = ((h .slots .root-kind, slots), ((λ e he. (h .opens .refs e he, h .opens .open-files e he)), h .procs))
     where
       once : (d : ℕ) → d < SLOTS → file d FILE-KIND ≡ DIRECTORY → (d ≡ 0 → ⊥) → file d FILE-LINKS ≡ 1
       once d hd = h .live .once d hd (λ q. omega (arith, hd))

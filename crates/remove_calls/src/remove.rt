@@ -7,8 +7,8 @@ ghost use Rattle.rules.specs.DecidePaths.{removed, removeEmpty, removeAt, decid
 use allocation::last::freed_record;
 use directories::changes::losing;
 use resolution::walk::walk_path;
-use rights::rights::bits_allow;
-use rights::rights::label_allows;
+use rights::rights::Permission;
+use rights::rights::permission_over;
 use rules::decision::Decision;
 use rules::decision::Effect;
 use rules::decision::Location;
@@ -52,13 +52,10 @@ fn remove_at(files: &[u32], policy: &[u8], who: Subject, at: Location) -> Decisi
     if !is_directory(files, at.slot) {
         return Decision::Refused(Refusal::WrongKind, 0);
     }
-    if !bits_allow(files, who, at.dir, Rights::WRITE) {
-        return Decision::Refused(Refusal::BitsForbid, 0);
+    match permission_over(files, policy, who, at.dir, Rights::WRITE) {
+        Permission::Allowed => remove_empty(files, at),
+        Permission::Forbidden(r) => Decision::Refused(r, 0),
     }
-    if !label_allows(files, policy, who, at.dir, Rights::WRITE) {
-        return Decision::Refused(Refusal::LabelForbids, 0);
-    }
-    remove_empty(files, at)
 }
 
 pub fn decide_remove(

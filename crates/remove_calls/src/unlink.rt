@@ -14,8 +14,8 @@ use allocation::last::freed_record;
 use allocation::last::none_but;
 use directories::changes::losing;
 use resolution::walk::walk_path;
-use rights::rights::bits_allow;
-use rights::rights::label_allows;
+use rights::rights::Permission;
+use rights::rights::permission_over;
 use rules::decision::Decision;
 use rules::decision::Effect;
 use rules::decision::Location;
@@ -95,13 +95,10 @@ fn unlink_at(
     if !is_plain(files, at.slot) {
         return Decision::Refused(Refusal::WrongKind, 0);
     }
-    if !bits_allow(files, who, at.dir, Rights::WRITE) {
-        return Decision::Refused(Refusal::BitsForbid, 0);
+    match permission_over(files, policy, who, at.dir, Rights::WRITE) {
+        Permission::Allowed => unlinked_at(files, open_files, at),
+        Permission::Forbidden(r) => Decision::Refused(r, 0),
     }
-    if !label_allows(files, policy, who, at.dir, Rights::WRITE) {
-        return Decision::Refused(Refusal::LabelForbids, 0);
-    }
-    unlinked_at(files, open_files, at)
 }
 
 pub fn decide_unlink(

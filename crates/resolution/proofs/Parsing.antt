@@ -10,7 +10,7 @@ use lib.Dec.{eqb, leb, ltb, leb·zero, leb·suc-zero, leb·suc-suc}
 use lib.ListN.{length, getD, take, drop, drop-of-length-le}
 use lib.Seq.{drop-drop}
 use Rattle.rules.specs.Choice.{every, some}
-use Rattle.rules.specs.Paths.{Name, span, isSlash, notSlash, names, firstNames, nameOk, namesOk, noZero, shapeOk, endOk, pathOk, isRoot}
+use Rattle.rules.specs.Paths.{Name, span, isSlash, notSlash, names, firstNames, nameOk, namesOk, noZero, sizeOk, shapeOk, endOk, namesFit, pathOk, isRoot}
 use Rattle.rules.specs.Calls.{pathBelowRoot}
 use Rattle.rules.proofs.Choices.{every-last}
 use Rattle.resolution.specs.declared.paths.Parsed.{Parsed}
@@ -101,6 +101,10 @@ module _ (p : List ℕ) where
   abbrev by : (some short slash clean few named end : Bool) → Parsed
   by a b d z f o e = cond (every (a ∷ b ∷ d ∷ [])) (cond (every (z ∷ f ∷ o ∷ [])) (cond e (Names n) Bad) Bad) Bad
 
+  -- the rules' seven, in their groups
+  abbrev pathBy : (some short slash clean few named end : Bool) → Bool
+  pathBy a b d z f o e = every (every (every (a ∷ b ∷ []) ∷ d ∷ z ∷ []) ∷ every (f ∷ o ∷ []) ∷ e ∷ [])
+
   on-read : (b : Bool) → onRead p (cond b (Names n) Bad) ≡ cond b (cond (some (eqb n 0 ∷ lastOk p ∷ [])) (Names n) Bad) Bad
   unfolding onRead ended
   on-read true = refl
@@ -111,10 +115,10 @@ module _ (p : List ℕ) where
   parsed-by = rw (words-read 9 p 0, zero-add, leb·suc-suc n 8, on-read)
 
   pub path-ok-is : isParsed (parsedBy p) ≡ pathOk p
-  unfolding pathOk shapeOk every isParsed
+  unfolding pathOk shapeOk sizeOk namesFit every isParsed
   path-ok-is = rw parsed-by (go (leb 1 (length p)) (leb (length p) 64) (isSlash (getD p 0 0)) (noZero p) (leb n 8) (namesOk (names p)) (endOk p))
     where
-      go : (a b d z f o e : Bool) → isParsed (by a b d z f o e) ≡ every (every (a ∷ b ∷ d ∷ z ∷ []) ∷ f ∷ o ∷ e ∷ [])
+      go : (a b d z f o e : Bool) → isParsed (by a b d z f o e) ≡ pathBy a b d z f o e
       go true true true true true true true = refl
       go true true true true true true false = refl
       go true true true true true false e = refl
@@ -125,10 +129,10 @@ module _ (p : List ℕ) where
       go false b d z f o e = refl
 
   pub below-root-is : hasNames (parsedBy p) ≡ pathBelowRoot p
-  unfolding pathBelowRoot pathOk shapeOk isRoot every hasNames
+  unfolding pathBelowRoot pathOk shapeOk sizeOk namesFit isRoot every hasNames
   below-root-is = rw parsed-by (go (leb 1 (length p)) (leb (length p) 64) (isSlash (getD p 0 0)) (noZero p) (leb n 8) (namesOk (names p)) (endOk p))
     where
-      go : (a b d z f o e : Bool) → hasNames (by a b d z f o e) ≡ every (every (every (a ∷ b ∷ d ∷ z ∷ []) ∷ f ∷ o ∷ e ∷ []) ∷ not (eqb n 0) ∷ [])
+      go : (a b d z f o e : Bool) → hasNames (by a b d z f o e) ≡ every (pathBy a b d z f o e ∷ not (eqb n 0) ∷ [])
       go true true true true true true true = every-last _ _ refl
       go true true true true true true false = refl
       go true true true true true false e = refl

@@ -13,8 +13,8 @@ use crate::path_names::read_name;
 use crate::paths::ByteClass;
 use crate::paths::span_end;
 use directories::entries::dirent_by;
-use rights::rights::bits_allow;
-use rights::rights::label_allows;
+use rights::rights::Permission;
+use rights::rights::permission_over;
 use rules::decision::Intent;
 use rules::decision::Location;
 use rules::decision::Walk;
@@ -94,13 +94,10 @@ fn look_up(
     if !tables::files::is_directory(files, d) {
         return Walk::Stopped(Refusal::NotADirectory, k);
     }
-    if !bits_allow(files, who, d, Rights::EXECUTE) {
-        return Walk::Stopped(Refusal::BitsForbid, k);
+    match permission_over(files, policy, who, d, Rights::EXECUTE) {
+        Permission::Allowed => find_by(files, contents, d, low, high, k, intent),
+        Permission::Forbidden(r) => Walk::Stopped(r, k),
     }
-    if !label_allows(files, policy, who, d, Rights::EXECUTE) {
-        return Walk::Stopped(Refusal::LabelForbids, k);
-    }
-    find_by(files, contents, d, low, high, k, intent)
 }
 
 // No name follows: the path ends, or as many names were read as tell.

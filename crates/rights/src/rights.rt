@@ -5,10 +5,18 @@ ghost use Rattle.rules.specs.Store.{tab};
 ghost use Rattle.rules.specs.Rights.{stands, covers, rightsIn, bitsGrant, executable, bitsExecute, owns, labelGrants};
 ghost use Rattle.rules.specs.Walk.{bitsAllow, labelAllows};
 ghost use Rattle.rules.specs.DecidePaths.{bitsAllowExecute};
+ghost use Rattle.rights.specs.Permissions.{permitted};
 use rules::ids::Slot;
+use rules::refusal::Refusal;
 use rules::request::Subject;
 use rules::rights::Bits;
 use rules::rights::Rights;
+
+// The answer to a subject that asks for rights over a slot.
+pub enum Permission {
+    Allowed,
+    Forbidden(Refusal),
+}
 
 fn stands_in(held: u32, want: u32) -> bool
     ensures { λ r. ⌜ r ≡ stands held want ⌝ }
@@ -133,4 +141,23 @@ pub fn label_allows(files: &[u32], policy: &[u8], who: Subject, s: Slot, want: R
     ensures { λ r. ⌜ r ≡ labelAllows (tab FILE-WIDTH (now (files .entry))) (now (policy .entry)) who s want ⌝ }
 {
     label_grants(policy, who, tables::files::label(files, s), want)
+}
+
+// Rights over slot s, asked of its bits (9) and then of its label (10): here alone, so that no call can leave one out or change the order.
+pub fn permission_over(
+    files: &[u32],
+    policy: &[u8],
+    who: Subject,
+    s: Slot,
+    want: Rights,
+) -> Permission
+    ensures { λ r. ⌜ r ≡ permitted (tab FILE-WIDTH (now (files .entry))) (now (policy .entry)) who s want ⌝ }
+{
+    if !bits_allow(files, who, s, want) {
+        return Permission::Forbidden(Refusal::BitsForbid);
+    }
+    if !label_allows(files, policy, who, s, want) {
+        return Permission::Forbidden(Refusal::LabelForbids);
+    }
+    Permission::Allowed
 }

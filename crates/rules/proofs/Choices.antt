@@ -47,10 +47,6 @@ same-not r b q = rw q
 
 -- ---- lists of tests
 
-pub every-none : true ≡ every []
-unfolding every
-every-none = refl
-
 pub every-last : (z b : Bool) → z ≡ b → z ≡ every (b ∷ [])
 unfolding every
 every-last z true e = e

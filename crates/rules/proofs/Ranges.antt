@@ -1,24 +1,15 @@
--- What the constructors of rights, bits and modes take, as bounds.
+-- What the constructors of bits and modes take, as bounds.
 use Prim.Native.Nat.{ℕ, _+_, _-_}
 use mathlib.Core.Path.{_≡_, refl}
 use mathlib.Core.Bool.{Bool, true, false, cond}
 use mathlib.Core.List.{[], _∷_}
 use lib.Dec.{leb}
 use Rattle.rules.specs.Choice.{every}
-use Rattle.rules.specs.Layout.{RIGHTS-MAX, BITS-MAX, MODE-MAX}
-use Rattle.rules.specs.Rights.{rightsOf, rightsValid, rightsKnown, bitsOf, bitsValid, bitsKnown, modeOf, modeKept, TRUNCATE}
-use Rattle.rules.specs.declared.rights.RightsNumber.the-variants as rights
+use Rattle.rules.specs.Layout.{BITS-MAX, MODE-MAX}
+use Rattle.rules.specs.Rights.{bitsOf, bitsValid, bitsKnown, modeOf, modeKept, TRUNCATE}
 use Rattle.rules.specs.declared.rights.BitsNumber.the-variants as bits
 use Rattle.rules.specs.declared.rights.ModeNumber.{ModeNumber}
 use Rattle.rules.specs.declared.rights.ModeNumber.the-variants.{Keep, Truncate, OutOfRange}
-
-pub rights-known : (n : ℕ) → rightsKnown n ≡ leb n RIGHTS-MAX
-unfolding rightsOf rightsValid
-rights-known n = by (leb n RIGHTS-MAX)
-  where
-    by : (b : Bool) → rightsValid (cond b (rights.Valid (record { 0 = n })) rights.OutOfRange) ≡ b
-    by true = refl
-    by false = refl
 
 pub bits-known : (n : ℕ) → bitsKnown n ≡ leb n BITS-MAX
 unfolding bitsOf bitsValid

@@ -252,9 +252,13 @@ unknown-whole = refl
 kept : (call path bytes : ℕ) → Bool
 kept call path bytes = canKeep (written (asked 2 call 3 0 (zeros path) (zeros bytes) []))
 
-longest-kept : every (kept 1 64 513 ∷ kept 6 64 64 ∷ kept 12 65 512 ∷ kept 99 64 512 ∷ []) ≡ true
+longest-kept : every (kept 1 64 513 ∷ kept 6 64 64 ∷ kept 12 65 512 ∷ []) ≡ true
 unfolding computing kept asked
 longest-kept = refl
+
+longest-unknown-kept : kept 99 64 512 ≡ true
+unfolding computing kept asked
+longest-unknown-kept = refl
 
 longer-not-kept : some (kept 1 65 0 ∷ kept 6 65 0 ∷ kept 6 0 65 ∷ kept 12 0 513 ∷ kept 99 65 0 ∷ kept 99 0 513 ∷ []) ≡ false
 unfolding computing kept asked

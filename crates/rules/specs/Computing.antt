@@ -5,10 +5,10 @@ use Rattle.rules.specs.Scan.{turns, fold, all, any, count, total, first,
 use Rattle.rules.specs.Refusals.{refusalNumber}
 use Rattle.rules.specs.Rights.{rightsOf, rightsValid, bitsOf, bitsValid, modeOf, modeKnown, modeKept, modeRights, reads, writes, appends, stands, covers, rightsIn, bitsGrant, executable, bitsExecute, owns, policyRights, labelGrants, transition, moved}
 use Rattle.rules.specs.Store.{descOf, hidden, shownOf, isOn, openBut, up, plus, zeros, applyAll}
-use Rattle.rules.specs.Paths.{isSlash, notSlash, notZero, span, skip, nextName, nameEnd, firstNames, sameAt, sameName, isDots, nameOk, namesOk, noZero, shapeOk, endOk, pathOk, isRoot}
+use Rattle.rules.specs.Paths.{isSlash, notSlash, notZero, span, skip, nextName, nameEnd, firstNames, sameAt, sameName, isDots, nameOk, namesOk, noZero, sizeOk, shapeOk, endOk, namesFit, pathOk, isRoot}
 use Rattle.rules.specs.Directories.{direntSlot, isEmpty, hasName, differsAt, precedes, isBefore, isRanked, isPadding, direntName, padded, dirent}
 use Rattle.rules.specs.Walk.{needAt, onReached, entered, lookup, here, walk}
-use Rattle.rules.specs.Sound.{sizesSound, rightSound, transitionSound, policySound, ownersFree, accessFree, recordFree, ownersSound, accessSound, fieldsSound, recordSound, allZero, nameByteSound, nameSound, usedSound, direntSound, differs, isNew, isUsed, direntsSound, linksAt, linksFrom, linksTo, linksSound, isParent, climbs, directorySound, plainSound, kindSound, slotSound, holdsAt, holdersIn, holders, openFree, openUsed, openSound, descSound, descFree, subjectFree, procFree, subjectSound, procUsed, procSound, tablesSound, storeSound, sound}
+use Rattle.rules.specs.Sound.{slotsSized, sizesSound, rightSound, transitionSound, policySound, ownersFree, accessFree, recordFree, ownersSound, accessSound, fieldsSound, recordSound, allZero, nameByteSound, nameSound, usedSound, direntSound, differs, isNew, isUsed, entriesSound, direntsSound, linksAt, linksFrom, linksTo, linksSound, isParent, climbs, directorySound, plainSound, kindSound, slotSound, holdsAt, holdersIn, holders, openFree, onPlainFile, openUsed, openSound, descSound, descFree, subjectFree, procFree, subjectSound, procUsed, procSound, treeSound, tablesSound, storeSound, sound}
 use Rattle.rules.specs.Calls.{operationOf, uses, pathBelowRoot, newFileOk, formOk}
 use Rattle.rules.specs.Written.{numberOf, numberIf, textIf, capped, normalBy, textsFit, layout, keep, numbersFit, accepted, decode}
 use Rattle.rules.specs.Checks.{need, after, inUse, held, slotFree, ofdFree, fdFree, pidFree, unnaming, closing, dropping, releasing, shareOf}
@@ -19,5 +19,5 @@ use Rattle.rules.specs.Step.{nameOut, fieldsOut, bufferOut, replyTo, sto
 use Rattle.rules.specs.Console.{consoleWith, console, consolePolicy}
 
 unfoldable pub computing : Bool
-unfolding every some implies turns fold all any count total first iterate repeat refusalNumber rightsOf rightsValid bitsOf bitsValid modeOf modeKnown modeKept modeRights reads writes appends stands covers rightsIn bitsGrant executable bitsExecute owns policyRights labelGrants transition moved descOf hidden shownOf isOn openBut up plus zeros applyAll isSlash notSlash notZero span skip nextName nameEnd firstNames sameAt sameName isDots nameOk namesOk noZero shapeOk endOk pathOk isRoot direntSlot isEmpty hasName differsAt precedes isBefore isRanked isPadding direntName padded dirent needAt onReached entered lookup here walk sizesSound rightSound transitionSound policySound ownersFree accessFree recordFree ownersSound accessSound fieldsSound recordSound allZero nameByteSound nameSound usedSound direntSound differs isNew isUsed direntsSound linksAt linksFrom linksTo linksSound isParent climbs directorySound plainSound kindSound slotSound holdsAt holdersIn holders openFree openUsed openSound descSound descFree subjectFree procFree subjectSound procUsed procSound tablesSound storeSound sound operationOf uses pathBelowRoot newFileOk formOk numberOf numberIf textIf capped normalBy textsFit layout keep numbersFit accepted decode need after inUse held slotFree ofdFree fdFree pidFree unnaming closing dropping releasing shareOf opening openRoom openFile openMode decideOpen createRoom createAt decideCreate unlinkAt decideUnlink removeAt decideRemove linkRoom linkAt linkTo decideLink listEntry listAt decideList changeBitsAt decideChangeBits decideStat executeAt decideExecute decideClose readOpen decideRead writeAt writeFile writeSome writeOpen decideWrite decideSeek duplicateTo decideDuplicate forkTo decideOwn decide nameChanges unnameChanges createChanges linkChanges unnamedChanges unlinkChanges removeChanges openChanges truncateChanges releaseChanges closeChanges storeChanges duplicateChanges shareChanges shared sharedAll released releasedAll forkChanges carryOut nameOut fieldsOut bufferOut replyTo storeAfter outcomeOf act step answers final consoleWith console consolePolicy
+unfolding every some implies turns fold all any count total first iterate repeat refusalNumber rightsOf rightsValid bitsOf bitsValid modeOf modeKnown modeKept modeRights reads writes appends stands covers rightsIn bitsGrant executable bitsExecute owns policyRights labelGrants transition moved descOf hidden shownOf isOn openBut up plus zeros applyAll isSlash notSlash notZero span skip nextName nameEnd firstNames sameAt sameName isDots nameOk namesOk noZero sizeOk shapeOk endOk namesFit pathOk isRoot direntSlot isEmpty hasName differsAt precedes isBefore isRanked isPadding direntName padded dirent needAt onReached entered lookup here walk slotsSized sizesSound rightSound transitionSound policySound ownersFree accessFree recordFree ownersSound accessSound fieldsSound recordSound allZero nameByteSound nameSound usedSound direntSound differs isNew isUsed entriesSound direntsSound linksAt linksFrom linksTo linksSound isParent climbs directorySound plainSound kindSound slotSound holdsAt holdersIn holders openFree onPlainFile openUsed openSound descSound descFree subjectFree procFree subjectSound procUsed procSound treeSound tablesSound storeSound sound operationOf uses pathBelowRoot newFileOk formOk numberOf numberIf textIf capped normalBy textsFit layout keep numbersFit accepted decode need after inUse held slotFree ofdFree fdFree pidFree unnaming closing dropping releasing shareOf opening openRoom openFile openMode decideOpen createRoom createAt decideCreate unlinkAt decideUnlink removeAt decideRemove linkRoom linkAt linkTo decideLink listEntry listAt decideList changeBitsAt decideChangeBits decideStat executeAt decideExecute decideClose readOpen decideRead writeAt writeFile writeSome writeOpen decideWrite decideSeek duplicateTo decideDuplicate forkTo decideOwn decide nameChanges unnameChanges createChanges linkChanges unnamedChanges unlinkChanges removeChanges openChanges truncateChanges releaseChanges closeChanges storeChanges duplicateChanges shareChanges shared sharedAll released releasedAll forkChanges carryOut nameOut fieldsOut bufferOut replyTo storeAfter outcomeOf act step answers final consoleWith console consolePolicy
 computing = true

@@ -72,23 +72,27 @@ namesOk (n ∷ ns) = cond (nameOk n) (namesOk ns) false
 unfoldable pub noZero : List ℕ → Bool
 noZero p = eqb (span notZero p) (length p)
 
--- 1 to 64 bytes, the first a slash, none 0
+-- 1 to 64 bytes
+unfoldable pub sizeOk : List ℕ → Bool
+sizeOk p = every (leb 1 (length p) ∷ leb (length p) PATH ∷ [])
+
+-- the first a slash, none 0
 unfoldable pub shapeOk : List ℕ → Bool
-shapeOk p = every (leb 1 (length p) ∷ leb (length p) PATH ∷ isSlash (getD p 0 0) ∷ noZero p ∷ [])
+shapeOk p = every (sizeOk p ∷ isSlash (getD p 0 0) ∷ noZero p ∷ [])
 
 -- "a slash after the last name is refused": no names, or the last byte is no slash
 unfoldable pub endOk : List ℕ → Bool
 endOk p = some (eqb (length (names p)) 0 ∷ notSlash (getD p (length p - 1) 0) ∷ [])
 
+-- at most 8 names, each a name
+unfoldable pub namesFit : List Name → Bool
+namesFit ns = every (leb (length ns) NAMES ∷ namesOk ns ∷ [])
+
 unfoldable pub pathOk : List ℕ → Bool
-pathOk p = every (shapeOk p ∷ leb (length (names p)) NAMES ∷ namesOk (names p) ∷ endOk p ∷ [])
+pathOk p = every (shapeOk p ∷ namesFit (names p) ∷ endOk p ∷ [])
 
 unfoldable pub isRoot : List ℕ → Bool
 isRoot p = eqb (length (names p)) 0
-
--- all names but the last, and the last
-abbrev pub parentNames : List Name → List Name
-parentNames ns = take (length ns - 1) ns
 
 abbrev pub lastName : List Name → Name
 lastName ns = getD ns (length ns - 1) []

@@ -17,10 +17,12 @@ use Rattle.rules.specs.Walk.{isDirectory, isPlain}
 
 -- ---- sizes: "Lent tables of another size are 1"
 
+-- a record and a block for each slot
+unfoldable pub slotsSized : Store → Bool
+slotsSized s = every (eqb (length (s .files)) (SLOTS * FILE-WIDTH) ∷ eqb (length (s .contents)) (SLOTS * BLOCK) ∷ [])
+
 unfoldable pub sizesSound : Store → Bool
-sizesSound s =
-    every (eqb (length (s .files)) (SLOTS * FILE-WIDTH) ∷ eqb (length (s .contents)) (SLOTS * BLOCK)
-    ∷ eqb (length (s .openFiles)) (OPEN-FILES * OPEN-FILE-WIDTH) ∷ eqb (length (s .processes)) (PROCESSES * PROCESS-WIDTH) ∷ [])
+sizesSound s = every (slotsSized s ∷ eqb (length (s .openFiles)) (OPEN-FILES * OPEN-FILE-WIDTH) ∷ eqb (length (s .processes)) (PROCESSES * PROCESS-WIDTH) ∷ [])
 
 -- ---- the policy: rights 0 to 7; transitions to a label, or 255
 
@@ -94,10 +96,13 @@ isNew D i = all (differs D i) 0 i
 unfoldable pub isUsed : List ℕ → ℕ → Bool
 isUsed D i = not (isEmpty D i)
 
+-- each entry, and its name among those before it
+unfoldable pub entriesSound : Table → List ℕ → Bool
+entriesSound file D = every (all (direntSound file D) 0 DIRENTS ∷ all (isNew D) 0 DIRENTS ∷ [])
+
 -- "a directory's [length] equal to its number of names"; "the last 256 bytes of the slot are 0"
 unfoldable pub direntsSound : Table → List ℕ → (length : ℕ) → Bool
-direntsSound file D n =
-    every (all (direntSound file D) 0 DIRENTS ∷ all (isNew D) 0 DIRENTS ∷ eqb n (count (isUsed D) 0 DIRENTS) ∷ allZero (drop (DIRENTS * DIRENT-WIDTH) D) ∷ [])
+direntsSound file D n = every (entriesSound file D ∷ eqb n (count (isUsed D) 0 DIRENTS) ∷ allZero (drop (DIRENTS * DIRENT-WIDTH) D) ∷ [])
 
 -- ---- the tree
 
@@ -163,11 +168,13 @@ holders desc e = total (holdersIn desc e) 0 PROCESSES
 unfoldable pub openFree : Table → ℕ → Bool
 openFree openFiles e = every (eqb (openFiles e OPEN-SLOT) 0 ∷ eqb (openFiles e OPEN-MODE) 0 ∷ eqb (openFiles e OPEN-OFFSET) 0 ∷ [])
 
--- "open entries only on plain files", the mode and the position in range
+-- "open entries only on plain files"
+unfoldable pub onPlainFile : (file openFiles : Table) → ℕ → Bool
+onPlainFile file openFiles e = every (ltb (openFiles e OPEN-SLOT) SLOTS ∷ isPlain file (slot (openFiles e OPEN-SLOT)) ∷ [])
+
+-- and the mode and the position in range
 unfoldable pub openUsed : (file openFiles : Table) → ℕ → Bool
-openUsed file openFiles e =
-    every (ltb (openFiles e OPEN-SLOT) SLOTS ∷ isPlain file (slot (openFiles e OPEN-SLOT)) ∷ modeKept (modeOf (openFiles e OPEN-MODE))
-    ∷ leb (openFiles e OPEN-OFFSET) BLOCK ∷ [])
+openUsed file openFiles e = every (onPlainFile file openFiles e ∷ modeKept (modeOf (openFiles e OPEN-MODE)) ∷ leb (openFiles e OPEN-OFFSET) BLOCK ∷ [])
 
 -- "references equal to the descriptors counted, at least 1"
 unfoldable pub openSound : (file openFiles desc : Table) → ℕ → Bool
@@ -201,9 +208,13 @@ procSound proc desc p = cond (eqb (proc p PROCESS-USED) 0) (procFree proc desc p
 
 -- ---- all of it
 
+-- the root is a directory, and every slot is sound
+unfoldable pub treeSound : Tree → (openFiles : Table) → Bool
+treeSound t openFiles = every (isDirectory (t .file) (slot 0) ∷ all (slotSound t openFiles) 0 SLOTS ∷ [])
+
 unfoldable pub tablesSound : View → Bool
 tablesSound v =
-    every (isDirectory (v .tree .file) (slot 0) ∷ all (slotSound (v .tree) (v .openFiles)) 0 SLOTS
+    every (treeSound (v .tree) (v .openFiles)
     ∷ all (openSound (v .tree .file) (v .openFiles) (v .desc)) 0 OPEN-FILES ∷ all (procSound (v .proc) (v .desc)) 0 PROCESSES ∷ [])
 
 unfoldable pub storeSound : Store → Bool

@@ -14,7 +14,7 @@ use Rattle.rules.specs.Choice.{every}
 use Rattle.rules.specs.Layout.{BLOCK, PROCESSES, DESCRIPTORS, PATH, OPEN-MODE}
 use Rattle.rules.specs.Rights.{writes}
 use Rattle.rules.specs.Store.{Store, Fixed, Table, pidOf, fdOf, modeAt, view, descOf}
-use Rattle.rules.specs.Paths.{shapeOk, pathOk}
+use Rattle.rules.specs.Paths.{sizeOk, shapeOk, pathOk}
 use Rattle.rules.specs.Calls.{Call, operationOf, uses, Agree, formOk, pathBelowRoot}
 use Rattle.rules.specs.Written.{Written}
 use Rattle.rules.specs.Checks.{need, inUse, held, ofdHeld}
@@ -82,7 +82,7 @@ long w = go (decLe (length (w .«data»)) (BLOCK + 1))
     go (no g) = over (omega arith) (omega (arith, length-take-le (BLOCK + 1) (w .«data») (omega arith)))
 
 not-path : (b : List ℕ) → Long b → pathBelowRoot b ≡ false
-unfolding pathBelowRoot pathOk shapeOk every
+unfolding pathBelowRoot pathOk shapeOk sizeOk every
 not-path b h = rw (le-leb 1 (length b) (omega arith), lt-leb (length b) PATH (omega arith))
 
 not-link : (path b : List ℕ) → Long b → every (pathOk path ∷ pathBelowRoot b ∷ []) ≡ false

@@ -1,7 +1,7 @@
 -- No other text is read as a call: an unbroken script is what is printed from its calls.
 use Prim.Native.Nat.{ℕ, zero, suc, _%_, _≤_}
 use mathlib.Core.Path.{_≡_, refl, sym, _∙_, ap}
-use mathlib.Core.Bool.{Bool, true, false, not, cond}
+use mathlib.Core.Bool.{Bool, true, false, cond}
 use mathlib.Core.List.{List, [], _∷_, _++_, append-assoc}
 use native.Mathlib.Numerals.{add-one}
 use native.Mathlib.Omega.{arith}
@@ -15,13 +15,15 @@ use Rattle.rules.specs.Paths.{sameAt}
 use Rattle.rules.specs.Written.{Written, partsOf, textIf, capped, normalBy, normal, numbersFit}
 use Rattle.rules.specs.declared.request.Parts.{Parts}
 use Rattle.rules.proofs.Scans.{all-at}
+use Rattle.rules.proofs.Tests.{test}
 use Rattle.rules.proofs.Written.{number-same}
-use Rattle.script_rules.specs.Text.{NEWLINE, isDigit, numberOk, decimal, hexOk, bytesOf, hexOf}
-use Rattle.script_rules.specs.Blocks.{keyOf, inText, hasKey, afterKey, textLength, textOf, lineOk, afterLine, lineFor, fromCall, fromFd, fromArg, fromPath, fromData, afterBlock, numberLineOk, dataLineOk, numberIn, blockOf, partsOk, textsUsed, linesOk, blockOk, printedBlock, printed, blocks, afterBlocks}
+use Rattle.script_rules.specs.Text.{NEWLINE, isDigit, decimal, hexOk, bytesOf, hexOf}
+use Rattle.script_rules.specs.Blocks.{keyOf, inText, hasKey, afterKey, textLength, textOf, lineOk, afterLine, lineFor, fromCall, fromFd, fromArg, fromPath, fromData, afterBlock, numberLineOk, dataLineOk, numberIn, blockOf, partsOk, textsUsed, blockOk, printedBlock, printed, blocks, afterBlocks}
 use Rattle.script_rules.specs.declared.line.Line.{Line}
 use Rattle.script_rules.specs.declared.line.Line.the-variants as line
+use Rattle.script_rules.proofs.Blocks.{lines}
 use Rattle.script_claims.specs.Claims.{Unbroken}
-use Rattle.script_claims.proofs.Lists.{every-split, Pass, pass-span}
+use Rattle.script_claims.proofs.Lists.{Pass, pass-span}
 use Rattle.script_claims.proofs.Lines.{line-there}
 use Rattle.script_claims.proofs.ExactTexts.{decimal-exact, hex-exact}
 
@@ -50,17 +52,15 @@ number-exact : (l : Line) (S : List ℕ) → (Pass (inText l) (textOf l S) → P
     (S ≡ lineFor l (decimal (numberIn l S)) ++ afterLine l S) × (numberIn l S ≤ NUMBER-MAX)
 unfolding numberLineOk
 number-exact l S same e =
-    let t = every-split (lineOk l S) _ e in
-    let r = line-exact l S (t .0) in
-    let d = decimal-exact (textOf l S) (same (r .1)) (every-split (numberOk (textOf l S)) [] (t .1) .0) in
+    let r = line-exact l S (test 0 _ e) in
+    let d = decimal-exact (textOf l S) (same (r .1)) (test 1 _ e) in
     (r .0 ∙ ap (λ x. lineFor l x ++ afterLine l S) (sym (d .0)), d .1)
 
 data-exact : (S : List ℕ) → dataLineOk S ≡ true → S ≡ lineFor line.Data (hexOf (bytesOf (textOf line.Data S))) ++ afterLine line.Data S
 unfolding dataLineOk hexOk
 data-exact S e =
-    let t = every-split (lineOk line.Data S) _ e in
-    let r = line-exact line.Data S (t .0) in
-    let even : length (textOf line.Data S) % 2 ≡ 0 = eqb-true _ _ (every-split (eqb (length (textOf line.Data S) % 2) 0) [] (t .1) .0) in
+    let r = line-exact line.Data S (test 0 _ e) in
+    let even : length (textOf line.Data S) % 2 ≡ 0 = eqb-true _ _ (test 1 _ e) in
     r .0 ∙ ap (λ x. lineFor line.Data x ++ afterLine line.Data S) (sym (hex-exact (textOf line.Data S) (r .1) even))
 
 -- ---- what is read is in the normal form
@@ -77,10 +77,9 @@ text-used most t e = go (eqb most 0) t e
 normal-exact : (u : Parts) (w : Written) → w .number ≤ NUMBER-MAX → partsOk u w ≡ true → normalBy u w ≡ w
 unfolding partsOk numbersFit textsUsed normalBy capped
 normal-exact u w h e =
-    let p = every-split (numbersFit u w) _ e in
-    let n = every-split (implies (not (u .fd)) (eqb (w .fd .0) 0)) _ (p .0) in
-    let t = every-split (implies (eqb (u .path) 0) (eqb (length (w .path)) 0)) _ (every-split (textsUsed u w) [] (p .1) .0) in
-    rw (le-leb (w .number) NUMBER-MAX h, number-same (u .fd) (w .fd .0) (n .0), number-same (u .number) (w .number) (every-split _ [] (n .1) .0), text-used (u .path) (w .path) (t .0), text-used (u .«data») (w .«data») (every-split _ [] (t .1) .0))
+    let n = test 0 _ e in
+    let t = test 1 _ e in
+    rw (le-leb (w .number) NUMBER-MAX h, number-same (u .fd) (w .fd .0) (test 0 _ n), number-same (u .number) (w .number) (test 1 _ n), text-used (u .path) (w .path) (test 0 _ t), text-used (u .«data») (w .«data») (test 1 _ t))
 
 -- ---- a block, and a script
 
@@ -90,26 +89,21 @@ joined a b c d e f R s t u w x y = rw (s, t, u, w, x, y) (simp append-assoc)
 
 -- each line is what is printed for its text, the texts are in the normal form, and the six lines are joined
 block-exact : (S : List ℕ) → blockOk S ≡ true → (printedBlock (normal (blockOf S)) ++ afterBlock S ≡ S)
-unfolding blockOk linesOk printedBlock
+unfolding blockOk printedBlock
 block-exact S e =
-    let b = every-split (linesOk S) _ e in
-    let proc = every-split (numberLineOk line.Proc S) _ (b .0) in
-    let call = every-split (numberLineOk line.Call (fromCall S)) _ (proc .1) in
-    let fd = every-split (numberLineOk line.Fd (fromFd S)) _ (call .1) in
-    let arg = every-split (numberLineOk line.Arg (fromArg S)) _ (fd .1) in
-    let path = every-split (lineOk line.Path (fromPath S)) _ (arg .1) in
-    let bytes = every-split (dataLineOk (fromData S)) _ (path .1) in
-    let a = number-exact line.Arg (fromArg S) (λ x. x) (arg .0) in
-    let same : normal (blockOf S) ≡ blockOf S = normal-exact (partsOf (blockOf S)) (blockOf S) (a .1) (every-split (partsOk (partsOf (blockOf S)) (blockOf S)) [] (b .1) .0) in
+    let l = lines S e in
+    let n = l .numbers in
+    let a = number-exact line.Arg (fromArg S) (λ x. x) (n .arg) in
+    let same : normal (blockOf S) ≡ blockOf S = normal-exact (partsOf (blockOf S)) (blockOf S) (a .1) (test 1 _ e) in
     let w = blockOf S in
     ap (λ w. printedBlock w ++ afterBlock S) same
     ∙ joined (lineFor line.Proc (decimal (w .process .0))) (lineFor line.Call (decimal (w .call))) (lineFor line.Fd (decimal (w .fd .0))) (lineFor line.Arg (decimal (w .number))) (lineFor line.Path (w .path)) (lineFor line.Data (hexOf (w .«data»))) (afterBlock S)
-    (number-exact line.Proc S (λ x. x) (proc .0) .0)
-    (number-exact line.Call (fromCall S) (λ x. x) (call .0) .0)
-    (number-exact line.Fd (fromFd S) (λ x. x) (fd .0) .0)
+    (number-exact line.Proc S (λ x. x) (n .proc) .0)
+    (number-exact line.Call (fromCall S) (λ x. x) (n .call) .0)
+    (number-exact line.Fd (fromFd S) (λ x. x) (n .fd) .0)
     (a .0)
-    (line-exact line.Path (fromPath S) (path .0) .0)
-    (data-exact (fromData S) (bytes .0))
+    (line-exact line.Path (fromPath S) (l .path) .0)
+    (data-exact (fromData S) (l .bytes))
 
 pub printed-only : (n : ℕ) (S : List ℕ) → Unbroken n S → printed (blocks n S) ≡ S
 unfolding printed blocks afterBlocks

@@ -12,9 +12,10 @@ use Rattle.rules.specs.Choice.{every, some, implies}
 use Rattle.rules.specs.Scan.{all}
 use Rattle.rules.specs.Layout.{NUMBER-MAX}
 use Rattle.rules.proofs.Scans.{all-at}
+use Rattle.rules.proofs.Tests.{test}
 use Rattle.script_rules.specs.Computing.{computing}
-use Rattle.script_rules.specs.Text.{ZERO, isDigit, digitsFrom, numberOf, leads, numberOk, digits, decimal, isLetter, isHex, hexValue, bytesOf, hexDigit, hexOf}
-use Rattle.script_claims.proofs.Lists.{every-split, Pass}
+use Rattle.script_rules.specs.Text.{ZERO, isDigit, digitsFrom, numberOf, leads, lengthOk, numberOk, digits, decimal, isLetter, isHex, hexValue, bytesOf, hexDigit, hexOf}
+use Rattle.script_claims.proofs.Lists.{Pass}
 use Rattle.script_claims.proofs.Texts.{digits-snoc}
 
 -- ---- numbers: a list of digits, by its last
@@ -38,9 +39,7 @@ pass-split t (b ∷ p) q h = let r = pass-split t p q (h .1) in ((h .0, r .0), r
 
 digit-range : (d : ℕ) → isDigit d ≡ true → (48 ≤ d) × (d ≤ 57)
 unfolding isDigit
-digit-range d e =
-    let a = every-split (leb 48 d) _ e in
-    (leb-true 48 d (a .0), leb-true d 57 (every-split (leb d 57) [] (a .1) .0))
+digit-range d e = (leb-true 48 d (test 0 _ e), leb-true d 57 (test 1 _ e))
 
 only : (d : ℕ) → Pass isDigit (d ∷ []) → isDigit d ≡ true
 unfolding Pass
@@ -91,14 +90,11 @@ unfolding leads some
 no-zero ds e l z = false≢true (sym (rw (ne-eqb (length ds) 1 (λ q. omega arith), eq-eqb (getD ds 0 0) ZERO z)) ∙ e)
 
 pub decimal-exact : (ds : List ℕ) → Pass isDigit ds → numberOk ds ≡ true → (decimal (numberOf ds) ≡ ds) × (numberOf ds ≤ NUMBER-MAX)
-unfolding numberOk
+unfolding numberOk lengthOk
 decimal-exact ds p e =
-    let least = every-split (leb 1 (length ds)) _ e in
-    let most = every-split (leb (length ds) 5) _ (least .1) in
-    let lead = every-split (leads ds) _ (most .1) in
-    let small = every-split (leb (numberOf ds) NUMBER-MAX) _ (lead .1) in
-    let five : length ds ≤ 5 = leb-true (length ds) 5 (most .0) in
-    (digits-exact (snoc ds) 10 (omega arith) (leb-true 1 (length ds) (least .0)) p (no-zero ds (lead .0)), leb-true (numberOf ds) NUMBER-MAX (small .0))
+    let size = test 0 _ e in
+    let five : length ds ≤ 5 = leb-true (length ds) 5 (test 1 _ size) in
+    (digits-exact (snoc ds) 10 (omega arith) (leb-true 1 (length ds) (test 0 _ size)) p (no-zero ds (test 1 _ e)), leb-true (numberOf ds) NUMBER-MAX (test 2 _ e))
 
 -- ---- bytes
 
@@ -127,8 +123,8 @@ hex-small b e = go (decLt b 103)
 hex-digit : (b : ℕ) → isHex b ≡ true → (hexDigit (hexValue b) ≡ b) × (hexValue b < 16)
 unfolding hexExact implies
 hex-digit b e =
-    let h = every-split (eqb (hexDigit (hexValue b)) b) _ (rw e at (all-at hexExact 0 103 hex-exact-all b (omega arith) (hex-small b e))) in
-    (eqb-true _ _ (h .0), ltb-true _ _ (every-split (ltb (hexValue b) 16) [] (h .1) .0))
+    let h = rw e at (all-at hexExact 0 103 hex-exact-all b (omega arith) (hex-small b e)) in
+    (eqb-true _ _ (test 0 _ h), ltb-true _ _ (test 1 _ h))
 
 pub hex-exact : (t : List ℕ) → Pass isHex t → length t % 2 ≡ 0 → hexOf (bytesOf t) ≡ t
 unfolding Pass hexOf bytesOf

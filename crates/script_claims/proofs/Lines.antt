@@ -2,21 +2,22 @@
 use Prim.Native.Nat.{ℕ, _≤_, _<_}
 use mathlib.Core.Path.{_≡_, refl}
 use mathlib.Core.Bool.{true, false}
-use mathlib.Core.List.{List, [], _∷_, _++_}
+use mathlib.Core.List.{List, [], _++_}
 use native.Mathlib.Omega.{arith}
 use borrow.Author.Tests.{eqb-true}
-use lib.Dec.{eqb}
 use lib.ListN.{length, getD, drop, length-drop, List·getD-append}
 use lib.Seq.{take-append-le, drop-append-le}
 use Rattle.rules.specs.Choice.{every}
 use Rattle.rules.specs.Paths.{sameAt}
 use Rattle.rules.proofs.Scans.{all-at, all-of}
+use Rattle.rules.proofs.Tests.{test}
 use Rattle.script_rules.specs.Computing.{computing}
 use Rattle.script_rules.specs.Text.{NEWLINE}
-use Rattle.script_rules.specs.Blocks.{keyOf, inText, hasKey, afterKey, textLength, textOf, lineOk, afterLine, fromCall, fromFd, fromArg, fromPath, fromData, afterBlock, numberLineOk, dataLineOk, blockOf, linesOk, blockOk}
+use Rattle.script_rules.specs.Blocks.{keyOf, inText, hasKey, afterKey, textLength, textOf, lineOk, afterLine, fromCall, fromFd, fromArg, fromPath, fromData, afterBlock, numberLineOk, dataLineOk, headLinesOk, operandLinesOk, numberLinesOk, textLinesOk, linesOk, blockOf, blockOk}
 use Rattle.script_rules.specs.declared.line.Line.{Line}
 use Rattle.script_rules.specs.declared.line.Line.the-variants as line
-use Rattle.script_claims.proofs.Lists.{every-split, inside, Rest, rest-rest, span-append}
+use Rattle.script_rules.proofs.Blocks.{lines}
+use Rattle.script_claims.proofs.Lists.{inside, Rest, rest-rest, span-append}
 
 -- what a whole line has
 pub record Line-there (l : Line) (S : List ℕ) : Type 0 where
@@ -28,10 +29,9 @@ pub record Line-there (l : Line) (S : List ℕ) : Type 0 where
 pub line-there : (l : Line) (S : List ℕ) → lineOk l S ≡ true → Line-there l S
 unfolding lineOk
 line-there l S e =
-    let t = every-split (hasKey (keyOf l) S) (eqb (getD (afterKey l S) (textLength l S) 0) NEWLINE ∷ []) e in
-    let ends : getD (afterKey l S) (textLength l S) 0 ≡ NEWLINE = eqb-true _ _ (every-split (eqb (getD (afterKey l S) (textLength l S) 0) NEWLINE) [] (t .1) .0) in
+    let ends : getD (afterKey l S) (textLength l S) 0 ≡ NEWLINE = eqb-true _ _ (test 1 _ e) in
     let within : textLength l S < length (afterKey l S) = inside (afterKey l S) (textLength l S) NEWLINE ends (omega arith) in
-    record { key = t .0; room = omega (arith, length-drop (length (keyOf l)) S); within = within; ends = ends }
+    record { key = test 0 _ e; room = omega (arith, length-drop (length (keyOf l)) S); within = within; ends = ends }
 
 -- the line l that A begins with
 pub record Kept (l : Line) (A B : List ℕ) : Type 0 where
@@ -68,29 +68,24 @@ pub record KeptBlock (A B : List ℕ) : Type 0 where
 
 number-line : (l : Line) (S : List ℕ) → numberLineOk l S ≡ true → lineOk l S ≡ true
 unfolding numberLineOk
-number-line l S e = every-split (lineOk l S) _ e .0
+number-line l S e = test 0 _ e
 
 data-line : (S : List ℕ) → dataLineOk S ≡ true → lineOk line.Data S ≡ true
 unfolding dataLineOk
-data-line S e = every-split (lineOk line.Data S) _ e .0
+data-line S e = test 0 _ e
 
 -- line by line: a line's text is the same, and what is left after it is that of A, with B after it
 pub block-kept : (A B : List ℕ) → blockOk A ≡ true → KeptBlock A B
-unfolding blockOk linesOk numberLineOk dataLineOk
+unfolding blockOk linesOk numberLinesOk headLinesOk operandLinesOk textLinesOk numberLineOk dataLineOk
 block-kept A B e =
-    let lines = every-split (linesOk A) _ e .0 in
-    let proc = every-split (numberLineOk line.Proc A) _ lines in
-    let call = every-split (numberLineOk line.Call (fromCall A)) _ (proc .1) in
-    let fd = every-split (numberLineOk line.Fd (fromFd A)) _ (call .1) in
-    let arg = every-split (numberLineOk line.Arg (fromArg A)) _ (fd .1) in
-    let path = every-split (lineOk line.Path (fromPath A)) _ (arg .1) in
-    let bytes = every-split (dataLineOk (fromData A)) _ (path .1) in
-    let p = line-kept line.Proc A B (number-line line.Proc A (proc .0)) in
-    let c = line-kept line.Call (fromCall A) B (number-line line.Call (fromCall A) (call .0)) in
-    let f = line-kept line.Fd (fromFd A) B (number-line line.Fd (fromFd A) (fd .0)) in
-    let a = line-kept line.Arg (fromArg A) B (number-line line.Arg (fromArg A) (arg .0)) in
-    let t = line-kept line.Path (fromPath A) B (path .0) in
-    let d = line-kept line.Data (fromData A) B (data-line (fromData A) (bytes .0)) in
+    let l = lines A e in
+    let n = l .numbers in
+    let p = line-kept line.Proc A B (number-line line.Proc A (n .proc)) in
+    let c = line-kept line.Call (fromCall A) B (number-line line.Call (fromCall A) (n .call)) in
+    let f = line-kept line.Fd (fromFd A) B (number-line line.Fd (fromFd A) (n .fd)) in
+    let a = line-kept line.Arg (fromArg A) B (number-line line.Arg (fromArg A) (n .arg)) in
+    let t = line-kept line.Path (fromPath A) B (l .path) in
+    let d = line-kept line.Data (fromData A) B (data-line (fromData A) (l .bytes)) in
     record {
       ok = simp (p .ok, p .text, p .after, c .ok, c .text, c .after, f .ok, f .text, f .after, a .ok, a .text, a .after, t .ok, t .text, t .after, d .ok, d .text) e;
       block = simp (p .text, p .after, c .text, c .after, f .text, f .after, a .text, a .after, t .text, t .after, d .text);

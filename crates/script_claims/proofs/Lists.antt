@@ -1,22 +1,14 @@
--- Laws of lists, of `span` and of lists of tests.
+-- Laws of lists and of `span`.
 use Prim.Native.Nat.{ℕ, suc, _+_, _-_, _<_}
 use mathlib.Core.Path.{_≡_, refl, sym, _∙_, ap}
-use mathlib.Core.Bool.{Bool, true, false, false≢true, cond}
+use mathlib.Core.Bool.{Bool, true, false, cond}
 use mathlib.Core.List.{List, [], _∷_, _++_}
 use native.Mathlib.Nat.{not-suc-le-zero, le-of-suc-le-suc}
 use native.Mathlib.Decide.{decLt}
 use native.Mathlib.Omega.{arith}
 use lib.ListN.{length, getD, take, drop, length-drop, drop-of-length-le, List·getD-eq-default}
 use lib.Seq.{drop-drop, drop-length}
-use Rattle.rules.specs.Choice.{every}
 use Rattle.rules.specs.Paths.{span}
-
--- ---- lists of tests
-
-pub every-split : (t : Bool) (ts : List Bool) → every (t ∷ ts) ≡ true → (t ≡ true) × (every ts ≡ true)
-unfolding every
-every-split true ts e = (refl, e)
-every-split false ts e = absurd (false≢true e)
 
 -- ---- a place that does not hold 0 lies in the list
 

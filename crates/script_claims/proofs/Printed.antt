@@ -15,7 +15,7 @@ use Rattle.rules.specs.Written.{Bytes, Written, partsOf, numberIf, textIf, capp
 use Rattle.rules.proofs.Scans.{all-of}
 use Rattle.rules.proofs.Written.{capped-most}
 use Rattle.script_rules.specs.Text.{NEWLINE, notNewline, isDigit, isLetter, isHex, decimal, hexOf}
-use Rattle.script_rules.specs.Blocks.{keyOf, inText, hasKey, textOf, lineOk, afterLine, lineFor, fromCall, fromFd, fromArg, fromPath, fromData, afterBlock, numberLineOk, dataLineOk, blockOf, partsOk, textsUsed, linesOk, blockOk, printedBlock, printed, Scriptable, blocks, afterBlocks}
+use Rattle.script_rules.specs.Blocks.{keyOf, inText, hasKey, textOf, lineOk, afterLine, lineFor, fromCall, fromFd, fromArg, fromPath, fromData, afterBlock, numberLineOk, dataLineOk, blockOf, partsOk, textsUsed, headLinesOk, operandLinesOk, numberLinesOk, textLinesOk, linesOk, blockOk, printedBlock, printed, Scriptable, blocks, afterBlocks}
 use Rattle.script_rules.specs.declared.line.Line.{Line}
 use Rattle.script_rules.specs.declared.line.Line.the-variants as line
 use Rattle.script_claims.specs.Claims.{AllScriptable}
@@ -77,7 +77,7 @@ record BlockReads (S : List ℕ) (w : Written) (R : List ℕ) : Type 0 where
   after : afterBlock S ≡ R
 
 block-reads : (S : List ℕ) (w : Written) → Printable w → S ≡ printedBlock w → BlockReads S w []
-unfolding printedBlock blockOk linesOk numberLineOk dataLineOk every
+unfolding printedBlock blockOk linesOk numberLinesOk headLinesOk operandLinesOk textLinesOk numberLineOk dataLineOk every
 block-reads S w h e =
     let p = line-more line.Proc S (decimal (w .process .0)) _ (decimal-pass _ (h .process)) e in
     let c = line-more line.Call (fromCall S) (decimal (w .call)) _ (decimal-pass _ (h .call)) (p .after) in

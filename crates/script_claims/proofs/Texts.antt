@@ -12,11 +12,12 @@ use Rattle.rules.specs.Choice.{every, some}
 use Rattle.rules.specs.Scan.{all}
 use Rattle.rules.specs.Layout.{NUMBER-MAX}
 use Rattle.rules.proofs.Scans.{all-at}
+use Rattle.rules.proofs.Tests.{test}
 use Rattle.rules.specs.Written.{Bytes}
 use Rattle.script_rules.specs.Computing.{computing}
-use Rattle.script_rules.specs.Text.{NEWLINE, notNewline, ZERO, isDigit, digitsFrom, numberOf, leads, numberOk, digits, decimal, isHex, hexValue, bytesOf, hexOk, hexDigit, hexOf}
+use Rattle.script_rules.specs.Text.{NEWLINE, notNewline, ZERO, isDigit, digitsFrom, numberOf, leads, lengthOk, numberOk, digits, decimal, isHex, hexValue, bytesOf, hexOk, hexDigit, hexOf}
 use Rattle.script_rules.proofs.Texts.{length-hex}
-use Rattle.script_claims.proofs.Lists.{every-split, Pass, pass-append}
+use Rattle.script_claims.proofs.Lists.{Pass, pass-append}
 
 -- ---- numbers
 
@@ -89,7 +90,7 @@ module _ (n : ℕ) (h : n ≤ NUMBER-MAX) where
           done false = refl
 
   pub decimal-ok : numberOk (decimal n) ≡ true
-  unfolding numberOk every
+  unfolding numberOk lengthOk every
   decimal-ok =
       rw (le-leb 1 (length (decimal n)) (written .least), le-leb (length (decimal n)) 5 (written .most 4 (omega arith)), decimal-leads, decimal-back, le-leb n NUMBER-MAX h)
 
@@ -104,15 +105,15 @@ unfolding computing hexBack
 hex-digits = refl
 
 module _ (n : ℕ) (h : n < 16) where
-  hex-back : (isHex (hexDigit n) ≡ true) × (every (eqb (hexValue (hexDigit n)) n ∷ []) ≡ true)
+  hex-back : every (isHex (hexDigit n) ∷ eqb (hexValue (hexDigit n)) n ∷ []) ≡ true
   unfolding hexBack
-  hex-back = every-split _ _ (all-at hexBack 0 16 hex-digits n (omega arith) h)
+  hex-back = all-at hexBack 0 16 hex-digits n (omega arith) h
 
   hex-pass : isHex (hexDigit n) ≡ true
-  hex-pass = hex-back .0
+  hex-pass = test 0 _ hex-back
 
   hex-value : hexValue (hexDigit n) ≡ n
-  hex-value = eqb-true _ _ (every-split _ _ (hex-back .1) .0)
+  hex-value = eqb-true _ _ (test 1 _ hex-back)
 
 pub hexOf-pass : (bs : List ℕ) → Bytes bs → Pass isHex (hexOf bs)
 unfolding hexOf Pass

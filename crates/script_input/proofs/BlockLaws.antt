@@ -1,24 +1,26 @@
 -- A block as the code reads it is the rules' block.
 use Prim.Native.Nat.{ℕ, _-_, _≤_, _<_}
 use mathlib.Core.Path.{_≡_, refl, sym, _∙_}
-use mathlib.Core.Bool.{Bool, true, false, cond, false≢true}
+use mathlib.Core.Bool.{Bool, true, false, cond}
 use mathlib.Core.List.{List, [], _∷_}
 use native.Mathlib.Omega.{arith}
 use borrow.Author.Tests.{leb-true, leb-false, ne-eqb}
 use lib.Dec.{leb}
-use lib.ListN.{length, take}
+use lib.ListN.{take}
 use Rattle.rules.specs.Choice.{every}
 use Rattle.rules.specs.Layout.{NUMBER-MAX}
 use Rattle.rules.specs.Calls.{operationOf, uses, Call, callOf}
 use Rattle.rules.specs.declared.request.Operation.the-variants as op
 use Rattle.rules.specs.Store.{zeros}
 use Rattle.rules.specs.Written.{partsOf, capped}
-use Rattle.script_rules.specs.Text.{numberOk, leads, bytesOf}
-use Rattle.script_rules.specs.Blocks.{textOf, lineOk, numberIn, numberLineOk, linesOk, partsOk, blockOf, blockOk, fromCall, fromFd, fromArg, fromPath, fromData}
+use Rattle.rules.proofs.Tests.{test}
+use Rattle.script_rules.specs.Text.{numberOk, bytesOf}
+use Rattle.script_rules.specs.Blocks.{textOf, numberIn, numberLineOk, headLinesOk, operandLinesOk, numberLinesOk, linesOk, partsOk, blockOf, blockOk, fromCall, fromFd, fromArg, fromPath, fromData}
 use Rattle.script_rules.specs.Replay.{asByte, readsTooMuch, callFor, roomFor, bytesFor, askedBy}
 use Rattle.script_rules.specs.declared.line.Line.{Line}
 use Rattle.script_rules.specs.declared.line.Line.the-variants as line
-use Rattle.script_input.specs.Read.{numberRead, numbersRead, numbered, numbersOk, readOk, requestFor}
+use Rattle.script_rules.proofs.Blocks.{NumberLines, number-lines, lines}
+use Rattle.script_input.specs.Read.{numberRead, numbersRead, numbered, headOk, operandsOk, numbersOk, readOk, requestFor}
 
 -- ---- numbers over 255
 
@@ -58,29 +60,12 @@ byte-operation n = by (leb n 255) refl
     by true e = rw e
     by false e = rw e (last ∙ sym (unknown n (leb-false n 255 e)))
 
--- ---- lists of tests
-
-second : (a b : Bool) → every (a ∷ b ∷ []) ≡ true → b ≡ true
-unfolding every
-second true b e = by b e
-  where
-    by : (b : Bool) → cond b true false ≡ true → b ≡ true
-    by true e = refl
-    by false e = e
-second false b e = absurd (false≢true e)
-
-fourth : (a b c d : Bool) → every (a ∷ b ∷ c ∷ d ∷ []) ≡ true → d ≡ true
-unfolding every
-fourth true true c d e = second c d e
-fourth true false c d e = absurd (false≢true e)
-fourth false b c d e = absurd (false≢true e)
-
 -- ---- numbers
 
 module _ (l : Line) (S : List ℕ) where
   number-small : numberLineOk l S ≡ true → leb (numberIn l S) NUMBER-MAX ≡ true
   unfolding numberLineOk numberOk
-  number-small e = fourth (leb 1 (length (textOf l S))) (leb (length (textOf l S)) 5) (leads (textOf l S)) (leb (numberIn l S) NUMBER-MAX) (second (lineOk l S) (numberOk (textOf l S)) e)
+  number-small e = test 2 _ (test 1 _ e)
 
   -- the number of an unbroken line
   pub number-read : numberLineOk l S ≡ true → numberRead l S ≡ numberIn l S
@@ -99,50 +84,39 @@ module _ (l : Line) (S : List ℕ) where
 
 -- ---- a block
 
-regroup : (a b c d p q x y : Bool) → (a ≡ true → b ≡ true → c ≡ true → d ≡ true → x ≡ y) → every (every (a ∷ b ∷ c ∷ d ∷ []) ∷ p ∷ q ∷ x ∷ []) ≡ every (every (a ∷ b ∷ c ∷ d ∷ p ∷ q ∷ []) ∷ y ∷ [])
+regroup : (n t x y : Bool) → (n ≡ true → x ≡ y) → every (n ∷ t ∷ x ∷ []) ≡ every (every (n ∷ t ∷ []) ∷ y ∷ [])
 unfolding every
-regroup true true true true true true x y f = rw (f refl refl refl refl)
-regroup true true true true true false x y f = refl
-regroup true true true true false q x y f = refl
-regroup true true true false p q x y f = refl
-regroup true true false d p q x y f = refl
-regroup true false c d p q x y f = refl
-regroup false b c d p q x y f = refl
+regroup true true x y f = rw (f refl)
+regroup true false x y f = refl
+regroup false t x y f = refl
 
 module _ (S : List ℕ) where
-  read-parts : numberLineOk line.Proc S ≡ true → numberLineOk line.Call (fromCall S) ≡ true → numberLineOk line.Fd (fromFd S) ≡ true → numberLineOk line.Arg (fromArg S) ≡ true
-      → partsOk (uses (operationOf (numberRead line.Call (fromCall S)))) (numbered (numbersRead S) (textOf line.Path (fromPath S)) (bytesOf (textOf line.Data (fromData S)))) ≡ partsOk (partsOf (blockOf S)) (blockOf S)
-  read-parts a b c d =
-      rw (number-read line.Proc S a, number-read line.Call (fromCall S) b, number-read line.Fd (fromFd S) c, number-read line.Arg (fromArg S) d)
+  read-parts : NumberLines S →
+      partsOk (uses (operationOf (numberRead line.Call (fromCall S)))) (numbered (numbersRead S) (textOf line.Path (fromPath S)) (bytesOf (textOf line.Data (fromData S)))) ≡ partsOk (partsOf (blockOf S)) (blockOf S)
+  read-parts n =
+      rw (number-read line.Proc S (n .proc), number-read line.Call (fromCall S) (n .call), number-read line.Fd (fromFd S) (n .fd), number-read line.Arg (fromArg S) (n .arg))
+
+  numbers-read : numbersOk (numbersRead S) ≡ numberLinesOk S
+  unfolding numbersOk headOk operandsOk numberLinesOk headLinesOk operandLinesOk
+  numbers-read = rw (number-leb line.Proc S, number-leb line.Call (fromCall S), number-leb line.Fd (fromFd S), number-leb line.Arg (fromArg S))
 
   -- the code and the rules agree on what is broken
   pub block-read : readOk (numbersRead S) (fromPath S) (fromData S) ≡ blockOk S
-  unfolding readOk numbersOk blockOk linesOk
-  block-read =
-      rw (number-leb line.Proc S, number-leb line.Call (fromCall S), number-leb line.Fd (fromFd S), number-leb line.Arg (fromArg S))
-      (regroup _ _ _ _ _ _ _ _ read-parts)
+  unfolding readOk blockOk linesOk
+  block-read = rw numbers-read (regroup _ _ _ _ (λ e. read-parts (number-lines S e)))
 
 -- ---- the call that an unbroken block asks for
 
-four : (a b c d p q y : Bool) → every (every (a ∷ b ∷ c ∷ d ∷ p ∷ q ∷ []) ∷ y ∷ []) ≡ true → (a ≡ true) × (b ≡ true) × (c ≡ true) × (d ≡ true)
-unfolding every
-four true true true true p q y e = (refl, refl, refl, refl)
-four true true true false p q y e = absurd (false≢true e)
-four true true false d p q y e = absurd (false≢true e)
-four true false c d p q y e = absurd (false≢true e)
-four false b c d p q y e = absurd (false≢true e)
-
 module _ (S : List ℕ) (ok : blockOk S ≡ true) where
-  lines-ok : (numberLineOk line.Proc S ≡ true) × (numberLineOk line.Call (fromCall S) ≡ true) × (numberLineOk line.Fd (fromFd S) ≡ true) × (numberLineOk line.Arg (fromArg S) ≡ true)
-  unfolding blockOk linesOk
-  lines-ok = four _ _ _ _ _ _ _ ok
+  numbers : NumberLines S
+  numbers = lines S ok .numbers
 
   number-kept : capped (numberIn line.Arg (fromArg S)) ≡ numberIn line.Arg (fromArg S)
   unfolding capped
-  number-kept = rw (number-small line.Arg (fromArg S) (lines-ok .3))
+  number-kept = rw (number-small line.Arg (fromArg S) (numbers .arg))
 
   pub call-asked : callOf (requestFor (numbersRead S)) (textOf line.Path (fromPath S)) (take 513 (bytesOf (textOf line.Data (fromData S)))) (zeros (roomFor (numbered (numbersRead S) [] []))) ≡ askedBy (blockOf S)
   unfolding askedBy bytesFor callFor roomFor readsTooMuch
   call-asked =
       rw
-      (number-read line.Proc S (lines-ok .0), number-read line.Call (fromCall S) (lines-ok .1), number-read line.Fd (fromFd S) (lines-ok .2), number-read line.Arg (fromArg S) (lines-ok .3), number-kept)
+      (number-read line.Proc S (numbers .proc), number-read line.Call (fromCall S) (numbers .call), number-read line.Fd (fromFd S) (numbers .fd), number-read line.Arg (fromArg S) (numbers .arg), number-kept)

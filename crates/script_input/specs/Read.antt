@@ -10,7 +10,7 @@ use Rattle.rules.specs.Written.{Written, capped}
 use Rattle.rules.specs.declared.request.Parts.{Parts}
 use Rattle.rules.specs.declared.request.Request.{Request}
 use Rattle.script_rules.specs.Text.{bytesOf}
-use Rattle.script_rules.specs.Blocks.{textOf, lineOk, numberIn, numberLineOk, dataLineOk, partsOk, fromCall, fromFd, fromArg}
+use Rattle.script_rules.specs.Blocks.{textOf, numberIn, numberLineOk, textLinesOk, partsOk, fromCall, fromFd, fromArg}
 use Rattle.script_rules.specs.Replay.{asByte, callFor}
 use Rattle.script_rules.specs.declared.line.Line.{Line}
 use Rattle.script_rules.specs.declared.line.Line.the-variants as line
@@ -29,8 +29,14 @@ numbersRead S = record { process = numberRead line.Proc S; call = numberRead lin
 abbrev pub numbered : Numbers → (path bytes : List ℕ) → Written
 numbered n path bytes = record { process = record { 0 = n .process }; call = n .call; fd = record { 0 = n .fd }; number = n .number; path = path; «data» = bytes }
 
+unfoldable pub headOk : Numbers → Bool
+headOk n = every (leb (n .process) NUMBER-MAX ∷ leb (n .call) NUMBER-MAX ∷ [])
+
+unfoldable pub operandsOk : Numbers → Bool
+operandsOk n = every (leb (n .fd) NUMBER-MAX ∷ leb (n .number) NUMBER-MAX ∷ [])
+
 unfoldable pub numbersOk : Numbers → Bool
-numbersOk n = every (leb (n .process) NUMBER-MAX ∷ leb (n .call) NUMBER-MAX ∷ leb (n .fd) NUMBER-MAX ∷ leb (n .number) NUMBER-MAX ∷ [])
+numbersOk n = every (headOk n ∷ operandsOk n ∷ [])
 
 -- a text that is unused is empty: p and b are the lengths of the texts
 unfoldable pub lengthsUsed : Parts → (p b : ℕ) → Bool
@@ -41,8 +47,7 @@ unfoldable pub readOk : Numbers → (P D : List ℕ) → Bool
 readOk n P D =
     every
     (numbersOk n
-    ∷ lineOk line.Path P
-    ∷ dataLineOk D
+    ∷ textLinesOk P D
     ∷ partsOk (uses (operationOf (n .call))) (numbered n (textOf line.Path P) (bytesOf (textOf line.Data D)))
     ∷ [])
 

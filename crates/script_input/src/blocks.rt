@@ -7,9 +7,9 @@ ghost use Rattle.rules.specs.Choice.{every, implies};
 ghost use Rattle.rules.specs.Calls.{operationOf, uses};
 ghost use Rattle.rules.specs.Written.{numbersFit};
 ghost use Rattle.script_rules.specs.Text.{numberOk, bytesOf, hexOk};
-ghost use Rattle.script_rules.specs.Blocks.{textOf, numberIn, numberLineOk, dataLineOk, partsOk, fromPath};
+ghost use Rattle.script_rules.specs.Blocks.{textOf, numberIn, numberLineOk, dataLineOk, textLinesOk, partsOk, fromPath};
 ghost use Rattle.script_rules.specs.declared.line.Line.the-variants as line;
-ghost use Rattle.script_input.specs.Read.{NO-NUMBER, numberRead, numbersRead, numbered, numbersOk, lengthsUsed, readOk};
+ghost use Rattle.script_input.specs.Read.{NO-NUMBER, numberRead, numbersRead, numbered, headOk, operandsOk, numbersOk, lengthsUsed, readOk};
 use crate::requests::as_byte;
 use rules::request::Parts;
 use script_rules::line::Line;
@@ -84,22 +84,33 @@ pub fn from_path(s: &[u8]) -> &[u8]
     after_line(after_line(from_fd, Line::Fd), Line::Arg)
 }
 
-fn numbers_ok(n: Numbers) -> bool
-    ensures { λ r. ⌜ r ≡ numbersOk n ⌝ }
+fn head_ok(n: Numbers) -> bool
+    ensures { λ r. ⌜ r ≡ headOk n ⌝ }
 {
     let process = n.process <= NUMBER_MAX;
     if !process {
         return false;
     }
-    let call = n.call <= NUMBER_MAX;
-    if !call {
-        return false;
-    }
+    n.call <= NUMBER_MAX
+}
+
+fn operands_ok(n: Numbers) -> bool
+    ensures { λ r. ⌜ r ≡ operandsOk n ⌝ }
+{
     let fd = n.fd <= NUMBER_MAX;
     if !fd {
         return false;
     }
     n.number <= NUMBER_MAX
+}
+
+fn numbers_ok(n: Numbers) -> bool
+    ensures { λ r. ⌜ r ≡ numbersOk n ⌝ }
+{
+    if !head_ok(n) {
+        return false;
+    }
+    operands_ok(n)
 }
 
 fn is_even(t: &[u8]) -> bool
@@ -121,6 +132,15 @@ fn data_line_ok(s: &[u8]) -> bool
         return false;
     }
     data_text_ok(s)
+}
+
+fn text_lines_ok(p: &[u8], d: &[u8]) -> bool
+    ensures { λ r. ⌜ r ≡ textLinesOk (now (p .entry)) (now (d .entry)) ⌝ }
+{
+    if !line_ok(p, Line::Path) {
+        return false;
+    }
+    data_line_ok(d)
 }
 
 // How many bytes the digits of hex write.
@@ -186,10 +206,7 @@ pub fn block_ok(n: Numbers, p: &[u8], d: &[u8]) -> bool
     if !numbers_ok(n) {
         return false;
     }
-    if !line_ok(p, Line::Path) {
-        return false;
-    }
-    if !data_line_ok(d) {
+    if !text_lines_ok(p, d) {
         return false;
     }
     parts_ok(n, p, d)

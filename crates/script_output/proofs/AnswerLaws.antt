@@ -1,18 +1,16 @@
 -- Laws of an answer's text: its length, and its parts written one after the other.
-use Prim.Native.Nat.{ℕ, zero, suc, _+_, _-_, _*_, _≤_, _<_, min}
-use mathlib.Core.Path.{_≡_, refl, sym, _∙_, ap}
-use mathlib.Core.Bool.{Bool, true, false, cond}
+use Prim.Native.Nat.{ℕ, _+_, _-_, _*_, _≤_, _<_, min}
+use mathlib.Core.Path.{_≡_, refl, ap}
+use mathlib.Core.Bool.{true, false}
 use mathlib.Core.List.{List, [], _∷_, _++_}
 use native.Mathlib.Omega.{arith}
 use lib.Dec.{eqb, leb}
-use lib.ListN.{length, getD, set, take, length-append, length-take}
-use lib.Seq.{sets}
-use Rattle.rules.proofs.Lists.{sets-append}
+use lib.ListN.{length, getD, take, length-append, length-take}
 use Rattle.rules.specs.declared.answer.Answer.{Answer}
-use Rattle.script_rules.specs.Text.{digits, decimal, hexOf, little}
-use Rattle.script_rules.specs.Answers.{statBytes, fieldBytes, dataOf, answerText, lineWith, ANSWER, VALUE, DATA}
+use Rattle.script_rules.specs.Text.{decimal, hexOf, little}
+use Rattle.script_rules.specs.Answers.{statBytes, fieldBytes, dataOf, answerText}
 use borrow.Author.Tests.{le-leb, lt-leb}
-use Rattle.script_output.specs.Writes.{Room, Wrote, dataHex, linesOf, writes, written}
+use Rattle.script_output.specs.Writes.{Room, Wrote, linesOf, writes, written}
 use Rattle.script_rules.proofs.Texts.{length-hex}
 
 pub hex-append : (xs ys : List ℕ) → hexOf (xs ++ ys) ≡ hexOf xs ++ hexOf ys
@@ -31,9 +29,6 @@ fields-none f e = rw e
 pub fields-some : (f : List ℕ) → eqb (getD f 0 0) 0 ≡ false → fieldBytes f ≡ statBytes f
 unfolding fieldBytes
 fields-some f e = rw e
-
-pub line-length : (key text : List ℕ) → length (lineWith key text) ≡ length key + length text + 1
-line-length key text = rw (length-append, length-append) (omega arith)
 
 pub data-length : (a : Answer) (buffer : List ℕ) → length (dataOf a buffer) ≡ length (take (a .«name_length») (a .name)) + length (fieldBytes (a .fields)) + length (take (a .value) buffer)
 unfolding dataOf

@@ -110,16 +110,23 @@ textsUsed u w = every (implies (eqb (u .path) 0) (eqb (length (w .path)) 0) ∷ 
 unfoldable pub partsOk : Parts → Written → Bool
 partsOk u w = every (numbersFit u w ∷ textsUsed u w ∷ [])
 
+-- which process makes which call
+unfoldable pub headLinesOk : List ℕ → Bool
+headLinesOk S = every (numberLineOk line.Proc S ∷ numberLineOk line.Call (fromCall S) ∷ [])
+
+-- the call's own numbers
+unfoldable pub operandLinesOk : List ℕ → Bool
+operandLinesOk S = every (numberLineOk line.Fd (fromFd S) ∷ numberLineOk line.Arg (fromArg S) ∷ [])
+
+unfoldable pub numberLinesOk : List ℕ → Bool
+numberLinesOk S = every (headLinesOk S ∷ operandLinesOk S ∷ [])
+
+-- P from the path's line on, D from the data's
+unfoldable pub textLinesOk : (P D : List ℕ) → Bool
+textLinesOk P D = every (lineOk line.Path P ∷ dataLineOk D ∷ [])
+
 unfoldable pub linesOk : List ℕ → Bool
-linesOk S =
-    every
-    (numberLineOk line.Proc S
-    ∷ numberLineOk line.Call (fromCall S)
-    ∷ numberLineOk line.Fd (fromFd S)
-    ∷ numberLineOk line.Arg (fromArg S)
-    ∷ lineOk line.Path (fromPath S)
-    ∷ dataLineOk (fromData S)
-    ∷ [])
+linesOk S = every (numberLinesOk S ∷ textLinesOk (fromPath S) (fromData S) ∷ [])
 
 unfoldable pub blockOk : List ℕ → Bool
 blockOk S = every (linesOk S ∷ partsOk (partsOf (blockOf S)) (blockOf S) ∷ [])

@@ -36,8 +36,11 @@ unfoldable pub leads : List ℕ → Bool
 leads digits = some (eqb (length digits) 1 ∷ not (eqb (getD digits 0 0) ZERO) ∷ [])
 
 -- 65,535 has five digits
+unfoldable pub lengthOk : List ℕ → Bool
+lengthOk digits = every (leb 1 (length digits) ∷ leb (length digits) 5 ∷ [])
+
 unfoldable pub numberOk : List ℕ → Bool
-numberOk digits = every (leb 1 (length digits) ∷ leb (length digits) 5 ∷ leads digits ∷ leb (numberOf digits) NUMBER-MAX ∷ [])
+numberOk digits = every (lengthOk digits ∷ leads digits ∷ leb (numberOf digits) NUMBER-MAX ∷ [])
 
 -- n in decimal, of at most k digits
 unfoldable pub digits : ℕ → ℕ → List ℕ

@@ -3,7 +3,7 @@ ghost use mathlib.Core.Path.{_≡_};
 ghost use Prim.Native.Nat.{min, _-_, _≤_};
 ghost use lib.Dec.{eqb, leb};
 ghost use lib.ListN.{getD};
-ghost use Rattle.script_rules.specs.Text.{ZERO, numberOf, leads, numberOk};
+ghost use Rattle.script_rules.specs.Text.{ZERO, numberOf, leads, lengthOk, numberOk};
 use tables::words::byte;
 
 pub const NUMBER_MAX: u32 = 65535;
@@ -59,15 +59,21 @@ fn is_small(digits: &[u8]) -> bool
     number_of(digits) <= NUMBER_MAX
 }
 
-pub fn number_ok(digits: &[u8]) -> bool
-    ensures { λ r. ⌜ r ≡ numberOk (now (digits .entry)) ⌝ }
+// 65,535 has five digits.
+fn length_ok(digits: &[u8]) -> bool
+    ensures { λ r. ⌜ r ≡ lengthOk (now (digits .entry)) ⌝ }
 {
     let some = 1 <= digits.len();
     if !some {
         return false;
     }
-    let few = digits.len() <= 5;
-    if !few {
+    digits.len() <= 5
+}
+
+pub fn number_ok(digits: &[u8]) -> bool
+    ensures { λ r. ⌜ r ≡ numberOk (now (digits .entry)) ⌝ }
+{
+    if !length_ok(digits) {
         return false;
     }
     if !leads_well(digits) {

@@ -10,7 +10,7 @@ use Rattle.rules.specs.Store.{Store, Fixed, View, view, tab}
 use Rattle.rules.specs.Calls.{Call}
 use Rattle.rules.specs.Decide.{decide}
 use Rattle.rules.specs.Refusals.{GRANTED}
-use Rattle.rules.specs.Sound.{sound, storeSound, sizesSound, tablesSound, policySound}
+use Rattle.rules.specs.Sound.{sound, storeSound, slotsSized, sizesSound, tablesSound, policySound}
 use Rattle.rules.specs.Step.{Outcome, fieldsOut, refusedReply, replyTo, storeAfter, outcomeOf, act, step}
 use Rattle.rules.specs.declared.refusal.Refusal.the-variants.{Unsound}
 use Rattle.rules.specs.declared.decision.Decision.{Decision}
@@ -24,7 +24,7 @@ use Rattle.secrecy.proofs.Kept.{effect-keep, buffer-same, name-same}
 
 -- the soundness test sees no difference either
 sizes-same : (f n : ℕ) (s s′ : Store) → Apart f n s s′ → sizesSound s ≡ sizesSound s′
-unfolding sizesSound
+unfolding sizesSound slotsSized
 sizes-same f n s s′ a = rw (a .files, a .contents .size, a .openFiles, a .processes)
 
 pub sound-same : (K : Fixed) (f n L : ℕ) (s s′ : Store) → Apart f n s s′ → Own f n L (s .files) → sound K s ≡ sound K s′

@@ -11,7 +11,7 @@ use lib.Dec.{ltb}
 use lib.ListN.{length, getD, List·getD-eq-default}
 use Rattle.rules.specs.Layout.{SLOTS, BLOCK, FILE-WIDTH, OPEN-FILES, OPEN-FILE-WIDTH, PROCESSES, PROCESS-WIDTH, PROCESS-DESCRIPTOR, LABELS, LABEL-MAX, FILE-KIND, FILE-LABEL, FILE-LENGTH, PLAIN, DESCRIPTORS}
 use Rattle.rules.specs.Store.{Store, Fixed, view, tab, descOf}
-use Rattle.rules.specs.Sound.{sound, storeSound, sizesSound, tablesSound, slotSound, accessSound, fieldsSound, recordSound, kindSound, plainSound}
+use Rattle.rules.specs.Sound.{sound, storeSound, slotsSized, sizesSound, treeSound, tablesSound, slotSound, accessSound, fieldsSound, recordSound, kindSound, plainSound}
 use Rattle.rules.proofs.Scans.{all-at}
 use Rattle.rules.proofs.Tests.{test, both}
 use Rattle.secrecy.proofs.Fit.{Based}
@@ -31,24 +31,28 @@ module _ (K : Fixed) (s : Store) (h : sound K s ≡ true) where
   parts = both _ _ (test 1 _ h)
 
   pub files-size : length (s .files) ≡ SLOTS * FILE-WIDTH
-  unfolding sizesSound
-  files-size = eqb-true _ _ (test 0 _ (parts .0))
+  unfolding sizesSound slotsSized
+  files-size = eqb-true _ _ (test 0 _ (test 0 _ (parts .0)))
 
   pub open-files-size : length (s .openFiles) ≡ OPEN-FILES * OPEN-FILE-WIDTH
   unfolding sizesSound
-  open-files-size = eqb-true _ _ (test 2 _ (parts .0))
+  open-files-size = eqb-true _ _ (test 1 _ (parts .0))
 
   pub processes-size : length (s .processes) ≡ PROCESSES * PROCESS-WIDTH
   unfolding sizesSound
-  processes-size = eqb-true _ _ (test 3 _ (parts .0))
+  processes-size = eqb-true _ _ (test 2 _ (parts .0))
+
+  tree-sound : treeSound (view s .tree) (view s .openFiles) ≡ true
+  unfolding tablesSound
+  tree-sound = test 0 _ (parts .1)
 
   pub based : Based (view s)
-  unfolding tablesSound
-  based = record { root = test 0 _ (parts .1); eight = desc-eight (s .processes) }
+  unfolding treeSound
+  based = record { root = test 0 _ tree-sound; eight = desc-eight (s .processes) }
 
   slot-sound : (t : ℕ) → t < SLOTS → slotSound (view s .tree) (view s .openFiles) t ≡ true
-  unfolding tablesSound
-  slot-sound t lt = all-at (slotSound (view s .tree) (view s .openFiles)) 0 SLOTS (test 1 _ (parts .1)) t (omega arith) lt
+  unfolding treeSound
+  slot-sound t lt = all-at (slotSound (view s .tree) (view s .openFiles)) 0 SLOTS (test 1 _ tree-sound) t (omega arith) lt
 
   record-sound : (t : ℕ) → t < SLOTS → recordSound (view s .tree .file) t ≡ true
   unfolding slotSound

@@ -15,11 +15,6 @@ use Rattle.rules.specs.Directories.{isPadding}
 use Rattle.rules.specs.Sound.{allZero}
 use Rattle.rules.proofs.Scans.{all-yes, all-no, all-done}
 
--- the last of a list of tests
-pub test-itself : (b : Bool) → cond b true false ≡ b
-test-itself true = refl
-test-itself false = refl
-
 module _ (p : ℕ → Bool) (i n : ℕ) where
   pub flag-next : (f : Bool) {z : Bool} → cond f (all p i n) false ≡ z → i < n → (b r : Bool) → b ≡ p i → r ≡ cond f b false
       → cond r (all p (i + 1) n) false ≡ z

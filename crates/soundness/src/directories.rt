@@ -10,7 +10,7 @@ ghost use Rattle.rules.specs.Scan.{all, count};
 ghost use Rattle.rules.specs.Layout.{FILE-WIDTH, DIRENTS, DIRENT-WIDTH, NAME, SLASH};
 ghost use Rattle.rules.specs.Store.{tab};
 ghost use Rattle.rules.specs.Directories.{direntAt, direntSlot, isEmpty, isPadding};
-ghost use Rattle.rules.specs.Sound.{allZero, nameByteSound, nameSound, usedSound, direntSound, isNew, isUsed, direntsSound};
+ghost use Rattle.rules.specs.Sound.{allZero, nameByteSound, nameSound, usedSound, direntSound, isNew, isUsed, entriesSound, direntsSound};
 ghost use Rattle.tables.specs.NameWords.{lowWord, highWord};
 ghost use Rattle.soundness.specs.Counted.{otherThan, otherWords};
 use crate::bytes::all_zero;
@@ -277,14 +277,21 @@ fn rest_zero(dir: &[u8]) -> bool
     all_zero(after(dir, ENTRIES))
 }
 
-// n is the directory's length.
-pub fn dirents_sound(files: &[u32], dir: &[u8], n: u32) -> bool
-    ensures { λ r. ⌜ r ≡ direntsSound (tab FILE-WIDTH (now (files .entry))) (now (dir .entry)) n ⌝ }
+// Each entry, and its name among those before it.
+fn entries_sound(files: &[u32], dir: &[u8]) -> bool
+    ensures { λ r. ⌜ r ≡ entriesSound (tab FILE-WIDTH (now (files .entry))) (now (dir .entry)) ⌝ }
 {
     if !all_dirents_sound(files, dir) {
         return false;
     }
-    if !all_new(dir) {
+    all_new(dir)
+}
+
+// n is the directory's length.
+pub fn dirents_sound(files: &[u32], dir: &[u8], n: u32) -> bool
+    ensures { λ r. ⌜ r ≡ direntsSound (tab FILE-WIDTH (now (files .entry))) (now (dir .entry)) n ⌝ }
+{
+    if !entries_sound(files, dir) {
         return false;
     }
     if !counts_right(dir, n) {

@@ -7,7 +7,7 @@ ghost use Prim.Native.Nat.{_+_};
 ghost use Rattle.rules.specs.Scan.{all};
 ghost use Rattle.rules.specs.Layout.{OPEN-FILE-WIDTH, OPEN-FILES, OPEN-SLOT, OPEN-REFERENCES, SLOTS, PLAIN, FILE-WIDTH, FILE-KIND, OPEN-MODE};
 ghost use Rattle.rules.specs.Store.{tab, descOf};
-ghost use Rattle.rules.specs.Sound.{openFree, openUsed, openSound};
+ghost use Rattle.rules.specs.Sound.{openFree, onPlainFile, openUsed, openSound};
 ghost use Rattle.soundness.specs.Counted.{openSoundBy};
 ghost use Rattle.rules.specs.Rights.{modeOf, modeKept};
 use crate::fields::at_most;
@@ -63,10 +63,19 @@ fn slot_inside(open_files: &[u32], e: Ofd) -> bool
     is_slot(slot_of(open_files, e))
 }
 
-fn on_plain(files: &[u32], open_files: &[u32], e: Ofd) -> bool
+fn slot_plain(files: &[u32], open_files: &[u32], e: Ofd) -> bool
     ensures { λ r. ⌜ r ≡ eqb (tab FILE-WIDTH (now (files .entry)) (tab OPEN-FILE-WIDTH (now («open_files» .entry)) (e .0) OPEN-SLOT) FILE-KIND) PLAIN ⌝ }
 {
     is_plain(files, slot_of(open_files, e))
+}
+
+fn on_plain_file(files: &[u32], open_files: &[u32], e: Ofd) -> bool
+    ensures { λ r. ⌜ r ≡ onPlainFile (tab FILE-WIDTH (now (files .entry))) (tab OPEN-FILE-WIDTH (now («open_files» .entry))) (e .0) ⌝ }
+{
+    if !slot_inside(open_files, e) {
+        return false;
+    }
+    slot_plain(files, open_files, e)
 }
 
 fn mode_sound(open_files: &[u32], e: Ofd) -> bool
@@ -78,10 +87,7 @@ fn mode_sound(open_files: &[u32], e: Ofd) -> bool
 fn open_used(files: &[u32], open_files: &[u32], e: Ofd) -> bool
     ensures { λ r. ⌜ r ≡ openUsed (tab FILE-WIDTH (now (files .entry))) (tab OPEN-FILE-WIDTH (now («open_files» .entry))) (e .0) ⌝ }
 {
-    if !slot_inside(open_files, e) {
-        return false;
-    }
-    if !on_plain(files, open_files, e) {
+    if !on_plain_file(files, open_files, e) {
         return false;
     }
     if !mode_sound(open_files, e) {

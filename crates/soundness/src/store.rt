@@ -1,7 +1,9 @@
 // The whole test.
 ghost use mathlib.Core.Path.{_≡_};
-ghost use Rattle.rules.specs.Store.{fixed, view, store};
-ghost use Rattle.rules.specs.Sound.{sizesSound, tablesSound, storeSound, sound};
+ghost use mathlib.Core.List.{[]};
+ghost use Rattle.rules.specs.Layout.{OPEN-FILE-WIDTH};
+ghost use Rattle.rules.specs.Store.{fixed, view, store, tree, tab};
+ghost use Rattle.rules.specs.Sound.{slotsSized, sizesSound, treeSound, tablesSound, storeSound, sound};
 use crate::open_files::open_files_sound;
 use crate::policy::policy_sound;
 use crate::processes::processes_sound;
@@ -13,16 +15,22 @@ use tables::layout::FILES_SIZE;
 use tables::layout::OPEN_FILES_SIZE;
 use tables::layout::PROCESSES_SIZE;
 
-// "Lent tables of another size are 1".
-fn sizes_sound(files: &[u32], contents: &[u8], open_files: &[u32], processes: &[u32]) -> bool
-    ensures { λ r. ⌜ r ≡ sizesSound (store (now (files .entry)) (now (contents .entry)) (now («open_files» .entry)) (now (processes .entry))) ⌝ }
+// A record and a block for each slot.
+fn slots_sized(files: &[u32], contents: &[u8]) -> bool
+    ensures { λ r. ⌜ r ≡ slotsSized (store (now (files .entry)) (now (contents .entry)) [] []) ⌝ }
 {
     let files_sized = files.len() == FILES_SIZE;
     if !files_sized {
         return false;
     }
-    let contents_sized = contents.len() == CONTENTS_SIZE;
-    if !contents_sized {
+    contents.len() == CONTENTS_SIZE
+}
+
+// "Lent tables of another size are 1".
+fn sizes_sound(files: &[u32], contents: &[u8], open_files: &[u32], processes: &[u32]) -> bool
+    ensures { λ r. ⌜ r ≡ sizesSound (store (now (files .entry)) (now (contents .entry)) (now («open_files» .entry)) (now (processes .entry))) ⌝ }
+{
+    if !slots_sized(files, contents) {
         return false;
     }
     let open_files_sized = open_files.len() == OPEN_FILES_SIZE;
@@ -32,13 +40,20 @@ fn sizes_sound(files: &[u32], contents: &[u8], open_files: &[u32], processes: &[
     processes.len() == PROCESSES_SIZE
 }
 
-fn tables_sound(files: &[u32], contents: &[u8], open_files: &[u32], processes: &[u32]) -> bool
-    ensures { λ r. ⌜ r ≡ tablesSound (view (store (now (files .entry)) (now (contents .entry)) (now («open_files» .entry)) (now (processes .entry)))) ⌝ }
+// The root is a directory, and every slot is sound.
+fn tree_sound(files: &[u32], contents: &[u8], open_files: &[u32]) -> bool
+    ensures { λ r. ⌜ r ≡ treeSound (tree (now (files .entry)) (now (contents .entry))) (tab OPEN-FILE-WIDTH (now («open_files» .entry))) ⌝ }
 {
     if !is_directory(files, Slot(0)) {
         return false;
     }
-    if !slots_sound(files, contents, open_files) {
+    slots_sound(files, contents, open_files)
+}
+
+fn tables_sound(files: &[u32], contents: &[u8], open_files: &[u32], processes: &[u32]) -> bool
+    ensures { λ r. ⌜ r ≡ tablesSound (view (store (now (files .entry)) (now (contents .entry)) (now («open_files» .entry)) (now (processes .entry)))) ⌝ }
+{
+    if !tree_sound(files, contents, open_files) {
         return false;
     }
     if !open_files_sound(files, open_files, processes) {

@@ -8,7 +8,6 @@ unfolding inRange
 in-range-spec =
     tie.close
     (tie.spec
-    (λ c. search steps)
-    (λ c. search steps)
+    (λ c κs. tt)
     (λ c. search steps)
     (λ c. search steps))

@@ -1,5 +1,6 @@
+use borrow.Author.Needs.{needs}
 use Rattle.rules.specs.DecidePaths.{createAt}
-use Rattle.rules.proofs.Choices.{steps}
+use Rattle.rights.proofs.Permissions.{asked}
 use Rattle.create_calls.proofs.create.create_at.Statement.{statement}
 use Rattle.create_calls.proofs.create.create_at.Tie as tie
 
@@ -9,10 +10,10 @@ create-at-spec =
     tie.close
     (tie.spec
     (λ c κs. tt)
-    (λ c. search steps)
+    (λ c. search asked)
     (λ c κs. tt)
-    (λ c. search steps)
+    (λ c. search needs)
     (λ c κs. tt)
-    (λ c. search steps)
-    (λ c κs. tt)
-    (λ c. search steps))
+    (λ c. search needs)
+    (λ c. search asked)
+    (λ c. search asked))

@@ -1,5 +1,6 @@
+use borrow.Author.Needs.{needs}
 use Rattle.rules.specs.DecidePaths.{openFile}
-use Rattle.rules.proofs.Choices.{steps}
+use Rattle.rights.proofs.Permissions.{asked}
 use Rattle.open_call.proofs.open.open_file.Statement.{statement}
 use Rattle.open_call.proofs.open.open_file.Tie as tie
 
@@ -9,18 +10,19 @@ open-file-spec =
     tie.close
     (tie.spec
     (λ c κs. tt)
-    (λ c. search steps)
+    (λ c. search asked)
     (λ c κs. tt)
     (λ c κs. tt)
-    (λ c. rw (← c .before .before .rights-of .ensures) (search steps))
+    (λ c. search needs)
     (λ c κs. tt)
+    (λ c. search needs)
     (λ c.
-    let before-c = c .before .before in
-    let at-rights-of = before-c .before .before in
-    rw (← at-rights-of .rights-of .ensures) (search steps))
-    (λ c κs. tt)
+    let at-enum-told = c .before in
+    let at-permission-over = at-enum-told .before .before in
+    let at-rights-of = at-permission-over .before in
+    rw (← at-rights-of .rights-of .ensures) (search asked))
     (λ c.
-    let before-c = c .before .before in
-    let before-c-2 = before-c .before .before in
-    let at-rights-of = before-c-2 .before in
-    rw (← at-rights-of .rights-of .ensures) (search steps)))
+    let at-r = c .before in
+    let at-permission-over = at-r .before .before in
+    let at-rights-of = at-permission-over .before in
+    rw (← at-rights-of .rights-of .ensures) (search asked)))

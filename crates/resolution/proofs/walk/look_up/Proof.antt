@@ -1,4 +1,5 @@
-use Rattle.rules.proofs.Choices.{steps}
+use borrow.Author.Needs.{needs}
+use Rattle.rights.proofs.Permissions.{asked}
 use Rattle.resolution.specs.Walks.{lookupBy}
 use Rattle.resolution.proofs.walk.look_up.Statement.{statement}
 use Rattle.resolution.proofs.walk.look_up.Tie as tie
@@ -9,10 +10,10 @@ look-up-spec =
     tie.close
     (tie.spec
     (λ c κs. tt)
-    (λ c. search steps)
+    (λ c. search asked)
     (λ c κs. tt)
-    (λ c. search steps)
+    (λ c. search needs)
     (λ c κs. tt)
-    (λ c. search steps)
-    (λ c κs. tt)
-    (λ c. search steps))
+    (λ c. search needs)
+    (λ c. search asked)
+    (λ c. search asked))

@@ -8,7 +8,7 @@ unfolding numbersOk
 numbers-ok-spec =
     tie.close
     (tie.spec
+    (λ c κs. tt)
     (λ c. search steps)
-    (λ c. search steps)
-    (λ c. search steps)
+    (λ c κs. tt)
     (λ c. search steps))

@@ -8,7 +8,7 @@ unfolding numberOk
 number-ok-spec =
     tie.close
     (tie.spec
-    (λ c. search steps)
+    (λ c κs. tt)
     (λ c. search steps)
     (λ c κs. tt)
     (λ c. search steps)

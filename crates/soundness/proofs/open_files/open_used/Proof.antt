@@ -13,8 +13,6 @@ open-used-spec =
     (λ c. search steps)
     (λ c κs. tt)
     (λ c. search steps)
-    (λ c κs. tt)
-    (λ c. search steps)
     (λ c. search needs)
     (λ c. search needs)
     (λ c. search needs)

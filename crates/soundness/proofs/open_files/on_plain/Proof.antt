@@ -1,5 +1,0 @@
-use Rattle.soundness.proofs.open_files.on_plain.Statement.{statement}
-use Rattle.soundness.proofs.open_files.on_plain.Tie as tie
-
-pub on-plain-spec : {M : Type 1} → statement M
-on-plain-spec = tie.close (tie.spec (λ c κs. tt) (λ c κs. tt) (λ c. rw (c .is-plain .ensures, c .before .slot-of .ensures)))
