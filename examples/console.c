@@ -84,5 +84,15 @@ int main(int count, char **words) {
   answer = mritvelja_list(&s, 2, "/", 1);
   say("2 lists name 1 of /", answer);
   printf("the name: %.*s\n", (int)answer.name_length, (const char *)answer.name);
+
+  say("0 makes the link /today to /fares/now", mritvelja_symlink(&s, 0, "/today", "/fares/now"));
+  answer = mritvelja_readlink(&s, 2, "/today", buffer, sizeof buffer);
+  say("2 reads the link /today", answer);
+  printf("the text read: %.*s\n", (int)answer.value, (const char *)buffer);
+  answer = mritvelja_open(&s, 2, "/today", MRITVELJA_MODE_READ);
+  say("2 opens /today, mode 1", answer);
+  answer = mritvelja_read(&s, 2, (uint8_t)answer.value, buffer, sizeof buffer);
+  say("2 reads into 16 bytes", answer);
+  printf("the bytes read: %.*s", (int)answer.value, (const char *)buffer);
   return 0;
 }

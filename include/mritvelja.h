@@ -17,7 +17,7 @@
 #include <stdint.h>
 
 /* The version of this header and of the library that it is of. */
-#define MRITVELJA_VERSION "1.0.0"
+#define MRITVELJA_VERSION "1.1.0"
 
 #ifdef __cplusplus
 extern "C" {
@@ -31,8 +31,9 @@ enum {
   MRITVELJA_DIRENTS = 16,         /* directory entries in a directory's block */
   MRITVELJA_DIRENT_WIDTH = 16,    /* bytes of an entry: name, slot, 0 */
   MRITVELJA_NAME = 14,            /* bytes of a name, padded with 0 */
-  MRITVELJA_PATH = 64,            /* bytes of a path, at most */
+  MRITVELJA_PATH = 64,            /* bytes of a path or of a link's text, at most */
   MRITVELJA_NAMES = 8,            /* names in a path, at most */
+  MRITVELJA_FOLLOWS = 8,          /* links that one walk follows, at most */
   MRITVELJA_OPEN_FILES = 32,
   MRITVELJA_OPEN_FILE_WIDTH = 4,  /* words of an open file */
   MRITVELJA_PROCESSES = 8,
@@ -56,14 +57,17 @@ enum {
   MRITVELJA_FILE_KIND = 0,
   MRITVELJA_FILE_OWNER = 1,   /* 0 to 65535 */
   MRITVELJA_FILE_GROUP = 2,   /* 0 to 65535 */
-  MRITVELJA_FILE_BITS = 3,    /* 0 to 0777, which is 511 */
+  MRITVELJA_FILE_BITS = 3,    /* 0 to 0777, which is 511; of a link 0 */
   MRITVELJA_FILE_LABEL = 4,   /* 0 to 15 */
-  MRITVELJA_FILE_LENGTH = 5,  /* bytes; of a directory, names in it */
+  MRITVELJA_FILE_LENGTH = 5,  /* bytes, of a link of its text; of a directory, names in it */
   MRITVELJA_FILE_LINKS = 6,   /* how many directory entries name it */
   MRITVELJA_FILE_VERSION = 7  /* goes up with each change, and wraps */
 };
 
-enum { MRITVELJA_FREE = 0, MRITVELJA_PLAIN = 1, MRITVELJA_DIRECTORY = 2 };
+/* Kinds. A link is a symbolic one: its contents are the path that it leads to. A
+ * walk follows it before the last name, and there for open, execute, list and
+ * change bits alone. */
+enum { MRITVELJA_FREE = 0, MRITVELJA_PLAIN = 1, MRITVELJA_DIRECTORY = 2, MRITVELJA_LINK = 3 };
 
 /* Columns of an open file. One with no references is free and all 0. */
 enum {
@@ -120,7 +124,9 @@ enum {
   MRITVELJA_CALL_DUPLICATE = 14,        /* descriptor; the new descriptor */
   MRITVELJA_CALL_FORK = 15,             /* nothing; the child */
   MRITVELJA_CALL_EXIT = 16,             /* nothing; 0 */
-  MRITVELJA_CALL_EXECUTE = 17           /* path; 0 */
+  MRITVELJA_CALL_EXECUTE = 17,          /* path; 0 */
+  MRITVELJA_CALL_SYMLINK = 18,          /* path, data: target; the slot */
+  MRITVELJA_CALL_READLINK = 19          /* path, buffer; bytes read */
 };
 
 /* Refusals. A refused call changes nothing that was lent. */
@@ -128,7 +134,7 @@ enum {
   MRITVELJA_GRANTED = 0,
   MRITVELJA_UNSOUND = 1,           /* store or policy not sound */
   MRITVELJA_NO_PROCESS = 2,        /* process not in use */
-  MRITVELJA_MALFORMED = 3,         /* unknown call or mode, bad bits, path or position */
+  MRITVELJA_MALFORMED = 3,         /* unknown call or mode, bad bits, path, target or position */
   MRITVELJA_NOT_HELD = 4,          /* descriptor not held */
   MRITVELJA_WRONG_DIRECTION = 5,   /* not open for that direction */
   MRITVELJA_NAME_MISSING = 6,
@@ -139,7 +145,8 @@ enum {
   MRITVELJA_NAME_THERE = 11,       /* name already there */
   MRITVELJA_NOT_EMPTY = 12,        /* directory not empty */
   MRITVELJA_TABLE_FULL = 13,       /* a table needed has no free place */
-  MRITVELJA_TOO_LONG = 14          /* file would pass 512 bytes */
+  MRITVELJA_TOO_LONG = 14,         /* file would pass 512 bytes */
+  MRITVELJA_TOO_DEEP = 15          /* over 8 links followed, or a directory over 8 names deep */
 };
 
 typedef struct {
@@ -163,8 +170,8 @@ mritvelja_answer mritvelja_call(
     uint8_t descriptor,                            /* for calls 10 to 14 */
     uint16_t number,                               /* mode, bits, index or position */
     const uint8_t *path, size_t path_size,         /* not ended by 0 */
-    const uint8_t *data, size_t data_size,         /* a write's bytes, or link's new path */
-    uint8_t *buffer, size_t buffer_size);          /* where a read puts its bytes */
+    const uint8_t *data, size_t data_size,         /* a write's bytes, link's new path, symlink's target */
+    uint8_t *buffer, size_t buffer_size);          /* where a read or a readlink puts its bytes */
 
 /* As mritvelja_call, without the test. On tables found sound and since then
  * changed by these functions alone, mritvelja_act answers what mritvelja_call
@@ -209,8 +216,8 @@ typedef struct {
 } mritvelja_replayed;
 
 /* Runs a script: each block of six lines is one call, answered as by
- * mritvelja_call, but that a read of more than 512 bytes is malformed. Each
- * answer is three lines of the output. The call that it stops before was not
+ * mritvelja_call, but that a read or a readlink of more than 512 bytes is
+ * malformed. Each answer is three lines of the output. The call that it stops before was not
  * made, and the output's bytes past the answers stay.
  * A run on the same tables with the script from next on goes on where this one
  * stopped. */

@@ -172,13 +172,24 @@ static inline mritvelja_answer mritvelja_execute(mritvelja_store *store, uint8_t
   return mritvelja_ask_path(store, process, MRITVELJA_CALL_EXECUTE, path, 0);
 }
 
+/* Makes a link at a path, which leads to its target: a path too, that need not be there. */
+static inline mritvelja_answer mritvelja_symlink(mritvelja_store *store, uint8_t process, const char *path, const char *target) {
+  return mritvelja_ask(store, process, MRITVELJA_CALL_SYMLINK, 0, 0, path, target, strlen(target), NULL, 0);
+}
+
+/* The target of a link, which has at most MRITVELJA_PATH bytes and no 0 after them. */
+static inline mritvelja_answer mritvelja_readlink(mritvelja_store *store, uint8_t process, const char *path, void *buffer, size_t size) {
+  return mritvelja_ask(store, process, MRITVELJA_CALL_READLINK, 0, 0, path, NULL, 0, buffer, size);
+}
+
 /* What a refusal means, in words. */
 static inline const char *mritvelja_refusal_text(uint32_t refusal) {
   static const char *const texts[] = {
       "granted",          "store or policy not sound", "process not in use",        "malformed call",
       "descriptor not held", "not open for that direction", "name missing",         "not a directory",
       "wrong kind of file", "bits or ownership forbid", "label forbids",            "name already there",
-      "directory not empty", "a table has no free place", "file would pass 512 bytes"};
+      "directory not empty", "a table has no free place", "file would pass 512 bytes",
+      "over 8 links followed or directory over 8 names deep"};
   return refusal < sizeof texts / sizeof *texts ? texts[refusal] : "unknown refusal";
 }
 

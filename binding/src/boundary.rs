@@ -114,7 +114,8 @@ macro_rules! ask {
 }
 
 /// Makes one call. Tables or a policy that are not sound, or not of the store's
-/// sizes, are refused, at each call. A read puts its bytes into the buffer.
+/// sizes, are refused, at each call. A read or a readlink puts its bytes into the
+/// buffer.
 #[inline]
 pub fn call(tables: &mut Tables, request: &Request, buffer: &mut [u8]) -> Answer {
     // SAFETY: as said above of every crossing.
@@ -139,9 +140,9 @@ pub fn sound(tables: &Tables) -> bool {
 }
 
 /// Runs a script, at most `allowance` calls of it, each as by [`call`], but that a
-/// read of more than 512 bytes is malformed. The answers go to the output, three
-/// lines each, and its bytes past them stay. A run with the script from
-/// [`next`](Replayed::next) on goes on where this one stopped.
+/// read or a readlink of more than 512 bytes is malformed. The answers go to the
+/// output, three lines each, and its bytes past them stay. A run with the script
+/// from [`next`](Replayed::next) on goes on where this one stopped.
 #[inline]
 pub fn replay(tables: &mut Tables, script: &[u8], allowance: u32, output: &mut [u8]) -> Replayed {
     // SAFETY: as said above of every crossing.

@@ -36,6 +36,10 @@ pub const FORK: u8 = 15;
 pub const EXIT: u8 = 16;
 /// Path; 0.
 pub const EXECUTE: u8 = 17;
+/// Path, data: target; the slot.
+pub const SYMLINK: u8 = 18;
+/// Path, buffer; bytes read.
+pub const READLINK: u8 = 19;
 
 /// A part of a call, by what the call takes it for.
 #[derive(Clone, Copy, Debug, PartialEq, Eq)]
@@ -56,7 +60,9 @@ pub enum Part {
     Data,
     /// The data, as link's new path.
     NewPath,
-    /// The buffer of a read, of which a script gives the size as the number.
+    /// The data, as the path that a symbolic link leads to.
+    Target,
+    /// The buffer of a read or a readlink, of which a script gives the size as the number.
     Buffer,
 }
 
@@ -80,7 +86,7 @@ impl Part {
             Part::Descriptor => Field::Descriptor,
             Part::Mode | Part::Bits | Part::Index | Part::Position | Part::Buffer => Field::Number,
             Part::Path => Field::Path,
-            Part::Data | Part::NewPath => Field::Data,
+            Part::Data | Part::NewPath | Part::Target => Field::Data,
         }
     }
 }
@@ -99,6 +105,8 @@ pub fn parts(call: u16) -> Option<&'static [Part]> {
         WRITE => &[Descriptor, Data],
         SEEK => &[Descriptor, Position],
         FORK | EXIT => &[],
+        SYMLINK => &[Path, Target],
+        READLINK => &[Path, Buffer],
         _ => return None,
     })
 }

@@ -12,10 +12,12 @@ pub const DIRENTS: usize = 16;
 pub const DIRENT_WIDTH: usize = 16;
 /// Bytes of a name, padded with 0.
 pub const NAME: usize = 14;
-/// Bytes of a path, at most.
+/// Bytes of a path or of a link's text, at most.
 pub const PATH: usize = 64;
 /// Names in a path, at most.
 pub const NAMES: usize = 8;
+/// Links that one walk follows, at most.
+pub const FOLLOWS: usize = 8;
 /// Open files.
 pub const OPEN_FILES: usize = 32;
 /// Words of an open file.
@@ -49,17 +51,17 @@ pub const NO_TRANSITION: u8 = 255;
 
 // Columns of a file's record, and of stat's fields.
 
-/// [`FREE`], [`PLAIN`] or [`DIRECTORY`].
+/// [`FREE`], [`PLAIN`], [`DIRECTORY`] or [`LINK`].
 pub const FILE_KIND: usize = 0;
 /// A user, 0 to 65,535.
 pub const FILE_OWNER: usize = 1;
 /// A group, 0 to 65,535.
 pub const FILE_GROUP: usize = 2;
-/// 0 to 511: the rights of the owner times 64, of the group times 8, and of all others.
+/// 0 to 511: the rights of the owner times 64, of the group times 8, and of all others; of a link 0.
 pub const FILE_BITS: usize = 3;
 /// 0 to 15.
 pub const FILE_LABEL: usize = 4;
-/// Bytes; of a directory, names in it.
+/// Bytes, of a link of its text; of a directory, names in it.
 pub const FILE_LENGTH: usize = 5;
 /// How many directory entries name the file.
 pub const FILE_LINKS: usize = 6;
@@ -72,6 +74,8 @@ pub const FREE: u32 = 0;
 pub const PLAIN: u32 = 1;
 /// The kind of a directory.
 pub const DIRECTORY: u32 = 2;
+/// The kind of a symbolic link, whose contents are the path that it leads to.
+pub const LINK: u32 = 3;
 
 // Columns of an open file. One with no references is free and all 0.
 

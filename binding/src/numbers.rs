@@ -22,7 +22,7 @@ pub mod refusals {
     pub const UNSOUND: u32 = 1;
     /// Process not in use.
     pub const NO_PROCESS: u32 = 2;
-    /// Unknown call or mode, bad bits, path or position.
+    /// Unknown call or mode, bad bits, path, target or position.
     pub const MALFORMED: u32 = 3;
     /// Descriptor not held.
     pub const NOT_HELD: u32 = 4;
@@ -46,6 +46,8 @@ pub mod refusals {
     pub const TABLE_FULL: u32 = 13;
     /// File would pass 512 bytes.
     pub const TOO_LONG: u32 = 14;
+    /// Over 8 links followed, or a directory over 8 names deep.
+    pub const TOO_DEEP: u32 = 15;
 
     /// What a refusal means, in words.
     pub fn text(refusal: u32) -> &'static str {
@@ -65,6 +67,7 @@ pub mod refusals {
             NOT_EMPTY => "directory not empty",
             TABLE_FULL => "a table has no free place",
             TOO_LONG => "file would pass 512 bytes",
+            TOO_DEEP => "over 8 links followed or directory over 8 names deep",
             _ => "unknown refusal",
         }
     }

@@ -87,6 +87,12 @@ impl Tables {
         &mut self.contents.as_chunks_mut().0[slot]
     }
 
+    /// The bytes of a plain file, or the text of a link: its contents up to its length.
+    pub fn bytes(&self, slot: usize) -> &[u8] {
+        let length = self.file(slot)[FILE_LENGTH] as usize;
+        &self.block(slot)[..length.min(BLOCK)]
+    }
+
     /// A directory entry, as it is stored.
     pub fn dirent(&self, directory: usize, entry: usize) -> &[u8; DIRENT_WIDTH] {
         &self.block(directory).as_chunks().0[entry]

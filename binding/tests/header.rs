@@ -47,19 +47,19 @@ macro_rules! constants {
 /// Every constant of the package by its name in the header.
 fn in_package() -> Values {
     constants! {
-        "" layout: SLOTS FILE_WIDTH BLOCK DIRENTS DIRENT_WIDTH NAME PATH NAMES OPEN_FILES
+        "" layout: SLOTS FILE_WIDTH BLOCK DIRENTS DIRENT_WIDTH NAME PATH NAMES FOLLOWS OPEN_FILES
             OPEN_FILE_WIDTH PROCESSES PROCESS_WIDTH DESCRIPTORS LABELS NO_TRANSITION FILES_SIZE
             CONTENTS_SIZE OPEN_FILES_SIZE PROCESSES_SIZE RIGHTS_SIZE POLICY_SIZE
             FILE_KIND FILE_OWNER FILE_GROUP FILE_BITS FILE_LABEL FILE_LENGTH FILE_LINKS FILE_VERSION
             OPEN_SLOT OPEN_MODE OPEN_OFFSET OPEN_REFERENCES
             PROCESS_USED PROCESS_USER PROCESS_GROUP PROCESS_LABEL PROCESS_DESCRIPTOR
-            FREE PLAIN DIRECTORY EXECUTE WRITE READ;
+            FREE PLAIN DIRECTORY LINK EXECUTE WRITE READ;
         "MODE_" modes: READ WRITE BOTH APPEND TRUNCATE;
         "CALL_" calls: OPEN CREATE MAKE_DIRECTORY UNLINK REMOVE_DIRECTORY LINK LIST CHANGE_BITS
-            STAT CLOSE READ WRITE SEEK DUPLICATE FORK EXIT EXECUTE;
+            STAT CLOSE READ WRITE SEEK DUPLICATE FORK EXIT EXECUTE SYMLINK READLINK;
         "" refusals: GRANTED UNSOUND NO_PROCESS MALFORMED NOT_HELD WRONG_DIRECTION NAME_MISSING
             NOT_A_DIRECTORY WRONG_KIND BITS_FORBID LABEL_FORBIDS NAME_THERE NOT_EMPTY TABLE_FULL
-            TOO_LONG;
+            TOO_LONG TOO_DEEP;
         "REPLAY_" reasons: END ALLOWANCE BROKEN ROOM;
     }
 }
@@ -77,7 +77,7 @@ fn the_refusals_are_said_in_the_headers_words() {
     let texts = STORE_HEADER.split("texts[] = {").nth(1).unwrap();
     let texts = texts.split('}').next().unwrap();
     let texts: Vec<&str> = texts.split('"').skip(1).step_by(2).collect();
-    let said: Vec<&str> = (0..=refusals::TOO_LONG).map(refusals::text).collect();
+    let said: Vec<&str> = (0..=refusals::TOO_DEEP).map(refusals::text).collect();
     assert_eq!(texts, said);
 }
 
@@ -97,6 +97,7 @@ fn phrase(part: &Part) -> &'static str {
         Part::Position => "number: position",
         Part::Data => "data",
         Part::NewPath => "data: new path",
+        Part::Target => "data: target",
         Part::Buffer => "buffer",
     }
 }

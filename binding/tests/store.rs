@@ -111,3 +111,55 @@ fn tables_are_taken_over_in_place() {
     assert_eq!(tables, other);
     assert_eq!(tables.files.as_ptr(), files);
 }
+
+fn symlink<'a>(path: &'a [u8], target: &'a [u8]) -> Request<'a> {
+    Request {
+        call: calls::SYMLINK,
+        path,
+        data: target,
+        ..Request::default()
+    }
+}
+
+#[test]
+fn a_link_is_made_and_read() {
+    let mut tables = test_console();
+    let answer = call(&mut tables, &symlink(b"/today", b"/fares/now"), &mut []);
+    assert_eq!((answer.refusal, answer.value), (refusals::GRANTED, 4));
+    assert_eq!(tables.file(4), &[LINK, 0, 1, 0, 0, 10, 1, 0]);
+    assert_eq!(tables.bytes(4), b"/fares/now");
+    let readlink = Request {
+        call: calls::READLINK,
+        path: b"/today",
+        ..Request::default()
+    };
+    for size in [64, 10, 3, 0] {
+        let mut buffer = vec![7; size];
+        let answer = call(&mut tables, &readlink, &mut buffer);
+        let count = size.min(10);
+        assert_eq!((answer.refusal, answer.value), (0, count as u32));
+        assert_eq!(buffer[..count], b"/fares/now"[..count]);
+        assert!(buffer[count..].iter().all(|&byte| byte == 7));
+    }
+}
+
+#[test]
+fn a_link_is_followed_and_a_ring_is_not() {
+    let mut tables = test_console();
+    for (path, target) in [(b"/today", &b"/fares/now"[..]), (b"/again", b"/again")] {
+        assert!(call(&mut tables, &symlink(path, target), &mut []).is_granted());
+    }
+    let mut open = |path| {
+        let request = Request {
+            call: calls::OPEN,
+            number: modes::READ,
+            path,
+            ..Request::default()
+        };
+        call(&mut tables, &request, &mut [])
+    };
+    assert!(open(b"/today").is_granted());
+    let answer = open(b"/again");
+    assert_eq!((answer.refusal, answer.stop), (refusals::TOO_DEEP, 1));
+    assert_eq!(tables.open_file(0)[OPEN_SLOT], 2);
+}

@@ -10,7 +10,7 @@ pub struct Told<'a> {
     pub refusal: u32,
     pub stop: u32,
     pub value: u32,
-    /// A listed name, or the bytes of a read where they are at hand.
+    /// A listed name, or the bytes of a read or a readlink where they are at hand.
     pub bytes: Option<&'a [u8]>,
     /// Of stat.
     pub record: [u32; FILE_WIDTH],
@@ -53,11 +53,11 @@ fn granted(call: u8, told: &Told) -> Option<String> {
     let value = told.value;
     Some(match call {
         calls::OPEN | calls::DUPLICATE => format!("descriptor {value}"),
-        calls::CREATE | calls::MAKE_DIRECTORY => format!("slot {value}"),
+        calls::CREATE | calls::MAKE_DIRECTORY | calls::SYMLINK => format!("slot {value}"),
         calls::LIST if value == 0 => "no name there".into(),
         calls::LIST => format!("name {}", text::readable(told.bytes?)),
         calls::STAT => format!("{}, {}", kind(&told.record), fields(&told.record)),
-        calls::READ => match told.bytes {
+        calls::READ | calls::READLINK => match told.bytes {
             Some(bytes) if !bytes.is_empty() => {
                 format!("{}, {}", byte_count(value), text::quote(bytes))
             }

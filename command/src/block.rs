@@ -147,6 +147,13 @@ mod tests {
         run.reason == reasons::BROKEN
     }
 
+    fn assert_breaks(block: &str, line: usize, why: &str) {
+        assert!(is_broken(block), "{block}");
+        let (at, said) = parse(block.as_bytes()).unwrap_err();
+        assert_eq!(at, line, "{block}");
+        assert!(said.contains(why), "{said}");
+    }
+
     #[test]
     fn a_broken_block_breaks_at_a_line() {
         for (block, line, why) in [
@@ -169,10 +176,19 @@ mod tests {
             ),
             (block(9, "0", "0", "/", "00"), 5, "does not use data="),
         ] {
-            assert!(is_broken(&block), "{block}");
-            let (at, said) = parse(block.as_bytes()).unwrap_err();
-            assert_eq!(at, line, "{block}");
-            assert!(said.contains(why), "{said}");
+            assert_breaks(&block, line, why);
+        }
+    }
+
+    #[test]
+    fn a_broken_block_of_a_link_breaks_at_a_line() {
+        for (block, line, why) in [
+            (block(18, "1", "0", "/a", "2f"), 2, "18 does not use fd="),
+            (block(18, "0", "1", "/a", "2f"), 3, "18 does not use arg="),
+            (block(19, "1", "9", "/a", ""), 2, "19 does not use fd="),
+            (block(19, "0", "9", "/a", "2f"), 5, "19 does not use data="),
+        ] {
+            assert_breaks(&block, line, why);
         }
     }
 
@@ -203,6 +219,13 @@ mod tests {
         let words = ["/a", "write,truncate"].map(OsString::from);
         let asked = Asked::parse("2".as_ref(), "open".as_ref(), &words).unwrap();
         assert_eq!(asked.words(), parsed.words());
+        for (block, words) in [
+            (block(18, "0", "0", "/a", "2f1b"), "symlink /a /\\x1b"),
+            (block(18, "0", "0", "/a", ""), "symlink /a "),
+            (block(19, "0", "512", "/a", ""), "readlink /a 512"),
+        ] {
+            assert_eq!(parse(block.as_bytes()).unwrap().words(), words);
+        }
     }
 
     #[test]

@@ -52,7 +52,7 @@ fn request<'a>(asked: &'a Asked, data: Option<&'a [u8]>) -> Request<'a> {
     }
 }
 
-/// The bytes of a read go to standard output, and the words beside them; else the words go there.
+/// The bytes of a read or a readlink go to standard output, and the words beside them; else the words go there.
 fn print(asked: &Asked, answer: &Answer, buffer: &[u8], is_hex: bool) -> Result<(), Failure> {
     let words = answers::words(asked.call, &Told::from(answer));
     if !calls::reads(asked.call) {
@@ -61,8 +61,17 @@ fn print(asked: &Asked, answer: &Answer, buffer: &[u8], is_hex: bool) -> Result<
     let bytes = &buffer[..answer.value as usize];
     let printed = match is_hex {
         true => output::print_line(text::hex(bytes)),
+        false if asked.call == calls::READLINK.into() => output::print(&text_line(bytes)),
         false => output::print(bytes),
     };
     output::tell(words);
     printed
+}
+
+/// A link's text as a line of its own, as readlink prints it in a shell; nothing where nothing was read.
+fn text_line(bytes: &[u8]) -> Vec<u8> {
+    match bytes {
+        [] => Vec::new(),
+        _ => [bytes, b"\n"].concat(),
+    }
 }

@@ -11,7 +11,7 @@ use std::os::unix::ffi::OsStrExt;
 
 use Part::*;
 
-const NAMES: [(&str, u8); 17] = [
+const NAMES: [(&str, u8); 19] = [
     ("open", calls::OPEN),
     ("create", calls::CREATE),
     ("make-directory", calls::MAKE_DIRECTORY),
@@ -29,6 +29,8 @@ const NAMES: [(&str, u8); 17] = [
     ("fork", calls::FORK),
     ("exit", calls::EXIT),
     ("execute", calls::EXECUTE),
+    ("symlink", calls::SYMLINK),
+    ("readlink", calls::READLINK),
 ];
 
 /// A call's name; nothing if there is no such call.
@@ -50,7 +52,8 @@ pub struct Asked {
 }
 
 impl Asked {
-    /// The call of a name with its operands, as many as it has parts; a read without a size is of a whole file.
+    /// The call of a name with its operands, as many as it has parts; a read or a readlink without a size is of
+    /// all that there is.
     pub fn parse(process: &OsStr, name: &OsStr, operands: &[OsString]) -> Result<Asked, String> {
         let &(name, call) = NAMES
             .iter()
@@ -80,7 +83,7 @@ impl Asked {
         let not = || format!("{} is {}", what(part), text::printable(word));
         match part {
             Path => self.path = word.as_bytes().to_vec(),
-            NewPath | Data => self.data = word.as_bytes().to_vec(),
+            NewPath | Target | Data => self.data = word.as_bytes().to_vec(),
             Descriptor => self.descriptor = number(what(part), word, u8::MAX.into())?,
             Index | Buffer | Position => self.number = number(what(part), word, u16::MAX)?,
             Mode => {
@@ -113,7 +116,7 @@ impl Asked {
     fn word(&self, part: Part) -> String {
         match part {
             Path => text::readable(&self.path),
-            NewPath => text::readable(&self.data),
+            NewPath | Target => text::readable(&self.data),
             Data => text::quote(&self.data),
             Descriptor => self.descriptor.to_string(),
             Index | Buffer | Position => self.number.to_string(),
@@ -128,6 +131,7 @@ fn what(part: Part) -> &'static str {
     match part {
         Path => "a PATH",
         NewPath => "a NEW PATH",
+        Target => "a TARGET",
         Mode => "a MODE",
         Bits => "BITS",
         Index => "an INDEX",

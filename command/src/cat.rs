@@ -1,4 +1,4 @@
-//! `cat`: a file's bytes as the host sees them, whatever bits and labels say.
+//! `cat`: a file's bytes as the host sees them, whatever bits and labels say. Links are followed.
 
 use crate::arguments::Store;
 use crate::check;
@@ -7,7 +7,7 @@ use crate::held;
 use crate::output;
 use crate::path;
 use crate::text;
-use mritvelja::layout::{DIRECTORY, FILE_LENGTH};
+use mritvelja::layout::DIRECTORY;
 use std::ffi::OsStr;
 use std::os::unix::ffi::OsStrExt;
 
@@ -18,13 +18,9 @@ pub fn cat(store: &Store, file: &OsStr) -> Result<(), Failure> {
     if !file.as_bytes().starts_with(b"/") {
         return Err(refused("a path begins with a slash"));
     }
-    // Slashes in a row count as one, as they do for calls.
-    let names = file.as_bytes().split(|&byte| byte == b'/');
-    let names = names.filter(|name| !name.is_empty());
-    let slot = path::slot_at(&tables, names).ok_or_else(|| refused("name missing"))?;
+    let slot = path::followed(&tables, file.as_bytes()).map_err(|why| refused(&why))?;
     if tables.is_kind(slot, DIRECTORY) {
         return Err(refused("is a directory"));
     }
-    let length = tables.file(slot)[FILE_LENGTH] as usize;
-    output::print(&tables.block(slot)[..length])
+    output::print(tables.bytes(slot))
 }

@@ -105,7 +105,7 @@ mod tests {
         let explained = String::from_utf8(explain(DAY, ANSWERS).unwrap()).unwrap();
         let is_words = |line: &&str| line.starts_with('#');
         let words: Vec<&str> = explained.lines().filter(is_words).collect();
-        assert_eq!(words.len(), 40);
+        assert_eq!(words.len(), 50);
         for line in [
             "# 1: process 2, open /fares/now read: granted: descriptor 0",
             "# 2: process 2, read 0 16: granted: 5 bytes, \"2.40\\x0a\"",
@@ -113,6 +113,10 @@ mod tests {
             "# 6: process 1, write 0 \"2.60\\x0a\": granted: 5 bytes",
             "# 7: process 1, read 0 16: refused: 5, not open for that direction",
             "# 14: process 2, stat /fares/now: granted: plain file, owner 10, group 1, bits 484 (owner read write execute, group read, others read), label 0, length 5, links 1, version 1",
+            "# 37: process 0, symlink /today /fares/now: granted: slot 2",
+            "# 38: process 2, readlink /today 64: granted: 10 bytes, \"/fares/now\"",
+            "# 39: process 2, stat /today: granted: link, owner 0, group 1, bits 0 (owner none, group none, others none), label 0, length 10, links 1, version 1",
+            "# 44: process 2, open /again read: refused: 15, over 8 links followed or directory over 8 names deep",
         ] {
             assert!(words.contains(&line), "{line}\n{words:#?}");
         }

@@ -13,6 +13,8 @@ const FORMER_SLOTS: [usize; 2] = [128, 64];
 // Numbers of version 1, which stay whatever those of today become.
 const FILE_WIDTH_BEFORE: usize = 7;
 const FILE_BITS_BEFORE: usize = 2;
+/// There were no links.
+const LAST_KIND_BEFORE: u32 = DIRECTORY;
 const PROCESS_WIDTH_BEFORE: usize = 11;
 const PROCESS_LABEL_BEFORE: usize = 2;
 
@@ -48,22 +50,28 @@ pub fn decode(bytes: &[u8], length: u64) -> Result<Tables, String> {
         }
         Some(Header { slots, .. }) => {
             let tables = shape(slots).take_tables(bytes, length)?;
-            require_bits(&tables.files).map_err(|defect| defect.to_string())?;
+            require_ranges(&tables.files).map_err(|defect| defect.to_string())?;
             Ok(converted(tables))
         }
     }
 }
 
-/// Refuses bits that were out of range: once converted they might not be.
-fn require_bits(files: &[u32]) -> Result<(), Defect> {
+/// Refuses kinds and bits that were out of range: once converted they might not be.
+fn require_ranges(files: &[u32]) -> Result<(), Defect> {
     let records = files.as_chunks::<FILE_WIDTH_BEFORE>().0;
-    let bits = records.iter().map(|record| record[FILE_BITS_BEFORE]);
-    match bits.enumerate().find(|&(_, bits)| bits > ALL_RIGHTS) {
-        None => Ok(()),
-        Some((slot, bits)) => Err(Defect::out_of_range(format!(
-            "slot {slot}: bits is {bits}, not 0 to {ALL_RIGHTS}"
-        ))),
+    for (slot, record) in records.iter().enumerate() {
+        for (column, field, last) in [
+            (FILE_KIND, "kind", LAST_KIND_BEFORE),
+            (FILE_BITS_BEFORE, "bits", ALL_RIGHTS),
+        ] {
+            let value = record[column];
+            if value > last {
+                let place = format!("slot {slot}: {field} is {value}, not 0 to {last}");
+                return Err(Defect::out_of_range(place));
+            }
+        }
     }
+    Ok(())
 }
 
 fn converted(tables: Tables) -> Tables {
@@ -151,10 +159,11 @@ mod tests {
     }
 
     #[test]
-    fn every_byte_but_of_bits_is_kept() {
+    fn every_byte_but_of_kinds_and_bits_is_kept() {
         let before = encode(&test_console(), 64);
-        let is_bits = |at: usize| at < 64 * 28 && at % 28 / 4 == FILE_BITS_BEFORE;
-        for at in (HEADER..before.len()).filter(|&at| !is_bits(at - HEADER)) {
+        let is_tested =
+            |at: usize| at < 64 * 28 && [FILE_KIND, FILE_BITS_BEFORE].contains(&(at % 28 / 4));
+        for at in (HEADER..before.len()).filter(|&at| !is_tested(at - HEADER)) {
             let changed = changed(&before, at, before[at] ^ 0x80);
             assert_eq!(encode(&decode_whole(&changed).unwrap(), 64), changed);
         }
@@ -171,6 +180,8 @@ mod tests {
         }
         let far = changed(&before, bits(2) + 3, 255);
         assert!(decode_whole(&far).is_err());
+        let link = decode_whole(&changed(&before, HEADER + 28 * 2, 3)).unwrap_err();
+        assert!(link.contains("slot 2: kind is 3, not 0 to 2"), "{link}");
         let free = decode_whole(&changed(&before, bits(9), 7)).unwrap();
         let defect = first_defect(&free).unwrap();
         assert!(defect.place.contains("slot 9: a free record"), "{defect}");

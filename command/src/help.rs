@@ -68,6 +68,7 @@ answer in words. A call that is refused has status 1.
   remove-directory PATH      link PATH NEW
   list PATH INDEX            change-bits PATH BITS
   stat PATH                  execute PATH
+  symlink PATH TARGET        readlink PATH [SIZE]
   read DESCRIPTOR [SIZE]     write DESCRIPTOR DATA
   seek DESCRIPTOR POSITION   duplicate DESCRIPTOR
   close DESCRIPTOR           fork
@@ -75,10 +76,11 @@ answer in words. A call that is refused has status 1.
 
 MODE is read, write, both or append, with ,truncate after it to truncate. BITS
 are the rights of OWNER:GROUP:OTHERS, each none, or some of read, write and
-execute with commas between them, as read,write:read:none. DATA may be - for
-standard input. The bytes of a read go to standard output.
+execute with commas between them, as read,write:read:none. TARGET is the path
+to which a symbolic link leads. DATA may be - for standard input. The bytes of a
+read go to standard output, and so does the target that readlink gives.
 
-  --hex           prints the bytes of a read as hex digits
+  --hex           prints these bytes as hex digits
 ",
     },
     Page {
@@ -97,6 +99,7 @@ Prints the files, open files, processes and policy, a line each.
         summary: "prints the bytes of a file",
         text: "
 Prints the bytes of a file of the store, whatever its bits and label say.
+Symbolic links are followed, 8 at most.
 ",
     },
     Page {

@@ -44,14 +44,10 @@ fn files(tables: &Tables, detail: Detail) -> Json {
 
 fn file(tables: &Tables, slot: usize, paths: Json, detail: Detail) -> Json {
     let record = tables.file(slot);
-    let is_directory = tables.is_kind(slot, DIRECTORY);
     let mut fields = vec![
         ("slot", slot.into()),
         ("paths", paths),
-        (
-            "kind",
-            if is_directory { "directory" } else { "file" }.into(),
-        ),
+        ("kind", kind(record[FILE_KIND]).into()),
         ("owner", record[FILE_OWNER].into()),
         ("group", record[FILE_GROUP].into()),
         ("bits", bits_object(record[FILE_BITS])),
@@ -60,13 +56,21 @@ fn file(tables: &Tables, slot: usize, paths: Json, detail: Detail) -> Json {
         ("links", record[FILE_LINKS].into()),
         ("version", record[FILE_VERSION].into()),
     ];
-    if is_directory {
-        fields.push(("entries", entries(tables, slot)));
-    } else if detail == Detail::Whole {
-        let data = &tables.block(slot)[..record[FILE_LENGTH] as usize];
-        fields.push(("data", text::hex(data).into()));
+    match record[FILE_KIND] {
+        DIRECTORY => fields.push(("entries", entries(tables, slot))),
+        LINK => fields.push(("target", text::readable(tables.bytes(slot)).into())),
+        _ if detail == Detail::Whole => fields.push(("data", text::hex(tables.bytes(slot)).into())),
+        _ => {}
     }
     Json::Object(fields)
+}
+
+fn kind(kind: u32) -> &'static str {
+    match kind {
+        DIRECTORY => "directory",
+        LINK => "link",
+        _ => "file",
+    }
 }
 
 fn entries(tables: &Tables, directory: usize) -> Json {

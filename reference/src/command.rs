@@ -13,7 +13,8 @@ pub struct Request {
     pub process: u8,
     pub call: u8,
     pub descriptor: u8,
-    /// Mode, bits, index or position.
+    /// Mode, bits, index or position. Of a read: in a written form the size of
+    /// the buffer, which a direct call takes from the buffer itself.
     pub number: u16,
 }
 
@@ -72,6 +73,13 @@ pub enum Command<'a> {
     Execute {
         path: Path<'a>,
     },
+    MakeSymlink {
+        target: Target<'a>,
+        text: &'a [u8],
+    },
+    ReadSymlink {
+        path: Path<'a>,
+    },
 }
 
 impl<'a> Command<'a> {
@@ -79,7 +87,8 @@ impl<'a> Command<'a> {
     /// not use are not looked at.
     pub fn parse(request: Request, path: &'a [u8], data: &'a [u8]) -> Option<Command<'a>> {
         match request.call {
-            1..=9 | 17 => Command::parse_on_path(request, path, data),
+            2..=6 | 18 => Command::parse_on_name(request, path, data),
+            1 | 7..=9 | 17 | 19 => Command::parse_on_path(request, path),
             10..=14 => Command::parse_on_descriptor(request, data),
             15 => Some(Command::Fork),
             16 => Some(Command::Exit),
@@ -87,13 +96,10 @@ impl<'a> Command<'a> {
         }
     }
 
-    fn parse_on_path(request: Request, path: &'a [u8], data: &'a [u8]) -> Option<Command<'a>> {
+    /// The calls that give and take names.
+    fn parse_on_name(request: Request, path: &'a [u8], data: &'a [u8]) -> Option<Command<'a>> {
         let number = u32::from(request.number);
         Some(match request.call {
-            1 => Command::Open {
-                path: Path::parse(path)?,
-                opening: Opening::new(number)?,
-            },
             2 => Command::parse_make(Kind::PLAIN, path, number)?,
             3 => Command::parse_make(Kind::DIRECTORY, path, number)?,
             4 => Command::Unlink {
@@ -106,19 +112,9 @@ impl<'a> Command<'a> {
                 old: Path::parse(path)?,
                 new: Target::parse(data)?,
             },
-            7 => Command::List {
-                path: Path::parse(path)?,
-                index: usize::from(request.number),
-            },
-            8 => Command::ChangeBits {
-                path: Path::parse(path)?,
-                bits: Bits::new(number)?,
-            },
-            9 => Command::Stat {
-                path: Path::parse(path)?,
-            },
-            17 => Command::Execute {
-                path: Path::parse(path)?,
+            18 => Command::MakeSymlink {
+                target: Target::parse(path)?,
+                text: Path::parse(data).map(|_| data)?,
             },
             _ => return None,
         })
@@ -129,6 +125,29 @@ impl<'a> Command<'a> {
             kind,
             target: Target::parse(path)?,
             bits: Bits::new(bits)?,
+        })
+    }
+
+    fn parse_on_path(request: Request, path: &'a [u8]) -> Option<Command<'a>> {
+        let path = Path::parse(path)?;
+        let number = u32::from(request.number);
+        Some(match request.call {
+            1 => Command::Open {
+                path,
+                opening: Opening::new(number)?,
+            },
+            7 => Command::List {
+                path,
+                index: usize::from(request.number),
+            },
+            8 => Command::ChangeBits {
+                path,
+                bits: Bits::new(number)?,
+            },
+            9 => Command::Stat { path },
+            17 => Command::Execute { path },
+            19 => Command::ReadSymlink { path },
+            _ => return None,
         })
     }
 

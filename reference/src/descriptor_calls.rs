@@ -28,11 +28,9 @@ impl Store<'_> {
         if !open_file.mode.reads() {
             return Err(Refusal::WrongDirection.into());
         }
-        let length = self.file(open_file.slot).length as usize;
-        let bytes = &self.block(open_file.slot)[..length];
+        let bytes = self.bytes(open_file.slot);
         let ahead = bytes.get(open_file.offset as usize..).unwrap_or(&[]);
-        let count = ahead.len().min(buffer.len());
-        buffer[..count].copy_from_slice(&ahead[..count]);
+        let count = fill(buffer, ahead);
         open_file.offset += count as u32;
         self.set_open_file(number, open_file);
         Ok(Answer::value(count as u32))
@@ -95,4 +93,11 @@ impl Store<'_> {
         self.add_reference(number);
         Ok(Answer::value(copy.index() as u32))
     }
+}
+
+/// Puts into the buffer as many of the bytes as it holds; how many these are.
+pub fn fill(buffer: &mut [u8], bytes: &[u8]) -> usize {
+    let count = bytes.len().min(buffer.len());
+    buffer[..count].copy_from_slice(&bytes[..count]);
+    count
 }

@@ -2,8 +2,8 @@
 //! the rules alone so that the two can be compared.
 //!
 //! [`call`] answers one call, [`sound`] tells whether tables are sound,
-//! [`act`] answers a call without testing soundness first, and [`replay()`]
-//! runs a script of calls.
+//! [`act`] answers a call without testing soundness first, [`replay()`] runs a
+//! script of calls, and [`encode`] and [`decode`] are a call's written form.
 
 mod access;
 mod answer;
@@ -13,6 +13,7 @@ mod descriptor_calls;
 mod directory;
 mod name_calls;
 mod numbers;
+mod parts;
 mod path;
 mod path_calls;
 mod process_calls;
@@ -26,10 +27,12 @@ mod sound;
 mod tables;
 mod upkeep;
 mod walk;
+mod written;
 
 pub use answer::Answer;
 pub use command::Request;
 pub use replay::{replay, Reason, Replayed};
+pub use written::{decode, encode, Written};
 
 use refusal::Refusal;
 use tables::{Store, Tables};
@@ -37,7 +40,8 @@ use tables::{Store, Tables};
 /// Answers one call on the lent tables.
 ///
 /// Tables of another size and unsound ones are refused. A refusal changes
-/// nothing lent; only a granted read writes to the buffer.
+/// nothing lent; only a granted read, of a file or of a symbolic link's text,
+/// writes to the buffer.
 #[allow(clippy::too_many_arguments)] // the lent tables come one by one
 pub fn call(
     files: &mut [u32],

@@ -1,16 +1,17 @@
-//! The calls that give and take names: create, make directory, unlink,
-//! remove directory and link.
+//! The calls that give and take names: create, make directory, make symbolic
+//! link, unlink, remove directory and link.
 
 use crate::access::Caller;
 use crate::answer::Answer;
 use crate::bits::Bits;
 use crate::directory;
 use crate::numbers::Slot;
-use crate::path::{Path, Target};
+use crate::path::{Path, Target, NAMES};
 use crate::records::{File, Kind};
 use crate::refusal::{Refusal, Refused};
 use crate::rights::Rights;
 use crate::tables::Store;
+use crate::walk::Reached;
 
 impl Store<'_> {
     /// Calls 2 and 3: an empty plain file, or a directory.
@@ -21,7 +22,39 @@ impl Store<'_> {
         target: &Target,
         bits: Bits,
     ) -> Result<Answer, Refused> {
-        let parent = self.check_new_name(caller, target)?;
+        let slot = self.make_file(caller, kind, target, bits)?;
+        Ok(Answer::value(slot.0))
+    }
+
+    /// Call 18.
+    pub fn make_symlink(
+        &mut self,
+        caller: Caller,
+        target: &Target,
+        text: &[u8],
+    ) -> Result<Answer, Refused> {
+        let slot = self.make_file(caller, Kind::SYMLINK, target, Bits::NONE)?;
+        self.block_mut(slot)[..text.len()].copy_from_slice(text);
+        self.change_file(slot, |symlink| symlink.length = text.len() as u32);
+        Ok(Answer::value(slot.0))
+    }
+
+    /// A new file of the caller, with no bytes yet.
+    fn make_file(
+        &mut self,
+        caller: Caller,
+        kind: Kind,
+        target: &Target,
+        bits: Bits,
+    ) -> Result<Slot, Refused> {
+        let Reached {
+            slot: parent,
+            depth,
+        } = self.check_new_name(caller, target)?;
+        // Only the depth of directories is bound.
+        if kind == Kind::DIRECTORY && depth >= NAMES {
+            return Err(Refusal::TooDeep.into());
+        }
         let slot = self.lowest_free_slot().ok_or(Refusal::TableFull)?;
         let dirent = self.check_dirent(parent)?;
         let made = File {
@@ -34,13 +67,15 @@ impl Store<'_> {
         };
         self.set_file(slot, made);
         self.add_name(parent, dirent, target.name, slot);
-        Ok(Answer::value(slot.0))
+        Ok(slot)
     }
 
     /// Call 4.
     pub fn unlink(&mut self, caller: Caller, target: &Target) -> Result<Answer, Refused> {
         let found = self.walk_to_name(caller, target)?;
-        self.check_kind(found.slot, Kind::PLAIN)?;
+        if self.file(found.slot).kind == Kind::DIRECTORY {
+            return Err(Refusal::WrongKind.into());
+        }
         self.check_rights(caller, found.parent, Rights::WRITE)?;
         self.remove_name(&found);
         self.free_if_unreachable(found.slot);
@@ -62,21 +97,21 @@ impl Store<'_> {
 
     /// Call 6.
     pub fn link(&mut self, caller: Caller, old: &Path, new: &Target) -> Result<Answer, Refused> {
-        let slot = self.walk(caller, old)?;
+        let slot = self.walk_no_follow(caller, old)?;
         self.check_kind(slot, Kind::PLAIN)?;
-        let parent = self.check_new_name(caller, new)?;
+        let parent = self.check_new_name(caller, new)?.slot;
         let dirent = self.check_dirent(parent)?;
         self.add_name(parent, dirent, new.name, slot);
         Ok(Answer::done())
     }
 
     /// The parent in which a new name may be made.
-    fn check_new_name(&self, caller: Caller, target: &Target) -> Result<Slot, Refused> {
+    fn check_new_name(&self, caller: Caller, target: &Target) -> Result<Reached, Refused> {
         let parent = self.walk_to_parent(caller, target)?;
-        if directory::find(self.block(parent), target.name).is_some() {
+        if directory::find(self.block(parent.slot), target.name).is_some() {
             return Err(Refusal::NameThere.into());
         }
-        self.check_rights(caller, parent, Rights::WRITE)?;
+        self.check_rights(caller, parent.slot, Rights::WRITE)?;
         Ok(parent)
     }
 

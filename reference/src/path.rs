@@ -1,6 +1,7 @@
 //! Paths and the names in them.
 
-const PATH: usize = 64;
+pub const PATH: usize = 64;
+/// The most names in a path, and the most that a directory may lie deep.
 pub const NAMES: usize = 8;
 pub const NAME: usize = 14;
 
@@ -21,10 +22,8 @@ impl<'a> Path<'a> {
             names: [&[]; NAMES],
             count: 0,
         };
-        for name in bytes.split(|&byte| byte == b'/') {
-            if !name.is_empty() {
-                path.push(name)?;
-            }
+        for name in names(bytes) {
+            path.push(name)?;
         }
         let trailing_slash = path.count > 0 && bytes.ends_with(b"/");
         (!trailing_slash).then_some(path)
@@ -73,6 +72,12 @@ impl<'a> Target<'a> {
     pub fn last(&self) -> usize {
         self.parent.count + 1
     }
+}
+
+/// What stands between the slashes of a path; its names, if it is well formed.
+pub fn names(path: &[u8]) -> impl Iterator<Item = &[u8]> {
+    path.split(|&byte| byte == b'/')
+        .filter(|name| !name.is_empty())
 }
 
 /// Whether these bytes are a valid name.

@@ -1,8 +1,10 @@
-//! The other calls on a path: open, list, change bits, stat and execute.
+//! The other calls on a path: open, list, change bits, stat, execute and read
+//! symbolic link.
 
 use crate::access::Caller;
 use crate::answer::Answer;
 use crate::bits::Bits;
+use crate::descriptor_calls::fill;
 use crate::directory::{self, BLOCK};
 use crate::numbers::Slot;
 use crate::path::Path;
@@ -79,7 +81,7 @@ impl Store<'_> {
 
     /// Call 9.
     pub fn stat(&self, caller: Caller, path: &Path) -> Result<Answer, Refused> {
-        let slot = self.walk(caller, path)?;
+        let slot = self.walk_no_follow(caller, path)?;
         Ok(Answer::stat(self.file(slot).words()))
     }
 
@@ -93,5 +95,18 @@ impl Store<'_> {
             self.set_process_label(caller.process, label);
         }
         Ok(Answer::done())
+    }
+
+    /// Call 19: as much of the text as the buffer holds.
+    pub fn read_symlink(
+        &self,
+        caller: Caller,
+        path: &Path,
+        buffer: &mut [u8],
+    ) -> Result<Answer, Refused> {
+        let slot = self.walk_no_follow(caller, path)?;
+        self.check_kind(slot, Kind::SYMLINK)?;
+        let count = fill(buffer, self.bytes(slot));
+        Ok(Answer::value(count as u32))
     }
 }

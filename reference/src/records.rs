@@ -22,6 +22,8 @@ impl Kind {
     pub const FREE: Kind = Kind(0);
     pub const PLAIN: Kind = Kind(1);
     pub const DIRECTORY: Kind = Kind(2);
+    /// A symbolic link: its bytes are a path.
+    pub const SYMLINK: Kind = Kind(3);
 }
 
 #[derive(Clone, Copy, Debug, PartialEq, Eq)]

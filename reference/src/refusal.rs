@@ -16,6 +16,8 @@ pub enum Refusal {
     NotEmpty = 12,
     TableFull = 13,
     TooLong = 14,
+    /// A ninth symbolic link in one walk, or a directory over 8 names deep.
+    TooDeep = 15,
 }
 
 impl Refusal {

@@ -4,6 +4,7 @@
 use crate::answer::Answer;
 use crate::command::Request;
 use crate::directory::BLOCK;
+use crate::parts::{Parts, READ, READ_SYMLINK};
 use crate::records::FILE_WIDTH;
 
 /// The most bytes that a scripted read may ask for.
@@ -13,8 +14,6 @@ pub const LARGEST_READ: u16 = BLOCK as u16;
 pub const LONGEST_ANSWER: usize = "answer=00\nvalue=512\ndata=\n".len() + 2 * BLOCK;
 
 const UNKNOWN: u8 = 0;
-const CALL_READ: u16 = 11;
-const LAST_CALL: u16 = 17;
 
 /// A call as its block gives it. The numbers may be higher than those of any
 /// process, call or descriptor.
@@ -45,25 +44,19 @@ impl<'a> Scripted<'a> {
             .then_some((scripted, lines.0))
     }
 
-    /// Whether each part that the call does not use is 0 or empty. An unknown
-    /// call leaves no part unused.
+    /// Whether each part that the call does not use is 0 or empty.
     fn leaves_unused_empty(&self) -> bool {
-        let known = (1..=LAST_CALL).contains(&self.call);
-        let uses_descriptor = matches!(self.call, 10..=14);
-        let uses_number = matches!(self.call, 1..=3 | 7 | 8 | CALL_READ | 13);
-        let uses_path = matches!(self.call, 1..=9 | 17);
-        let uses_data = matches!(self.call, 6 | 12);
-        !known
-            || (uses_descriptor || self.descriptor == 0)
-                && (uses_number || self.number == 0)
-                && (uses_path || self.path.is_empty())
-                && (uses_data || self.data.is_empty())
+        let used = Parts::of(self.call);
+        (used.descriptor || self.descriptor == 0)
+            && (used.number || self.number == 0)
+            && (used.path || self.path.is_empty())
+            && (used.data || self.data.is_empty())
     }
 
     /// The numbers of the call. A read of too much is malformed as an unknown
     /// call is, and refused at the same point, so it is asked as one.
     pub fn request(&self) -> Request {
-        let too_much = self.call == CALL_READ && self.number > LARGEST_READ;
+        let too_much = self.reads() && self.number > LARGEST_READ;
         Request {
             process: byte(self.process),
             call: if too_much { UNKNOWN } else { byte(self.call) },
@@ -72,11 +65,17 @@ impl<'a> Scripted<'a> {
         }
     }
 
+    /// Whether the call's answer is in a buffer lent to it.
+    fn reads(&self) -> bool {
+        matches!(self.call, READ | READ_SYMLINK)
+    }
+
     /// The size of the buffer to lend.
     pub fn read_size(&self) -> usize {
-        match self.call {
-            CALL_READ => usize::from(self.number.min(LARGEST_READ)),
-            _ => 0,
+        if self.reads() {
+            usize::from(self.number.min(LARGEST_READ))
+        } else {
+            0
         }
     }
 
@@ -84,7 +83,7 @@ impl<'a> Scripted<'a> {
     pub fn answer_lines(&self, answer: &Answer, buffer: &[u8]) -> String {
         let data = match answer.fields {
             Some(fields) => to_hex(&stat_bytes(fields)),
-            None if self.call == CALL_READ => to_hex(&buffer[..answer.value as usize]),
+            None if self.reads() => to_hex(&buffer[..answer.value as usize]),
             None => to_hex(&answer.name),
         };
         let (refusal, value) = (answer.refusal, answer.value);

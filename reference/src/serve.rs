@@ -58,6 +58,8 @@ impl Store<'_> {
             Fork => self.fork(caller),
             Exit => self.exit(caller),
             Execute { path } => self.execute(caller, &path),
+            MakeSymlink { target, text } => self.make_symlink(caller, &target, text),
+            ReadSymlink { path } => self.read_symlink(caller, &path, buffer),
         }
     }
 }

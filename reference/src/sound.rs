@@ -2,10 +2,11 @@
 //!
 //! Nothing here trusts a number before it is known to be in range.
 
+use crate::bits::Bits;
 use crate::command::LAST_OFFSET;
 use crate::directory::{self, Block, Dirent, BLOCK};
 use crate::numbers::{OpenFileNumber, Slot, OPEN_FILES, SLOTS};
-use crate::path::{is_name, NAMES};
+use crate::path::{is_name, Path, NAMES};
 use crate::records::{File, Kind, OpenFile, Process};
 use crate::rights::Rights;
 use crate::tables::{Policy, Tables, LABELS, NO_TRANSITION, RIGHTS_SIZE};
@@ -89,6 +90,7 @@ fn file_is_sound(file: &File, block: &Block) -> bool {
         Kind::FREE => *file == File::free(file.version) && is_zero(block),
         Kind::PLAIN => fields_are_in_range(file) && bytes_fit(file, block),
         Kind::DIRECTORY => fields_are_in_range(file) && dirents_are_sound(file, block),
+        Kind::SYMLINK => symlink_is_sound(file, block),
         _ => false,
     }
 }
@@ -103,6 +105,13 @@ fn fields_are_in_range(file: &File) -> bool {
 fn bytes_fit(file: &File, block: &Block) -> bool {
     let length = file.length as usize;
     length <= BLOCK && is_zero(&block[length..])
+}
+
+fn symlink_is_sound(file: &File, block: &Block) -> bool {
+    fields_are_in_range(file)
+        && file.bits == Bits::NONE
+        && bytes_fit(file, block)
+        && Path::parse(&block[..file.length as usize]).is_some()
 }
 
 fn dirents_are_sound(file: &File, block: &Block) -> bool {
@@ -176,6 +185,7 @@ impl Naming {
                         Kind::DIRECTORY => {
                             slot == Slot::ROOT || file.links == 1 && self.is_reached(slot)
                         }
+                        Kind::SYMLINK => file.links == 1,
                         _ => true,
                     }
             })

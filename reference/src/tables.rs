@@ -103,6 +103,11 @@ impl<'a> Store<'a> {
         &mut self.contents[slot.index()]
     }
 
+    /// The bytes of a plain file, or the text of a symbolic link.
+    pub fn bytes(&self, slot: Slot) -> &[u8] {
+        &self.block(slot)[..self.file(slot).length as usize]
+    }
+
     pub fn open_file(&self, number: OpenFileNumber) -> OpenFile {
         OpenFile::from_words(self.open_files[number.index()])
     }

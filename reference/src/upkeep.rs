@@ -63,7 +63,7 @@ impl Store<'_> {
         }
     }
 
-    /// Frees a plain file that has neither links nor open files.
+    /// Frees a file, no directory, that has neither links nor open files.
     pub fn free_if_unreachable(&mut self, slot: Slot) {
         if self.file(slot).links == 0 && !self.is_open(slot) {
             self.free(slot);

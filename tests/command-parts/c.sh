@@ -36,6 +36,15 @@ int main(int count, char **words) {
   say(mritvelja_change_bits(&s, 1, "/fares/later", 0554));
   say(mritvelja_stat(&s, 1, "/fares/later"));
   say(mritvelja_execute(&s, 1, "/fares/later"));
+  say(mritvelja_symlink(&s, 0, "/today", "/fares/later"));
+  say(mritvelja_readlink(&s, 2, "/today", buffer, sizeof buffer));
+  fwrite(buffer, 1, 12, stdout);
+  fputc('\n', stdout);
+  say(mritvelja_readlink(&s, 2, "/today", buffer, 0));
+  say(mritvelja_open(&s, 2, "/today", MRITVELJA_MODE_READ));
+  say(mritvelja_symlink(&s, 0, "/again", "/again"));
+  say(mritvelja_open(&s, 2, "/again", MRITVELJA_MODE_READ));
+  say(mritvelja_symlink(&s, 0, "/bad", "no path"));
   say(mritvelja_open(&s, 2, "/fares/none", MRITVELJA_MODE_READ));
   say(mritvelja_read(&s, 2, 7, buffer, 0));
   if (!mritvelja_save(&s, words[2])) {
@@ -67,7 +76,7 @@ int main(void) {
   int is_same = memcmp(&s, &before, sizeof s) == 0;
   int right = mritvelja_set_process(&s, 7, 65535, 65535, 15) + mritvelja_set_rights(&s, 15, 15, 7) + mritvelja_set_transition(&s, 15, 15, 15) +
               mritvelja_set_transition(&s, 15, 14, MRITVELJA_NO_TRANSITION);
-  printf("%d %d %d %u %s\n", wrong, is_same, right, (unsigned)mritvelja_is_sound(&s), mritvelja_refusal_text(15));
+  printf("%d %d %d %u %s\n", wrong, is_same, right, (unsigned)mritvelja_is_sound(&s), mritvelja_refusal_text(16));
   return 0;
 }
 C
@@ -95,10 +104,13 @@ done <<'CALLS'
 1 make-directory /fares/old read,write,execute:read:read
 1 remove-directory /fares/old
 1 change-bits /fares/later read,execute:read,execute:read
+0 symlink /today /fares/later
+2 open /today read
+0 symlink /again /again
 CALLS
 "$mritvelja" describe c-expected | sed 's/12345/2.60\\x0a/' >c-expected.description
 printf '%s\n' '0 0 0' '0 0 5' 2.40 '0 0 2' '0 0 1' '0 0 3' '0 0 0' '0 0 0' '0 0 4' '0 0 0' '0 0 5' '0 0 0' '0 0 0' '0 0 5' '0 0 0' '0 0 1' '0 0 0' '0 0 0' \
-    '0 0 0' '6 2 0' '4 0 0' >c-answers
+    '0 0 0' '0 0 5' '0 0 12' /fares/later '0 0 0' '0 0 2' '0 0 6' '15 1 0' '3 0 0' '6 2 0' '4 0 0' >c-answers
 for program in "${programs[@]}"; do
     cp console c-store
     chmod 640 c-store

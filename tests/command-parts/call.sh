@@ -60,7 +60,8 @@ refused 'refused: 9, bits or ownership forbid' 0 execute /fares/later
 gives "the store after the calls" 0 'sound' "$mritvelja" check bus
 
 for arguments in 'call' 'call bus' 'call bus 2' 'call bus x fork' 'call bus 256 fork' 'call bus 2 jump' 'call bus 2 fork more' 'call bus 2 open /x' \
-    'call bus 2 open /x 1' 'call bus 2 create /x 4' 'call bus 2 create /x read' 'call bus 2 create /x read:read:read:read' 'call bus 2 change-bits /x ::' 'call bus 2 read x' 'call bus 2 read 0 65536' 'call bus 2 seek 0 -1' 'call - 2 fork'; do
+    'call bus 2 open /x 1' 'call bus 2 create /x 4' 'call bus 2 create /x read' 'call bus 2 create /x read:read:read:read' 'call bus 2 change-bits /x ::' 'call bus 2 read x' 'call bus 2 read 0 65536' 'call bus 2 symlink' 'call bus 2 symlink /x' 'call bus 2 symlink /x /y /z' 'call bus 2 readlink' 'call bus 2 readlink /x 65536' \
+    'call bus 2 readlink /x 1 2' 'call bus 2 seek 0 -1' 'call - 2 fork'; do
     # shellcheck disable=SC2086 # the words are arguments
     gives "arguments '$arguments'" 2 'usage: mritvelja' "$mritvelja" $arguments
 done
@@ -73,7 +74,7 @@ gives "call whose answer cannot be printed" 1 'standard output: cannot be writte
 # Answers of a script in words.
 fresh bus
 gives "replay --explain" 0 '# 34: process 2, stat /fares/tomorrow: refused: 6, name missing' "$mritvelja" replay bus day --explain
-holds "replay --explain: a line for each call" test "$(grep -c '^# [0-9]*: process ' out)" -eq 40
+holds "replay --explain: a line for each call" test "$(grep -c '^# [0-9]*: process ' out)" -eq 50
 holds "replay --explain: the exact form beside it" cmp whole.answers <(grep -v '^#' out)
 holds "replay --explain: the store" cmp bus whole
 holds "refusals are counted by name" grep -qx 'mritvelja: 2 calls refused with 10, label forbids' err

@@ -29,7 +29,10 @@ for store in day mixed; do
     gives "convert $store of 64 slots" 0 '' "$mritvelja" convert "$store-1-of-64" "$store-converted-of-64"
     holds "$store of 64 slots gives the same" cmp "$store-converted" "$store-converted-of-64"
 done
-holds "a day of version 1 is the day's store" cmp day-converted whole
+# Version 1 had no links: the day without them, which are calls 37 to 45 and 50.
+fresh linkless
+sed -n '1,216p; 271,294p' day | "$mritvelja" replay linkless - >/dev/null 2>&1
+holds "a day of version 1 is the day's store" cmp day-converted linkless
 gives "the store of many owners" 0 '' "$mritvelja" describe mixed-converted
 holds "the store of many owners: what it is converted to" cmp out "$root/tests/command-parts/version-1/mixed.expected"
 
@@ -73,6 +76,7 @@ spoilt version-1 8 '\100' "128 slots as if they were 64" 'a store file of the wr
 spoilt version-1 $((12 + 2 * 28 + 20)) '\002' "a store that is not sound" \
     'not sound: "names equal to the places counted" does not hold: slot 2: links is 2'
 spoilt version-1 $((12 + 2 * 28 + 8)) '\010' "bits that were out of range" 'not sound: "all fields in range" does not hold: slot 2: bits is 8, not 0 to 7'
+spoilt version-1 $((12 + 2 * 28)) '\003' "a kind that there was not" 'not sound: "all fields in range" does not hold: slot 2: kind is 3, not 0 to 2'
 spoilt version-1 $((12 + 4 * 28 + 8)) '\007' "a free record with bits" 'not sound: "the zero bytes" does not hold: slot 4: a free record'
 # A place that named no slot of 64 names a free one of 128.
 spoilt version-1-of-64 $((1804 + 512 + 16)) 'x\000\000\000\000\000\000\000\000\000\000\000\000\000\100' "a name of slot 64" \

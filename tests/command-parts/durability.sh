@@ -7,7 +7,7 @@ gives "a name whose sync fails" 1 'mritvelja: bus: is saved, but may be lost wit
     failing 'fsync 2 5' "$mritvelja" replay bus day
 holds "calls that were saved are answered" cmp out whole.answers
 holds "the store that they made is there" cmp bus whole
-holds "how far it came is told all the same" grep -q '^mritvelja: 40 calls answered, the store is saved' err
+holds "how far it came is told all the same" grep -q '^mritvelja: 50 calls answered, the store is saved' err
 gives "a new store whose name's sync fails" 1 'mritvelja: unsynced: is made, but may be lost with the power: Input/output error' \
     failing 'fsync 2 5' "$mritvelja" new unsynced
 holds "it is there, whole" cmp unsynced console

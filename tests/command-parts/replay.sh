@@ -51,7 +51,7 @@ in_pieces() {
     done
     cmp answers whole.answers && cmp pieces whole
 }
-for calls in 1 2 3 7 39 40 41 99999999999; do
+for calls in 1 2 3 7 49 50 51 99999999999; do
     holds "the day $calls calls at a time" in_pieces "$calls"
 done
 
@@ -64,16 +64,16 @@ gives "one call" 0 '1 call answered' "$mritvelja" replay bus day --calls 1
 { cat day && printf 'proc=1\ncall=16\nfd=0\narg=0\npath=/\ndata=\n'; } >broken
 fresh bus
 size=$(stat -c %s day)
-refuses "a broken block" "broken: block 41 is broken, which begins at byte $size, line 241; line 245: call 16 does not use path=" \
+refuses "a broken block" "broken: block 51 is broken, which begins at byte $size, line 301; line 305: call 16 does not use path=" \
     "$mritvelja" replay bus broken
 holds "a broken block changes nothing" cmp bus console
 found=0
 "$mritvelja" replay bus - <broken >out 2>err || found=$?
-holds "a broken block on standard input" grep -q '^mritvelja: standard input: block 41 is broken' err
+holds "a broken block on standard input" grep -q '^mritvelja: standard input: block 51 is broken' err
 holds "a broken block on standard input: status 1" test "$found" -eq 1
 holds "a broken block on standard input changes nothing" cmp bus console
-gives "a broken block past the allowance" 0 "40 calls answered, the store is saved; the allowance is spent, the next block begins at byte $size" \
-    "$mritvelja" replay bus broken --calls 40
+gives "a broken block past the allowance" 0 "50 calls answered, the store is saved; the allowance is spent, the next block begins at byte $size" \
+    "$mritvelja" replay bus broken --calls 50
 holds "what came before it is saved" cmp bus whole
 
 fresh bus

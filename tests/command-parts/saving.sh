@@ -64,7 +64,7 @@ holds "nothing is left of it" test ! -e fresh
 fresh bus
 gives "a full disk under the answers" 1 'mritvelja: standard output: cannot be written' \
     bash -c 'exec "$0" replay bus day >/dev/full' "$mritvelja"
-holds "the calls answered are told all the same" grep -q '40 calls answered, the store is saved' err
+holds "the calls answered are told all the same" grep -q '50 calls answered, the store is saved' err
 holds "the store is saved before the answers are printed" cmp bus whole
 for command in 'replay bus stat' 'show bus' 'check bus' '--help' '--version'; do
     gives "$command into a closed pipe" 1 'mritvelja: standard output: cannot be written: Broken pipe' \

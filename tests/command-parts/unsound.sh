@@ -62,3 +62,44 @@ put damaged $((processes + 3 * 48 + 8)) '\001'
 unsound 'the zero bytes' 'process 3: not in use, and not all 0'
 put damaged $((open_files - 1)) '\001'
 unsound 'the zero bytes' 'slot 127: a free slot whose byte 511 is not 0'
+
+# A link: /today, which leads to /fares/now, in slot 4 and entry 2 of the root.
+link='a link named once, bits 0, a valid path as text, of the record'"'"'s length, then 0'
+linked() {
+    fresh damaged
+    "$mritvelja" call damaged 0 symlink /today /fares/now >/dev/null
+}
+linked
+gives "a store with a link" 0 'sound' "$mritvelja" check damaged
+put damaged $((files + 4 * 32)) '\004'
+unsound 'all fields in range' 'slot 4: kind is 4, not 0 to 3'
+linked
+put damaged $((contents + 48)) 'too\000\000\000\000\000\000\000\000\000\000\000\004'
+put damaged $((files + 20)) '\004'
+put damaged $((files + 4 * 32 + 24)) '\002'
+unsound "$link" 'slot 4: a link; the directory entries that name it are 2'
+linked
+put damaged $((files + 4 * 32 + 12)) '\001'
+unsound "$link" 'slot 4: a link whose bits are 1, not 0'
+linked
+put damaged $((contents + 4 * 512)) 'x'
+unsound "$link" 'slot 4: a link whose text "xfares/now" is not a valid path: it does not begin with a slash'
+linked
+put damaged $((contents + 4 * 512 + 9)) '/'
+unsound "$link" 'slot 4: a link whose text "/fares/no/" is not a valid path: it has a slash after its last name'
+linked
+put damaged $((files + 4 * 32 + 20)) '\000'
+unsound "$link" 'slot 4: a link of length 0, not 1 to 64'
+linked
+put damaged $((files + 4 * 32 + 20)) '\101'
+unsound "$link" 'slot 4: a link of length 65, not 1 to 64'
+linked
+put damaged $((files + 4 * 32 + 20)) '\013'
+unsound "$link" 'slot 4: a link whose text "/fares/now\x00" is not a valid path: "now\x00" is no name'
+linked
+put damaged $((contents + 4 * 512 + 10)) 'x'
+unsound "$link" 'slot 4: a link of length 10 whose byte 10 is not 0'
+linked
+put damaged $open_files '\004\000\000\000\001\000\000\000\000\000\000\000\001'
+put damaged $((processes + 2 * 48 + 16)) '\001'
+unsound 'open entries only on plain files' 'open file 0: slot 4 is no plain file'

@@ -1,5 +1,5 @@
-//! Lines of files: directories and plain files by their paths, further names, files
-//! without a name, and what is left of files that are gone.
+//! Lines of files: directories, plain files and symbolic links by their paths, further
+//! names, files without a name, and what is left of files that are gone.
 
 use super::building::Building;
 use super::line::Line;
@@ -39,6 +39,20 @@ pub fn link(building: &mut Building, line: &mut Line) -> Result<(), String> {
     add_name(&mut building.tables, line, slot)
 }
 
+/// `symlink PATH to PATH owner N group N label N version N slot N entry N`: a symbolic link, whose
+/// target need not be there. Its bits are 0.
+pub fn symlink(building: &mut Building, line: &mut Line) -> Result<(), String> {
+    let target = line.require("to")?;
+    if let Some(why) = path::malformed(&target) {
+        let target = text::readable(&target);
+        return Err(format!("to is {target}, not a path: {why}"));
+    }
+    let record = record_without_bits(line, LINK)?;
+    let slot = add_named(building, line, record)?;
+    set_bytes(building, slot, &target);
+    Ok(())
+}
+
 /// `unnamed SLOT owner N group N bits BITS label N version N data BYTES`: a plain file
 /// that is open and has no name any more.
 pub fn unnamed(building: &mut Building, line: &mut Line) -> Result<(), String> {
@@ -65,11 +79,18 @@ pub fn plain_file(tables: &Tables, path: &[u8]) -> Result<usize, String> {
 
 /// A file's record, its length and links still 0.
 fn record(line: &mut Line, kind: u32) -> Result<[u32; FILE_WIDTH], String> {
+    let bits = line.take_bits("bits")?;
+    let mut record = record_without_bits(line, kind)?;
+    record[FILE_BITS] = bits;
+    Ok(record)
+}
+
+/// The same with bits 0, and no field for them.
+fn record_without_bits(line: &mut Line, kind: u32) -> Result<[u32; FILE_WIDTH], String> {
     let mut record = [0; FILE_WIDTH];
     record[FILE_KIND] = kind;
     record[FILE_OWNER] = line.take_number("owner", LAST_USER)?.unwrap_or(0);
     record[FILE_GROUP] = line.take_number("group", LAST_GROUP)?.unwrap_or(0);
-    record[FILE_BITS] = line.take_bits("bits")?;
     record[FILE_LABEL] = line.take_number("label", LAST_LABEL)?.unwrap_or(0);
     record[FILE_VERSION] = line.take_number("version", u32::MAX)?.unwrap_or(0);
     Ok(record)
@@ -93,9 +114,13 @@ fn set_data(building: &mut Building, line: &mut Line, slot: usize) -> Result<(),
     if data.len() > BLOCK {
         return Err(format!("data has {} bytes, more than {BLOCK}", data.len()));
     }
-    building.tables.block_mut(slot)[..data.len()].copy_from_slice(&data);
-    building.tables.file_mut(slot)[FILE_LENGTH] = data.len() as u32;
+    set_bytes(building, slot, &data);
     Ok(())
+}
+
+fn set_bytes(building: &mut Building, slot: usize, bytes: &[u8]) {
+    building.tables.block_mut(slot)[..bytes.len()].copy_from_slice(bytes);
+    building.tables.file_mut(slot)[FILE_LENGTH] = bytes.len() as u32;
 }
 
 /// Gives a slot the line's path as a name, at the entry that the line names or the lowest free one.
@@ -133,9 +158,8 @@ fn split<'a>(tables: &Tables, path: &'a [u8]) -> Result<(usize, &'a [u8]), Strin
     let slash = path.iter().rposition(|&byte| byte == b'/');
     let (parent, name) = path.split_at(slash.ok_or("a path begins with a slash")?);
     let name = &name[1..];
-    if !is_name(name) {
-        let name = text::readable(name);
-        return Err(format!("\"{name}\" is no name: it has 1 to {NAME} bytes, none of them 0, and is neither . nor .."));
+    if !path::is_name(name) {
+        return Err(path::not_a_name(name));
     }
     let directory = match parent {
         [] => Some(ROOT),
@@ -148,10 +172,6 @@ fn split<'a>(tables: &Tables, path: &'a [u8]) -> Result<(usize, &'a [u8]), Strin
             text::readable(parent)
         )),
     }
-}
-
-fn is_name(name: &[u8]) -> bool {
-    (1..=NAME).contains(&name.len()) && !name.contains(&0) && name != b"." && name != b".."
 }
 
 /// The slot that a path names, a slash before each name.

@@ -12,13 +12,14 @@ type Add = fn(&mut Building, &mut Line) -> Result<(), String>;
 const LONGEST_LINE: usize = 65_536;
 
 /// What a line may begin with.
-const KINDS: [(&str, Add); 10] = [
+const KINDS: [(&str, Add); 11] = [
     ("process", processes::process),
     ("rights", policy::rights),
     ("transition", policy::transition),
     ("directory", files::directory),
     ("file", files::file),
     ("link", files::link),
+    ("symlink", files::symlink),
     ("unnamed", files::unnamed),
     ("free", files::free),
     ("open", processes::open),

@@ -64,7 +64,7 @@ fn store(chance: &mut Chance, number_of_calls: u64) -> Tables {
 }
 
 fn step(tables: &mut Tables, chance: &mut Chance) {
-    const CALLS: [u8; 14] = [
+    const CALLS: [u8; 16] = [
         calls::CREATE,
         calls::CREATE,
         calls::MAKE_DIRECTORY,
@@ -73,6 +73,8 @@ fn step(tables: &mut Tables, chance: &mut Chance) {
         calls::OPEN,
         calls::WRITE,
         calls::LINK,
+        calls::SYMLINK,
+        calls::SYMLINK,
         calls::UNLINK,
         calls::REMOVE_DIRECTORY,
         calls::CLOSE,
@@ -81,7 +83,7 @@ fn step(tables: &mut Tables, chance: &mut Chance) {
         calls::READ,
     ];
     let (path, mut data) = (path(chance), path(chance));
-    let call_number = CALLS[chance.below(14) as usize];
+    let call_number = CALLS[chance.below(16) as usize];
     if call_number == calls::WRITE && chance.is_one_in(4) {
         data = (0..=255).collect();
     }
@@ -124,6 +126,7 @@ fn every_sound_store_is_made_again_from_its_description() {
         "\ndirectory ",
         "\nfile ",
         "\nlink ",
+        "\nsymlink ",
         "\nunnamed ",
         "\nfree ",
         "\nopen ",
@@ -152,6 +155,11 @@ fn stores_that_no_call_makes_are_made_again_too() {
     }
     *deep.file_mut(9) = [PLAIN, 65_535, 65_535, 0o777, 15, 512, 1, u32::MAX];
     deep.block_mut(9).fill(0xab);
+    // And a link there, whose text is as long as can be.
+    *deep.file_mut(10) = [LINK, 65_535, 0, 0, 15, 64, 1, 1];
+    deep.block_mut(10)[..64].fill(b'/');
+    deep.set_dirent(8, 3, b"\"", 10);
+    deep.file_mut(8)[FILE_LENGTH] = 2;
     deep.file_mut(100)[FILE_VERSION] = 7;
     assert_same_again(&deep);
 }
@@ -280,6 +288,44 @@ const WRONG: &[(&str, &str)] = &[
     (
         "directory /a\nlink /b to /a",
         "line 3: /a is no file of a line before",
+    ),
+    ("symlink /a", "line 2: to is missing"),
+    (
+        "symlink /a to b",
+        "line 2: to is b, not a path: it does not begin with a slash",
+    ),
+    (
+        "symlink /a to \"\"",
+        "line 2: to is , not a path: it has no bytes",
+    ),
+    (
+        "symlink /a to /b/",
+        "line 2: to is /b/, not a path: it has a slash after its last name",
+    ),
+    (
+        "symlink /a to /\\x1b\\x00",
+        "line 2: to is /\\x1b\\x00, not a path: \"\\x1b\\x00\" is no name",
+    ),
+    (
+        "symlink /a to /b bits none:none:none",
+        "line 2: bits is no field of a line symlink",
+    ),
+    (
+        "symlink /a to /b data x",
+        "line 2: data is no field of a line symlink",
+    ),
+    ("symlink / to /b", "line 2: \"\" is no name"),
+    (
+        "symlink /a to /\nfile /a/b",
+        "line 3: /a is no directory of a line before",
+    ),
+    (
+        "symlink /a to /b\nlink /c to /a",
+        "line 3: /a is no file of a line before",
+    ),
+    (
+        "file /b\nsymlink /a to /b\nopen 0 path /a mode read",
+        "line 4: /a is no file of a line before",
     ),
     ("unnamed 5", "line 2: no open file has this file"),
     ("free 5", "line 2: version is missing"),

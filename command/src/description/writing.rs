@@ -106,9 +106,13 @@ impl Files<'_> {
                     Some(free) if free == slot => String::new(),
                     _ => format!(" slot {slot}"),
                 };
-                match self.tables.is_kind(slot, DIRECTORY) {
-                    true => format!("directory {shown} {record}{wanted}{place}"),
-                    false => format!("file {shown} {record}{wanted}{place}{}", self.data(slot)),
+                match self.tables.file(slot)[FILE_KIND] {
+                    DIRECTORY => format!("directory {shown} {record}{wanted}{place}"),
+                    LINK => {
+                        let target = words::path(self.tables.bytes(slot));
+                        format!("symlink {shown} to {target} {record}{wanted}{place}")
+                    }
+                    _ => format!("file {shown} {record}{wanted}{place}{}", self.data(slot)),
                 }
             }
         };
@@ -119,17 +123,19 @@ impl Files<'_> {
     fn record(&self, slot: usize) -> String {
         let record = self.tables.file(slot);
         let [owner, group, label] = [FILE_OWNER, FILE_GROUP, FILE_LABEL].map(|at| record[at]);
-        let bits = bits::word(record[FILE_BITS]);
+        let bits = match record[FILE_KIND] {
+            LINK => String::new(),
+            _ => format!(" bits {}", bits::word(record[FILE_BITS])),
+        };
         let version = match record[FILE_VERSION] {
             0 => String::new(),
             version => format!(" version {version}"),
         };
-        format!("owner {owner} group {group} bits {bits} label {label}{version}")
+        format!("owner {owner} group {group}{bits} label {label}{version}")
     }
 
     fn data(&self, slot: usize) -> String {
-        let length = self.tables.file(slot)[FILE_LENGTH] as usize;
-        format!(" data {}", text::quote(&self.tables.block(slot)[..length]))
+        format!(" data {}", text::quote(self.tables.bytes(slot)))
     }
 }
 

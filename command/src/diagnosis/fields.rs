@@ -30,7 +30,7 @@ fn outside(owner: String, field: &str, value: u32, first: u32, last: u32) -> Opt
 fn file(tables: &Tables, slot: usize) -> Option<String> {
     let record = tables.file(slot);
     let ranges = [
-        (FILE_KIND, "kind", DIRECTORY),
+        (FILE_KIND, "kind", LINK),
         (FILE_OWNER, "owner", LAST_USER),
         (FILE_GROUP, "group", LAST_GROUP),
         (FILE_BITS, "bits", LAST_BITS),

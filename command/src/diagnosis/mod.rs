@@ -5,11 +5,14 @@
 
 mod fields;
 mod files;
+mod links;
 mod names;
 mod open_files;
 mod tree;
 mod zeros;
 
+#[cfg(test)]
+mod agreement;
 #[cfg(test)]
 mod tests;
 
@@ -19,8 +22,8 @@ use std::fmt;
 /// A test of one clause: where it fails and how, nothing if it holds.
 type Clause = fn(&Tables) -> Option<String>;
 
-/// The clauses of "Sound", in the paper's words and order.
-const CLAUSES: [(&str, Clause); 12] = [
+/// The clauses of "Sound", in the papers' words and order.
+const CLAUSES: [(&str, Clause); 13] = [
     ("all fields in range", fields::out_of_range),
     ("root a directory with no name", tree::root),
     (
@@ -54,6 +57,10 @@ const CLAUSES: [(&str, Clause); 12] = [
         open_files::references_not_as_counted,
     ),
     ("the zero bytes", zeros::not_zero),
+    (
+        "a link named once, bits 0, a valid path as text, of the record's length, then 0",
+        links::not_a_link,
+    ),
 ];
 
 /// A clause that fails, and where.

@@ -1,4 +1,4 @@
-//! A defect for each clause, and the diagnosis beside the proved test on spoilt stores.
+//! A defect for each clause.
 
 use super::*;
 use mritvelja::layout::*;
@@ -7,15 +7,31 @@ use mritvelja::test_console;
 type Spoil = fn(&mut Tables);
 
 /// The test console with /fares/now open: entry 0, held by descriptor 0 of process 2.
-fn console_with_open_file() -> Tables {
+pub fn console_with_open_file() -> Tables {
     let mut tables = test_console();
     *tables.open_file_mut(0) = [2, 1, 0, 1];
     tables.process_mut(2)[PROCESS_DESCRIPTOR] = 1;
     tables
 }
 
+/// The test console with /today, a link to /fares/now in slot 4, at an entry that leaves room for [`dig`].
+pub fn console_with_link() -> Tables {
+    let mut tables = console_with_open_file();
+    *tables.file_mut(4) = [LINK, 0, 1, 0, 0, 0, 1, 0];
+    set_text(&mut tables, b"/fares/now");
+    tables.set_dirent(ROOT, 3, b"today", 4);
+    tables.file_mut(ROOT)[FILE_LENGTH] = 3;
+    tables
+}
+
+fn set_text(tables: &mut Tables, text: &[u8]) {
+    tables.block_mut(4).fill(0);
+    tables.block_mut(4)[..text.len()].copy_from_slice(text);
+    tables.file_mut(4)[FILE_LENGTH] = text.len() as u32;
+}
+
 /// Directories one below the other, each named `d`: slot 10 in /, 11 in it and so on.
-fn dig(tables: &mut Tables, depth: usize) {
+pub fn dig(tables: &mut Tables, depth: usize) {
     for level in 0..depth {
         let (slot, parent) = (10 + level, if level == 0 { ROOT } else { 9 + level });
         *tables.file_mut(slot) = [DIRECTORY, 0, 0, 0o755, 0, 0, 1, 0];
@@ -27,19 +43,28 @@ fn dig(tables: &mut Tables, depth: usize) {
 
 #[test]
 fn sound_stores_have_no_defect() {
-    for tables in [test_console(), console_with_open_file(), {
-        let mut tables = test_console();
-        dig(&mut tables, 8);
-        tables
-    }] {
+    let mut deep = test_console();
+    dig(&mut deep, 8);
+    let mut root = console_with_link();
+    set_text(&mut root, b"//");
+    let consoles = [
+        test_console(),
+        console_with_open_file(),
+        console_with_link(),
+    ];
+    for tables in consoles.into_iter().chain([deep, root]) {
         assert!(mritvelja::sound(&tables));
         assert_eq!(first_defect(&tables), None);
     }
 }
 
 fn assert_defects(defects: &[(usize, &str, Spoil)]) {
+    assert_defects_of(console_with_open_file, defects);
+}
+
+fn assert_defects_of(console: fn() -> Tables, defects: &[(usize, &str, Spoil)]) {
     for &(clause, place, spoil) in defects {
-        let mut tables = console_with_open_file();
+        let mut tables = console();
         spoil(&mut tables);
         let defect = first_defect(&tables).expect(place);
         assert_eq!(defect.clause, CLAUSES[clause - 1].0, "{defect}");
@@ -51,8 +76,8 @@ fn assert_defects(defects: &[(usize, &str, Spoil)]) {
 #[test]
 fn fields_of_files_out_of_range() {
     assert_defects(&[
-        (1, "slot 9: kind is 3, not 0 to 2", |t| {
-            t.file_mut(9)[FILE_KIND] = 3
+        (1, "slot 9: kind is 4, not 0 to 3", |t| {
+            t.file_mut(9)[FILE_KIND] = 4
         }),
         (1, "slot 1: owner is 65536", |t| {
             t.file_mut(1)[FILE_OWNER] = 65_536
@@ -240,56 +265,81 @@ fn the_zero_bytes() {
     ]);
 }
 
-/// Numbers that look like chance, the same in every run.
-struct Chance(u64);
-
-impl Chance {
-    fn below(&mut self, bound: usize) -> usize {
-        self.0 ^= self.0 << 13;
-        self.0 ^= self.0 >> 7;
-        self.0 ^= self.0 << 17;
-        (self.0 % bound as u64) as usize
-    }
-
-    fn word(&mut self) -> u32 {
-        [
-            0, 1, 2, 3, 4, 5, 7, 8, 15, 16, 31, 32, 33, 127, 128, 255, 511, 512, 513, 65_535,
-            65_536,
-        ][self.below(21)]
-    }
-}
-
-/// Sets one word or byte to something else, more often where a store has something.
-fn spoil(tables: &mut Tables, chance: &mut Chance) {
-    let word = chance.word();
-    match chance.below(6) {
-        0 => tables.files[chance.below(FILE_WIDTH * 20)] = word,
-        1 => tables.open_files[chance.below(OPEN_FILE_WIDTH * 3)] = word,
-        2 => tables.processes[chance.below(PROCESS_WIDTH * PROCESSES)] = word,
-        3 => tables.policy[chance.below(POLICY_SIZE)] = word as u8,
-        4 => {
-            tables.block_mut(chance.below(4))[chance.below(64)] =
-                [word as u8, b'/', b'.', b'x'][chance.below(4)]
-        }
-        _ => tables.contents[chance.below(SLOTS * BLOCK)] = word as u8,
-    }
+#[test]
+fn the_links() {
+    assert_defects_of(
+        console_with_link,
+        &[
+            (7, "slot 4: links is 2", |t| t.file_mut(4)[FILE_LINKS] = 2),
+            (10, "open file 0: slot 4 is no plain file", |t| {
+                t.open_file_mut(0)[OPEN_SLOT] = 4
+            }),
+            (
+                13,
+                "slot 4: a link; the directory entries that name it are 2",
+                |t| {
+                    t.set_dirent(ROOT, 9, b"too", 4);
+                    t.file_mut(ROOT)[FILE_LENGTH] = 4;
+                    t.file_mut(4)[FILE_LINKS] = 2;
+                },
+            ),
+            (
+                13,
+                "slot 4: a link; the directory entries that name it are 0",
+                |t| {
+                    t.dirent_mut(ROOT, 3).fill(0);
+                    t.file_mut(ROOT)[FILE_LENGTH] = 2;
+                    t.file_mut(4)[FILE_LINKS] = 0;
+                },
+            ),
+            (13, "slot 4: a link whose bits are 1, not 0", |t| {
+                t.file_mut(4)[FILE_BITS] = 1
+            }),
+            (13, "slot 4: a link of length 10 whose byte 10", |t| {
+                t.block_mut(4)[10] = b'x'
+            }),
+            (13, "slot 4: a link of length 10 whose byte 511", |t| {
+                t.block_mut(4)[511] = 1
+            }),
+        ],
+    );
 }
 
 #[test]
-fn the_diagnosis_agrees_with_the_proved_test() {
-    let mut chance = Chance(0x9e37_79b9_7f4a_7c15);
-    let mut sound = 0;
-    for round in 0..20_000 {
-        let mut tables = console_with_open_file();
-        if round % 2 == 0 {
-            dig(&mut tables, 8);
-        }
-        for _ in 0..=chance.below(3) {
-            spoil(&mut tables, &mut chance);
-        }
-        let is_sound = mritvelja::sound(&tables);
-        assert_eq!(first_defect(&tables).is_none(), is_sound, "round {round}");
-        sound += u32::from(is_sound);
-    }
-    assert!((1_000..19_000).contains(&sound), "{sound} sound stores");
+fn the_texts_of_links() {
+    assert_defects_of(
+        console_with_link,
+        &[
+            (13, "slot 4: a link of length 0, not 1 to 64", |t| {
+                set_text(t, b"")
+            }),
+            (13, "slot 4: a link of length 65, not 1 to 64", |t| {
+                set_text(t, &[b'/'; 65])
+            }),
+            (13, "slot 4: a link of length 4294967295, not", |t| {
+                t.file_mut(4)[FILE_LENGTH] = u32::MAX
+            }),
+            (
+                13,
+                "slot 4: a link whose text \"x\" is not a valid path: it does not begin with a slash",
+                |t| set_text(t, b"x"),
+            ),
+            (
+                13,
+                "text \"/a\\x1b/\" is not a valid path: it has a slash after its last name",
+                |t| set_text(t, b"/a\x1b/"),
+            ),
+            (13, "it has more than 8 names", |t| {
+                set_text(t, b"/1/2/3/4/5/6/7/8/9")
+            }),
+            (13, "\"fifteen-letters\" is no name", |t| {
+                set_text(t, b"/fifteen-letters")
+            }),
+            (13, "\"..\" is no name", |t| set_text(t, b"/fares/../key")),
+            // A record that is longer than its text takes the zeros after it for text.
+            (13, "\"now\\x00\" is no name", |t| {
+                t.file_mut(4)[FILE_LENGTH] = 11
+            }),
+        ],
+    );
 }

@@ -1,5 +1,6 @@
 //! "The zero bytes as above": of free records, slots and processes, past a plain
-//! file's length, and in a directory around its names.
+//! file's length, and in a directory around its names. Those past a link's text are
+//! in the clause of links.
 
 use super::names;
 use mritvelja::layout::*;
@@ -10,7 +11,8 @@ pub fn not_zero(tables: &Tables) -> Option<String> {
         .find_map(|slot| match tables.file(slot)[FILE_KIND] {
             FREE => in_free_record(tables, slot).or_else(|| in_free_slot(tables, slot)),
             PLAIN => past_length(tables, slot),
-            _ => in_directory(tables, slot),
+            DIRECTORY => in_directory(tables, slot),
+            _ => None,
         })
         .or_else(|| in_free_process(tables))
 }

@@ -78,10 +78,15 @@ mod tests {
         tables.process_mut(1)[PROCESS_DESCRIPTOR] = 2;
         tables.set_transition(1, 3, 4);
         tables.set_dirent(1, 0, b"a\\ \x80", 2);
+        *tables.file_mut(5) = [LINK, 20, 1, 0, 0, 4, 1, 6];
+        tables.block_mut(5)[..4].copy_from_slice(b"//\x1b\\");
+        tables.set_dirent(1, 1, b"l", 5);
+        tables.file_mut(1)[FILE_LENGTH] = 2;
         assert!(mritvelja::sound(&tables));
         let lines = lines(&tables);
         for line in [
             "/fares/a\\x5c \\x80: plain file, slot 2, owner 10, group 1, bits 484 (owner read write execute, group read, others read), label 0, length 5, links 1, version 0",
+            "/fares/l: link to //\\x1b\\x5c, slot 5, owner 20, group 1, bits 0 (owner none, group none, others none), label 0, length 4, links 1, version 6",
             "Slot 4: plain file, owner 20, group 30, bits 49 (owner none, group read write, others execute), label 1, length 2, links 0, version 9",
             "Open file 0: slot 4, which has no name; mode 3 (both), offset 1, references 2",
             "Open file 1: slot 2, /fares/a\\x5c \\x80; mode 4 (append), offset 0, references 1",

@@ -35,8 +35,8 @@ pub fn lines(tables: &Tables, paths: &[(String, usize)]) -> Vec<String> {
         .count();
     let heading = format!("Files, {used} of {SLOTS} slots in use");
     let lines = paths.iter().map(|(path, slot)| {
-        let record = tables.file(*slot);
-        format!("{path}: {}, slot {slot}, {}", kind(record), fields(record))
+        let (what, fields) = (what(tables, *slot), fields(tables.file(*slot)));
+        format!("{path}: {what}, slot {slot}, {fields}")
     });
     part(&heading, lines.collect())
 }
@@ -49,9 +49,19 @@ pub fn unnamed_lines(tables: &Tables) -> Vec<String> {
     part("Files open without a name", lines.collect())
 }
 
+/// What a slot has in it: its kind, and of a link where it leads.
+fn what(tables: &Tables, slot: usize) -> String {
+    let kind = kind(tables.file(slot));
+    match tables.is_kind(slot, LINK) {
+        true => format!("{kind} to {}", text::readable(tables.bytes(slot))),
+        false => kind.into(),
+    }
+}
+
 pub fn kind(record: &[u32; FILE_WIDTH]) -> &'static str {
     match record[FILE_KIND] {
         DIRECTORY => "directory",
+        LINK => "link",
         _ => "plain file",
     }
 }

@@ -24,6 +24,7 @@ use file_effects::files::change_bits;
 use file_effects::files::write_bytes;
 use file_effects::names::create_file;
 use file_effects::names::link_file;
+use file_effects::names::make_symlink;
 use file_effects::names::remove_directory;
 use file_effects::names::unlink_file;
 use rules::decision::Effect;
@@ -165,5 +166,6 @@ pub fn carry_out(
         Effect::Forked(q, who) => fork(open_files, processes, p, q, who),
         Effect::Exited => exit(files, contents, open_files, processes, p),
         Effect::Relabelled(l) => relabel_process(processes, p, l),
+        Effect::Symlinked(d, s, r) => make_symlink(files, contents, path, data, d, s, r),
     }
 }

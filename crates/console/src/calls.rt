@@ -37,11 +37,11 @@ fn call_number(name: &[u8]) -> u64
     ensures { λ r. ⌜ r ≡ callNumber (now (name .entry)) ⌝ }
 {
     let k = index_of(
-        b"open create mkdir unlink rmdir link list chmod stat close read write seek dup fork exit exec",
-        17,
+        b"open create mkdir unlink rmdir link list chmod stat close read write seek dup fork exit exec symlink readlink",
+        19,
         name,
     );
-    if k < 17 {
+    if k < 19 {
         return k as u64 + 1;
     }
     number(name)
@@ -51,20 +51,20 @@ fn call_number(name: &[u8]) -> u64
 fn row_of(call: u64) -> usize
     ensures { λ r. ⌜ r ≡ rowOf call ⌝ }
 {
-    let known = call < 18;
+    let known = call < 20;
     if known {
         return call as usize;
     }
     0
 }
 
-// The word that holds a part of a call, 0 where the call has none: f descriptor, n number, p path, d bytes or second
-// path. The words end at the dot.
+// The word that holds a part of a call, 0 where the call has none: f descriptor, n number, p path, d bytes, second
+// path or target. The words end at the dot.
 fn place(call: u64, part: u8) -> usize
     ensures { λ r. ⌜ r ≡ placeOf call part ⌝ }
 {
     let parts = word(
-        b". np. np. np. p. p. pd. np. np. p. f. fn. fd. fn. f. . . p.",
+        b". np. np. np. p. p. pd. np. np. p. f. fn. fd. fn. f. . . p. pd. np.",
         row_of(call),
     );
     let k = find(parts, 0, part);

@@ -12,9 +12,11 @@ use crate::formed::formed_link;
 use crate::formed::formed_list;
 use crate::formed::formed_make_directory;
 use crate::formed::formed_open;
+use crate::formed::formed_read_link;
 use crate::formed::formed_remove;
 use crate::formed::formed_seek;
 use crate::formed::formed_stat;
+use crate::formed::formed_symlink;
 use crate::formed::formed_unlink;
 use allocation::held::in_use;
 use descriptor_calls::close::decide_close;
@@ -78,6 +80,8 @@ fn decide_own(
         Operation::Fork => decide_fork(processes, p),
         Operation::Exit => Decision::Granted(0, Output::Nothing, Effect::Exited),
         Operation::Execute => formed_execute(files, contents, policy, who, path),
+        Operation::Symlink => formed_symlink(files, contents, policy, who, path, data),
+        Operation::ReadLink => formed_read_link(files, contents, policy, who, buffer.len(), path),
         Operation::Unknown => Decision::Refused(Refusal::Malformed, 0),
     }
 }

@@ -50,6 +50,16 @@ pub fn both_paths_ok(path: &[u8], data: &[u8]) -> bool
     path_below_root(data)
 }
 
+// A new path and a link's text.
+pub fn symlink_ok(path: &[u8], text: &[u8]) -> bool
+    ensures { λ r. ⌜ r ≡ every (pathBelowRoot (now (path .entry)) ∷ pathOk (now (text .entry)) ∷ []) ⌝ }
+{
+    if !path_below_root(path) {
+        return false;
+    }
+    path_ok(text)
+}
+
 pub fn offset_ok(n: u32) -> bool
     ensures { λ r. ⌜ r ≡ leb n BLOCK ⌝ }
 {

@@ -3,6 +3,7 @@
 ghost use mathlib.Core.Path.{_≡_};
 ghost use mathlib.Core.List.{[], _∷_};
 ghost use lib.Dec.{leb};
+ghost use lib.ListN.{length};
 ghost use Rattle.rules.specs.Choice.{every};
 ghost use Rattle.rules.specs.Layout.{BLOCK, OPEN-FILE-WIDTH, PLAIN, DIRECTORY};
 ghost use Rattle.rules.specs.Store.{tab, tree, descOf};
@@ -10,7 +11,7 @@ ghost use Rattle.rules.specs.Rights.{bitsKnown, bitsOf, modeOf, modeKnown};
 ghost use Rattle.rules.specs.Paths.{pathOk};
 ghost use Rattle.rules.specs.Calls.{pathBelowRoot, newFileOk};
 ghost use Rattle.rules.specs.Checks.{need};
-ghost use Rattle.rules.specs.DecidePaths.{decideOpen, decideCreate, decideUnlink, decideRemove, decideLink, decideList, decideChangeBits, decideStat, decideExecute};
+ghost use Rattle.rules.specs.DecidePaths.{decideOpen, decideCreate, decideUnlink, decideRemove, decideLink, decideList, decideChangeBits, decideStat, decideExecute, decideSymlink, decideReadLink};
 ghost use Rattle.rules.specs.Decide.{decideSeek};
 ghost use Rattle.rules.specs.declared.refusal.Refusal.the-variants.{Malformed};
 use crate::form::bits_and_path_ok;
@@ -18,11 +19,14 @@ use crate::form::both_paths_ok;
 use crate::form::new_file_ok;
 use crate::form::offset_ok;
 use crate::form::open_ok;
+use crate::form::symlink_ok;
 use create_calls::create::decide_create;
 use create_calls::link::decide_link;
+use create_calls::symlink::decide_symlink;
 use file_calls::change_bits::decide_change_bits;
 use file_calls::execute::decide_execute;
 use file_calls::list::decide_list;
+use file_calls::read_link::decide_read_link;
 use file_calls::stat::decide_stat;
 use open_call::open::decide_open;
 use remove_calls::remove::decide_remove;
@@ -37,6 +41,7 @@ use rules::request::Subject;
 use rules::rights::Bits;
 use tables::layout::DIRECTORY;
 use tables::layout::PLAIN;
+use tables::numbers::word_of;
 use transfer_calls::seek::decide_seek;
 
 pub fn formed_open(
@@ -218,4 +223,37 @@ pub fn formed_execute(
         return Decision::Refused(Refusal::Malformed, 0);
     }
     decide_execute(files, contents, policy, who, path)
+}
+
+pub fn formed_symlink(
+    files: &[u32],
+    contents: &[u8],
+    policy: &[u8],
+    who: Subject,
+    path: &[u8],
+    data: &[u8],
+) -> Decision
+    ensures { λ r. ⌜ r ≡ need (every (pathBelowRoot (now (path .entry)) ∷ pathOk (now («data» .entry)) ∷ [])) Malformed (decideSymlink (now (policy .entry)) (tree (now (files .entry)) (now (contents .entry))) who (length (now («data» .entry))) (now (path .entry))) ⌝ }
+{
+    if !symlink_ok(path, data) {
+        return Decision::Refused(Refusal::Malformed, 0);
+    }
+    let n = word_of(data.len());
+    decide_symlink(files, contents, policy, who, n, path)
+}
+
+pub fn formed_read_link(
+    files: &[u32],
+    contents: &[u8],
+    policy: &[u8],
+    who: Subject,
+    size: usize,
+    path: &[u8],
+) -> Decision
+    ensures { λ r. ⌜ r ≡ need (pathOk (now (path .entry))) Malformed (decideReadLink (now (policy .entry)) (tree (now (files .entry)) (now (contents .entry))) who size (now (path .entry))) ⌝ }
+{
+    if !path_ok(path) {
+        return Decision::Refused(Refusal::Malformed, 0);
+    }
+    decide_read_link(files, contents, policy, who, size, path)
 }

@@ -5,7 +5,7 @@ ghost use Rattle.rules.specs.Store.{tab, tree};
 ghost use Rattle.rules.specs.Rights.{owns};
 ghost use Rattle.rules.specs.DecidePaths.{changeBitsAt, decideChangeBits};
 ghost use Rattle.rules.specs.declared.rights.BitsNumber.the-variants.{Valid};
-use resolution::walk::walk_path;
+use resolution::walk::follow_path;
 use rights::rights::label_allows;
 use rules::decision::Decision;
 use rules::decision::Effect;
@@ -47,7 +47,7 @@ fn change_bits_to(
 ) -> Decision
     ensures { λ r. ⌜ r ≡ decideChangeBits (now (policy .entry)) (tree (now (files .entry)) (now (contents .entry))) who (Valid bits) (now (path .entry)) ⌝ }
 {
-    match walk_path(files, contents, policy, who, path) {
+    match follow_path(files, contents, policy, who, path) {
         Walk::Reached(at) => change_bits_at(files, policy, who, bits, at.slot),
         Walk::Stopped(r, k) => Decision::Refused(r, k),
     }

@@ -6,7 +6,7 @@ ghost use Rattle.rules.specs.Layout.{FILE-WIDTH, NO-TRANSITION};
 ghost use Rattle.rules.specs.Store.{tab, tree};
 ghost use Rattle.rules.specs.Rights.{moved};
 ghost use Rattle.rules.specs.DecidePaths.{executed, executeAt, decideExecute};
-use resolution::walk::walk_path;
+use resolution::walk::follow_path;
 use rights::rights::bits_allow_execute;
 use rights::rights::label_allows;
 use rules::decision::Decision;
@@ -73,7 +73,7 @@ pub fn decide_execute(
 ) -> Decision
     ensures { λ r. ⌜ r ≡ decideExecute (now (policy .entry)) (tree (now (files .entry)) (now (contents .entry))) who (now (path .entry)) ⌝ }
 {
-    match walk_path(files, contents, policy, who, path) {
+    match follow_path(files, contents, policy, who, path) {
         Walk::Reached(at) => execute_at(files, policy, who, at.slot),
         Walk::Stopped(r, k) => Decision::Refused(r, k),
     }

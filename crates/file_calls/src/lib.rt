@@ -2,4 +2,5 @@
 pub mod change_bits;
 pub mod execute;
 pub mod list;
+pub mod read_link;
 pub mod stat;

@@ -4,7 +4,7 @@ ghost use Rattle.rules.specs.Store.{tree, shownOf};
 ghost use Rattle.rules.specs.Directories.{direntRanked};
 ghost use Rattle.rules.specs.DecidePaths.{listEntry, listAt, decideList};
 use directories::entries::dirent_ranked;
-use resolution::walk::walk_path;
+use resolution::walk::follow_path;
 use rights::rights::Permission;
 use rights::rights::permission_over;
 use rules::decision::Decision;
@@ -57,7 +57,7 @@ pub fn decide_list(
 ) -> Decision
     ensures { λ r. ⌜ r ≡ decideList (now (policy .entry)) (tree (now (files .entry)) (now (contents .entry))) who k (now (path .entry)) ⌝ }
 {
-    match walk_path(files, contents, policy, who, path) {
+    match follow_path(files, contents, policy, who, path) {
         Walk::Reached(at) => list_at(files, contents, policy, who, k, at.slot),
         Walk::Stopped(r, n) => Decision::Refused(r, n),
     }

@@ -1,10 +1,10 @@
 // Names: the entries of directories, and what becomes of a file whose names change.
 ghost use mathlib.Core.Path.{_≡_};
-ghost use mathlib.Core.List.{List};
+ghost use mathlib.Core.List.{List, [], _∷_};
 ghost use Prim.Native.Nat.{ℕ};
-ghost use Rattle.rules.specs.Store.{store, applyAll};
+ghost use Rattle.rules.specs.Store.{store, fileTo, bytesTo, applyAll};
 ghost use Rattle.rules.specs.Paths.{names, lastName};
-ghost use Rattle.rules.specs.Effects.{nameChanges, unnameChanges, createChanges, linkChanges, unnamedChanges, unlinkChanges, removeChanges};
+ghost use Rattle.rules.specs.Effects.{words, nameChanges, unnameChanges, createChanges, symlinkChanges, linkChanges, unnamedChanges, unlinkChanges, removeChanges};
 use resolution::paths::last_name;
 use rows::rows::clear_slot;
 use rows::rows::put_directory;
@@ -18,6 +18,7 @@ use tables::layout::BLOCK;
 use tables::layout::DIRENT_WIDTH;
 use tables::layout::FILE_LINKS;
 use tables::layout::FILE_WIDTH;
+use tables::words::copy_bytes;
 use tables::words::put;
 use tables::words::zero_bytes;
 
@@ -60,6 +61,30 @@ pub fn create_file(
     add_name(files, contents, last_name(path), s, d);
 }
 
+// A link's record and its text.
+fn put_text(files: &mut [u32], contents: &mut [u8], text: &[u8], s: Slot, link: Record)
+    ensures { λ _. ⌜ ((E P : List ℕ) → store (now (files .exit)) (now (contents .exit)) E P ≡ applyAll (fileTo (s .0) (words link) ∷ bytesTo (s .0) 0 (now (text .entry)) ∷ []) (store (now (files .entry)) (now (contents .entry)) E P)) ⌝ }
+{
+    put_record(files, s, link);
+    copy_bytes(contents, BLOCK * (s.0 as usize) + 0, text);
+}
+
+// A link and its text, under the last name of the path.
+pub fn make_symlink(
+    files: &mut [u32],
+    contents: &mut [u8],
+    path: &[u8],
+    text: &[u8],
+    d: DirChange,
+    s: Slot,
+    r: Record,
+)
+    ensures { λ _. ⌜ ((E P : List ℕ) → store (now (files .exit)) (now (contents .exit)) E P ≡ applyAll (symlinkChanges (lastName (names (now (path .entry)))) (now (text .entry)) d s r) (store (now (files .entry)) (now (contents .entry)) E P)) ⌝ }
+{
+    put_text(files, contents, text, s, r);
+    add_name(files, contents, last_name(path), s, d);
+}
+
 // One name more for a file, the last of the path.
 pub fn link_file(
     files: &mut [u32],
@@ -75,7 +100,7 @@ pub fn link_file(
     add_name(files, contents, last_name(path), s, d);
 }
 
-// A plain file has one name less, or is freed.
+// A plain file or a link has one name less, or is freed.
 fn lose_name(files: &mut [u32], contents: &mut [u8], u: Unnamed)
     ensures { λ _. ⌜ ((E P : List ℕ) → store (now (files .exit)) (now (contents .exit)) E P ≡ applyAll (unnamedChanges u) (store (now (files .entry)) (now (contents .entry)) E P)) ⌝ }
 {

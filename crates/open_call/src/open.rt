@@ -11,7 +11,7 @@ ghost use Rattle.rules.specs.DecidePaths.{truncated, newOpen, opening, opened, 
 ghost use Rattle.rules.specs.declared.decision.Effect.the-variants as effect;
 use allocation::free::free_fd;
 use allocation::free::free_ofd;
-use resolution::walk::walk_path;
+use resolution::walk::follow_path;
 use rights::rights::Permission;
 use rights::rights::permission_over;
 use rules::decision::Decision;
@@ -222,7 +222,7 @@ pub fn decide_open(
 ) -> Decision
     ensures { λ r. ⌜ r ≡ decideOpen (now (policy .entry)) (tree (now (files .entry)) (now (contents .entry))) (tab OPEN-FILE-WIDTH (now («open_files» .entry))) (descOf (now (processes .entry))) p who n (now (path .entry)) ⌝ }
 {
-    match walk_path(files, contents, policy, who, path) {
+    match follow_path(files, contents, policy, who, path) {
         Walk::Reached(at) => open_mode(
             files,
             open_files,

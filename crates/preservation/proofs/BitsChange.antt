@@ -30,9 +30,9 @@ use Rattle.preservation.proofs.Processes.{shared}
 use Rattle.preservation.proofs.StoreChanges.{tablesOf}
 use Rattle.preservation.proofs.SoundStore.{SoundStore, means-sound}
 use Rattle.preservation.proofs.OpenEffects.{Leaves, open-leaves, truncate-leaves, move-leaves, duplicate-leaves, bits-leaves, execute-leaves, write-leaves}
-use Rattle.preservation.proofs.NameEffects.{link-leaves, create-leaves, unlinkedTables, Unnaming, keeps, frees, unlink-leaves, unnaming-is, remove-leaves}
+use Rattle.preservation.proofs.NameEffects.{link-leaves, create-leaves, symlink-leaves, unlinkedTables, Unnaming, keeps, frees, unlink-leaves, unnaming-is, remove-leaves}
 use Rattle.preservation.proofs.CloseEffects.{Steady, close-leaves, releasing-is, exit-leaves}
-use Rattle.preservation.proofs.Granted.{Granting, nothing, opens, truncates, creates, unlinks, removes, links, changesBits, closes, stores, reads, seeks, duplicates, forks, exits, executes}
+use Rattle.preservation.proofs.Granted.{Granting, nothing, opens, truncates, creates, symlinks, unlinks, removes, links, changesBits, closes, stores, reads, seeks, duplicates, forks, exits, executes}
 use Rattle.preservation.proofs.Decided.{decide-fit}
 use Rattle.preservation.proofs.Preserved.{placed-well, read-fits, forking}
 use Rattle.preservation.proofs.TestedOnce.{step-by}
@@ -87,18 +87,20 @@ module _ (s : Store) (h : SoundStore s) (c : Call) (f : ℕ) where
   unlink-left d i y (keeps a) = unfold unlinkedTables in inr refl
   unlink-left d i y (frees a b) = remove-left d i y
 
-  -- each effect: all but a change of bits leave the bits of f, or free it; a create gives out a slot that was free
+  -- each effect: all but a change of bits leave the bits of f, or free it; a create or a new link gives out a slot that was free
   changes-bits : {Q : List ℕ} {n : ℕ} {o : Output} {e : Effect} → Granting Q s h c n o e → Differ (carryOut c e s)
   unfolding carryOut
   changes-bits (nothing n o) = λ a b x. absurd (x refl)
   changes-bits (opens n o) = leaves-bits (open-leaves s h (c .process) n o) (unfold handed in refl)
   changes-bits (truncates n o a) = leaves-bits (truncate-leaves s h (c .process) n o) (truncate-bits (n .slot .0) _ _ (unfold handed in refl) refl)
-  changes-bits (creates d i y kind bits o) = let w = create-leaves s h _ (subjectOf (view s .proc) (c .process)) d i (slot y) kind bits o in
+  changes-bits (creates d i y new o) = let w = create-leaves s h _ (subjectOf (view s .proc) (c .process)) d i (slot y) new o in
+      split f y (λ q _ a. absurd (a (rw q (o .free)))) (λ q t. leaves-bits w (rw t))
+  changes-bits (symlinks d i y o) = let w = symlink-leaves s h _ (subjectOf (view s .proc) (c .process)) d i (slot y) (c .«data») o in
       split f y (λ q _ a. absurd (a (rw q (o .free)))) (λ q t. leaves-bits w (rw t))
   changes-bits (unlinks d i y n k) = leaves (unlink-leaves s h d i y n k (unnaming-is s h y)) (unlink-left d i y (unnaming-is s h y))
   changes-bits (removes d i y n k l) = leaves (remove-leaves s h d i y n k l) (remove-left d i y)
   changes-bits (links d i y n hy k) = leaves-bits (link-leaves s h _ d i y n hy k) refl
-  changes-bits (changesBits y b hy k l o a) = split f (y .0) (λ q _ _ _ _. (a, rw q (owner-or-0 (y .0) o))) (λ q t. leaves-bits (bits-leaves s h (y .0) (b .0) hy k l) (rw t))
+  changes-bits (changesBits y b hy k n l o a) = split f (y .0) (λ q _ _ _ _. (a, rw q (owner-or-0 (y .0) o))) (λ q t. leaves-bits (bits-leaves s h (y .0) (b .0) hy k n l) (rw t))
   changes-bits (closes i u hi) = steadily _ (close-leaves s h (c .process) i (u .small) hi (u .used) (releasing-is s h (c .process) i (u .small) hi) .steady)
   changes-bits (stores e at o l a) = leaves-bits (write-leaves s h (c .«data») _ (placed-well s h c e at o l)) (unfold wrote in refl)
   changes-bits (reads e n o l) = leaves-bits (move-leaves s h e _ o (read-fits s h c e n l)) refl

@@ -3,7 +3,7 @@ use mathlib.Core.Path.{_≡_, ap, fun-ext}
 use mathlib.Core.List.{List}
 use Prim.Native.Nat.{ℕ}
 use lib.ListN.{getD}
-use Rattle.rules.specs.Layout.{FILE-KIND, FILE-LENGTH, FILE-LINKS}
+use Rattle.rules.specs.Layout.{FILE-KIND, FILE-BITS, FILE-LENGTH, FILE-LINKS}
 use Rattle.preservation.proofs.Tables.{Tables, fileWords, fileRow}
 use Rattle.preservation.proofs.Rows.{file-same}
 use Rattle.preservation.proofs.Sound.{SoundBut}
@@ -21,6 +21,7 @@ same-columns x m f c h = record {
     root-kind = rw (word FILE-KIND 0) at (h .slots .root-kind);
     root-links = rw (word FILE-LINKS 0) at (h .slots .root-links);
     blocks = λ i hi. rw (word FILE-KIND i, word FILE-LENGTH i) at (h .slots .blocks i hi);
+    texts = λ i hi. rw (word FILE-KIND i, word FILE-BITS i, word FILE-LENGTH i) at (h .slots .texts i hi);
   };
   tree = rw (column FILE-KIND, column FILE-LENGTH, column FILE-LINKS) at (h .tree);
   live = rw (column FILE-KIND, column FILE-LINKS) at (h .live);

@@ -7,15 +7,16 @@ use native.Mathlib.Omega.{arith}
 use lib.ListN.{length}
 use borrow.Author.Tests.{eqb-true, eqb-false, ltb-true, leb-true}
 use Rattle.rules.specs.Layout.{SLOTS, BLOCK, DIRENTS, OPEN-FILES, PROCESSES, DESCRIPTORS, KIND-MAX, USER-MAX, BITS-MAX, LABEL-MAX, PROCESS-GROUP, GROUP-MAX}
-use Rattle.rules.specs.Layout.{FILE-KIND, FILE-LABEL, FILE-LENGTH, OPEN-SLOT, OPEN-OFFSET, PROCESS-USER, PROCESS-LABEL, PLAIN, DIRECTORY}
-use Rattle.rules.specs.Choice.{every}
+use Rattle.rules.specs.Layout.{FILE-KIND, FILE-LABEL, FILE-LENGTH, FILE-LINKS, OPEN-SLOT, OPEN-OFFSET, PROCESS-USER, PROCESS-LABEL, FREE, PLAIN, DIRECTORY, LINK, NAMES}
+use Rattle.rules.specs.Choice.{every, some}
 use Rattle.rules.specs.Store.{Store, view, isSlot}
 use Rattle.rules.specs.Paths.{names, lastName, pathOk}
 use Rattle.rules.specs.Rights.{moved}
 use Rattle.rules.specs.Sound.{policySound}
-use Rattle.rules.specs.Walk.{isDirectory, isPlain}
+use Rattle.rules.specs.Walk.{isDirectory, isPlain, isLink}
 use Rattle.rules.specs.Calls.{Call, operation, formOk, pathBelowRoot, newFileOk}
 use Rattle.rules.specs.Checks.{freeSlot, freeOfd, freeFd, freePid}
+use Rattle.rules.specs.DecidePaths.{newFile, newLink, depthOk}
 use Rattle.rules.specs.Decide.{asker, writeAt, decide}
 use Rattle.rules.specs.declared.ids.Slot.{Slot}
 use Rattle.rules.specs.declared.rights.Bits.{Bits}
@@ -24,26 +25,31 @@ use Rattle.rules.specs.declared.rights.ModeNumber.{ModeNumber}
 use Rattle.rules.specs.declared.request.Subject.{Subject}
 use Rattle.rules.specs.declared.request.Operation.{Operation}
 use Rattle.rules.specs.declared.decision.Location.{Location}
+use Rattle.rules.specs.declared.decision.NewFile.{NewFile}
 use Rattle.rules.specs.declared.decision.Output.{Output}
 use Rattle.rules.specs.declared.decision.Effect.{Effect}
-use Rattle.rules.proofs.Passed.{Fit, fit-map, Passed, Permit, permitted, Walked, Opening, Naming, Holding, Mode, Makes, newest, entryIn, ofd, count}
+use Rattle.rules.proofs.Passed.{Fit, fit-map, Passed, Permit, permitted, Walked, Followed, Opening, Naming, Holding, Mode, Makes, newest, entryIn, ofd, count}
 use Rattle.rules.proofs.Passed as passed
 use Rattle.preservation.specs.Claims.{EndsAt}
-use Rattle.preservation.proofs.Tests.{means-every, means-and, means-last, means-test}
+use Rattle.preservation.proofs.Tests.{upd, means-every, means-and, means-last, means-imp, means-or, means-eq, means-le, means-test}
 use Rattle.preservation.proofs.OneWord.{Held}
+use Rattle.preservation.proofs.Tables.{overRow}
 use Rattle.preservation.proofs.Words.{offsets-most, length-most}
 use Rattle.preservation.proofs.StoreChanges.{tablesOf}
 use Rattle.preservation.proofs.SoundStore.{SoundStore}
 use Rattle.preservation.proofs.OpenEffects.{Caller, Opens, held-open}
+use Rattle.preservation.proofs.Sound.{All, File}
 use Rattle.preservation.proofs.Rows.{file-used}
+use Rattle.preservation.proofs.Remake.{Fresh}
+use Rattle.preservation.proofs.Create.{free-zeros, fresh-empty, fresh-link}
 use Rattle.preservation.proofs.NameEffects as effects
-use Rattle.preservation.proofs.NameEffects.{Creates}
+use Rattle.preservation.proofs.NameEffects.{newRow, Creates}
 use Rattle.preservation.proofs.PathNames.{path-good, below-root, last-good}
 use Rattle.preservation.proofs.NewName.{new-name}
 use Rattle.preservation.proofs.Numbers.{NumberOf, number-of, GoodMode, ModeSays, mode-says, bits-most}
-use Rattle.preservation.proofs.Reach.{reach-small, reach-depth, reach-used}
-use Rattle.preservation.proofs.Walked.{Found, NewEntry, found-small, path-found, new-found}
-use Rattle.preservation.proofs.Granted.{Granting, nothing, opens, truncates, creates, unlinks, removes, links, changesBits, closes, stores, reads, seeks, duplicates, forks, exits, executes}
+use Rattle.preservation.proofs.Reach.{reach-small, reach-used}
+use Rattle.preservation.proofs.Walked.{Stands, NewEntry, path-followed, path-found, new-found}
+use Rattle.preservation.proofs.Granted.{Granting, nothing, opens, truncates, creates, symlinks, unlinks, removes, links, changesBits, closes, stores, reads, seeks, duplicates, forks, exits, executes}
 use Rattle.preservation.proofs.Granted.{plain-small, in-use, holds, slot-free, ofd-free, fd-free, pid-free, dirent-free, moved-small}
 
 -- of two tests
@@ -64,15 +70,22 @@ module _ (Q : List ℕ) (s : Store) (h : SoundStore s) (c : Call) (u : Caller (t
   unfolding tablesOf
   is-directory y t = eqb-true (view s .tree .file (y .0) FILE-KIND) DIRECTORY t
 
+  no-directory : (y : Slot) → some (isPlain (view s .tree .file) y ∷ isLink (view s .tree .file) y ∷ []) ≡ true → tablesOf s .file (y .0) FILE-KIND ≡ DIRECTORY → ⊥
+  unfolding tablesOf
+  no-directory y t z = omega (arith, z, means-or (means-eq (view s .tree .file (y .0) FILE-KIND) PLAIN) (means-eq (view s .tree .file (y .0) FILE-KIND) LINK) .holds t (λ q. omega (arith, z, q)))
+
   abbrev who : Subject
   who = asker (view s) c
 
-  found : pathOk (c .path) ≡ true → (at : Location) → Walked Q (view s) c at → Found s h Q who (length (names (c .path))) at
-  found g at w = path-found s h Q who (c .path) (path-good (c .path) g) at w
+  followed : pathOk (c .path) ≡ true → (at : Location) → Followed Q (view s) c at → Stands s h Q who at
+  followed g at w = path-followed s h Q who (c .path) (path-good (c .path) g) at w
+
+  followed-small : (at : Location) → Stands s h Q who at → at .slot .0 < SLOTS
+  followed-small at f = reach-small (tablesOf s) (h .tables) (f .reach)
 
   -- an entry, not the root
   named : pathBelowRoot (c .path) ≡ true → (at : Location) → Walked Q (view s) c at → effects.Names s h (at .dir) (at .dirent .0) (at .slot)
-  named g at w = let p = below-root (c .path) g in path-found s h Q who (c .path) (p .0) at w .named (λ z. omega (arith, p .1, z))
+  named g at w = let p = below-root (c .path) g in path-found s h Q who (c .path) (p .0) (p .1) at w .named
 
   -- ---- open
 
@@ -96,59 +109,67 @@ module _ (Q : List ℕ) (s : Store) (h : SoundStore s) (c : Call) (u : Caller (t
 
   -- ---- a new name
 
-  new-entry : (p : List ℕ) → pathBelowRoot p ≡ true → (at : Location) → Naming Q (view s) c p at → NewEntry s h Q who (lastName (names p)) (length (names p)) at
+  new-entry : (p : List ℕ) → pathBelowRoot p ≡ true → (at : Location) → Naming Q (view s) c p at → NewEntry s h Q who (lastName (names p)) at
   new-entry p g at m = let w = below-root p g in new-found s h Q who p (w .0) (w .1) at (m .walked)
-
-  dir-small : (p : List ℕ) (at : Location) → NewEntry s h Q who (lastName (names p)) (length (names p)) at → at .dir .0 < SLOTS
-  dir-small p at f = reach-small (tablesOf s) (h .tables) (f .reach)
 
   naming : (p : List ℕ) → pathBelowRoot p ≡ true → (at : Location) → Naming Q (view s) c p at → (y : Slot) → y .0 < SLOTS → effects.Naming (tablesOf s) (lastName (names p)) (at .dir) (entryIn Q (view s) c at .0) y
   naming p g at m y hy =
       let w = below-root p g in
       let f = new-entry p g at m in
-      new-name s h (at .dir) (dir-small p at f) (f .kind) (lastName (names p)) (entryIn Q (view s) c at .0) y (last-good p (w .0) (w .1))
+      new-name s h (at .dir) (f .small) (f .kind) (lastName (names p)) (entryIn Q (view s) c at .0) y (last-good p (w .0) (w .1))
       (ltb-true (entryIn Q (view s) c at .0) DIRENTS (m .dirent-free)) (dirent-free s h (at .dir .0) (m .dirent-free)) (rw (f .is-entry) at (m .absent)) hy
 
-  -- what a call makes is a plain file or a directory, at a path that is not the root
-  record Making (kind : ℕ) : Type 0 where
-    path : pathBelowRoot (c .path) ≡ true
-    some : 0 < kind
-    known : kind ≤ KIND-MAX
+  abbrev new : Slot
+  new = freeSlot (view s .tree .file)
 
-  making : {o : Operation} {kind : ℕ} → formOk o (c .number) (c .path) (c .«data») ≡ true → Makes Q (view s) c o kind → Making kind
-  unfolding formOk newFileOk
-  making f passed.plain = record { path = second _ f; some = omega arith; known = omega arith }
-  making f passed.directory = record { path = second _ f; some = omega arith; known = omega arith }
+  -- the record of a file that is new in the lowest free slot, before it has its name
+  abbrev row : Location → NewFile → ℕ → ℕ
+  row at n = upd (newRow s h who n (at .dir) new) FILE-LINKS 0
 
-  created : (kind : ℕ) → Making kind → (at : Location) (b : Bits) → b .0 ≤ BITS-MAX → Naming Q (view s) c (c .path) at → isSlot (freeSlot (view s .tree .file)) ≡ true →
-      Creates s h (lastName (names (c .path))) who (at .dir) (entryIn Q (view s) c at .0) (freeSlot (view s .tree .file)) kind (b .0)
-  created kind k at b hb m t = record {
-    naming = naming (c .path) (k .path) at m (freeSlot (view s .tree .file)) hy;
+  -- made in that slot, whose bytes were 0, with the bytes g
+  created : pathBelowRoot (c .path) ≡ true → (at : Location) → Naming Q (view s) c (c .path) at → isSlot new ≡ true → (n : NewFile) → (n .kind ≡ FREE → ⊥) → n .kind ≤ KIND-MAX → n .bits .0 ≤ BITS-MAX → (n .kind ≡ DIRECTORY → at .depth ≤ NAMES) →
+      (g : ℕ → ℕ) → (File (row at n) → All BLOCK (λ b. tablesOf s .byte (new .0) b ≡ 0) → Fresh (row at n) g) → Creates s h (lastName (names (c .path))) who (at .dir) (entryIn Q (view s) c at .0) new n g
+  created k at m t n used known bits deep g fresh = record {
+    naming = naming (c .path) k at m new hy;
     small = hy;
     free = slot-free s h t;
-    new = unfold tablesOf in record {
-      file-row = file-used (λ z. omega (arith, k .some, z)) (k .known) user-most group-most hb (h .tables .slots .files (at .dir .0) hd .label-most) (h .tables .slots .files (freeSlot (view s .tree .file) .0) hy .version-most);
-      used = λ z. omega (arith, k .some, z);
-      no-length = refl;
-      no-links = refl;
-    };
-    not-deep = λ _. let w = below-root (c .path) (k .path) in omega (arith, reach-depth (tablesOf s) (h .tables) (f .reach) (f .kind), w .0 .short, w .1);
+    fresh = fresh (unfold tablesOf in file-used used known user-most group-most bits (h .tables .slots .files (at .dir .0) (f .small) .label-most) (h .tables .slots .files (new .0) hy .version-most)) (free-zeros (tablesOf s) (h .tables) (new .0) hy (slot-free s h t));
+    used = used;
+    not-deep = λ z. omega (arith, deep z, f .depth);
   }
     where
-      f : NewEntry s h Q who (lastName (names (c .path))) (length (names (c .path))) at
-      f = new-entry (c .path) (k .path) at m
+      f : NewEntry s h Q who (lastName (names (c .path))) at
+      f = new-entry (c .path) k at m
 
-      hd : at .dir .0 < SLOTS
-      hd = dir-small (c .path) at f
-
-      hy : freeSlot (view s .tree .file) .0 < SLOTS
-      hy = ltb-true (freeSlot (view s .tree .file) .0) SLOTS t
+      hy : new .0 < SLOTS
+      hy = ltb-true (new .0) SLOTS t
 
       user-most : tablesOf s .proc (c .process .0) PROCESS-USER ≤ USER-MAX
       user-most = h .tables .procs (c .process .0) (u .small) .user-most
 
       group-most : tablesOf s .proc (c .process .0) PROCESS-GROUP ≤ GROUP-MAX
       group-most = h .tables .procs (c .process .0) (u .small) .group-most
+
+  -- what a call makes, but for a link, is a plain file or a directory, at a path that is not the root
+  record Making (kind : ℕ) : Type 0 where
+    path : pathBelowRoot (c .path) ≡ true
+    some : 0 < kind
+    known : kind < LINK
+
+  making : {o : Operation} {kind : ℕ} → formOk o (c .number) (c .path) (c .«data») ≡ true → Makes Q (view s) c o kind → Making kind
+  unfolding formOk newFileOk
+  making f passed.plain = record { path = second _ f; some = omega arith; known = omega arith }
+  making f passed.directory = record { path = second _ f; some = omega arith; known = omega arith }
+
+  made : (kind : ℕ) → Making kind → (at : Location) (b : Bits) → b .0 ≤ BITS-MAX → Naming Q (view s) c (c .path) at → depthOk kind at ≡ true → isSlot new ≡ true →
+      Creates s h (lastName (names (c .path))) who (at .dir) (entryIn Q (view s) c at .0) new (newFile kind b) (tablesOf s .byte (new .0))
+  made kind k at b hb m d t = created (k .path) at m t (newFile kind b) (λ z. omega (arith, k .some, z)) (omega (arith, k .known)) hb
+      (means-imp (means-eq kind DIRECTORY) (means-le (at .depth) NAMES) .holds d) (tablesOf s .byte (new .0)) (λ f z. fresh-empty f (λ q. omega (arith, k .known, q)) refl refl z)
+
+  text-made : pathBelowRoot (c .path) ≡ true → pathOk (c .«data») ≡ true → (at : Location) → Naming Q (view s) c (c .path) at → isSlot new ≡ true →
+      Creates s h (lastName (names (c .path))) who (at .dir) (entryIn Q (view s) c at .0) new (newLink (length (c .«data»))) (overRow (tablesOf s .byte (new .0)) 0 (c .«data»))
+  text-made k ok at m t = created k at m t (newLink (length (c .«data»))) (λ z. omega arith) (omega arith) (omega arith) (λ z. absurd (omega arith)) (overRow (tablesOf s .byte (new .0)) 0 (c .«data»))
+      (λ f z. fresh-link (c .«data») f refl refl refl refl ok z)
 
   -- ---- descriptors
 
@@ -180,8 +201,8 @@ module _ (Q : List ℕ) (s : Store) (h : SoundStore s) (c : Call) (u : Caller (t
   facts safe o n out e k f (passed.opensTruncating at m t i p q) =
       let g = mode-good (mode-says (c .number)) i in
       truncates (newest Q (view s) c at m) (opened at m g p) (k, (g .over (first _ q), rw (p .walked) (unfold EndsAt in refl)))
-  facts safe o n out e k f (passed.creates _ kind at b i q m t) = creates (at .dir) _ _ kind (b .0) (created kind (making f i) at b (bits-most (c .number) b q) m t)
-  facts safe o n out e k f (passed.unlinks at w p r) = unlinks (at .dir) (at .dirent .0) (at .slot) (named f at w) (is-plain (at .slot) p)
+  facts safe o n out e k f (passed.creates _ kind at b i q m d t) = creates (at .dir) _ _ (newFile kind b) (made kind (making f i) at b (bits-most (c .number) b q) m d t)
+  facts safe o n out e k f (passed.unlinks at w p r) = unlinks (at .dir) (at .dirent .0) (at .slot) (named f at w) (no-directory (at .slot) p)
   facts safe o n out e k f (passed.removes at w p r z) = removes (at .dir) (at .dirent .0) (at .slot) (named f at w) (is-directory (at .slot) p) (unfold tablesOf in eqb-true (view s .tree .file (at .slot .0) FILE-LENGTH) 0 z)
   facts safe o n out e k f (passed.links old at w p m) =
       let hy = plain-small s h (old .slot .0) (is-plain (old .slot) p) in
@@ -189,8 +210,8 @@ module _ (Q : List ℕ) (s : Store) (h : SoundStore s) (c : Call) (u : Caller (t
   facts safe o n out e k f (passed.lists at w p r i) = nothing 1 _
   facts safe o n out e k f (passed.listsPast at w p r i) = nothing 0 _
   facts safe o n out e k f (passed.changesBits at b q w p l) =
-      let y = found (second _ f) at w in
-      changesBits (at .slot) b (found-small s h Q who y) (reach-used (tablesOf s) (h .tables) (y .reach)) (bits-most (c .number) b q) p k
+      let y = followed (second _ f) at w in
+      changesBits (at .slot) b (followed-small at y) (reach-used (tablesOf s) (h .tables) (y .reach)) (y .not-link) (bits-most (c .number) b q) p k
   facts safe o n out e k f (passed.describes at w) = nothing 0 _
   facts safe o n out e k f (passed.closes t) = closes (c .fd) u (holds s h (c .process) (c .fd) u t .fd-small)
   facts safe o n out e k f (passed.fetches t r) = reads mine (count Q (view s) c) (open-at t) (within (open-at t))
@@ -202,7 +223,9 @@ module _ (Q : List ℕ) (s : Store) (h : SoundStore s) (c : Call) (u : Caller (t
       duplicates (c .fd) (freeFd (view s .desc) (c .process)) mine (holds s h (c .process) (c .fd) u t) (ltb-true (freeFd (view s .desc) (c .process) .0) DESCRIPTORS i) (fd-free s h (c .process) i)
   facts safe o n out e k f (passed.forks q) = forks (freePid (view s .proc)) u (ltb-true (freePid (view s .proc) .0) PROCESSES q) (pid-free s h q)
   facts safe o n out e k f passed.exits = exits u
-  facts safe o n out e k f (passed.executes at w p b l) = executes _ u (relabelled safe at (found-small s h Q who (found f at w)))
+  facts safe o n out e k f (passed.executes at w p b l) = executes _ u (relabelled safe at (followed-small at (followed f at w)))
+  facts safe o n out e k f (passed.symlinks at m t) = symlinks (at .dir) _ _ (text-made (first _ f) (second _ f) at m t)
+  facts safe o n out e k f (passed.readsLink at w p) = nothing _ _
 
 pub grants : (Q : List ℕ) (s : Store) (h : SoundStore s) (c : Call) → policySound Q ≡ true → (n : ℕ) (o : Output) (e : Effect) → Permit Q (view s) c n o e → Granting Q s h c n o e
 grants Q s h c safe n o e p = facts Q s h c (in-use s h (c .process) (p .used)) safe (operation c) n o e (number-of (c .call)) (p .formed) (p .passed)

@@ -9,10 +9,10 @@ use borrow.Author.Tests.{eq-eqb, ne-eqb, lt-ltb, le-ltb}
 use Rattle.preservation.proofs.Tests.{split, upd, upd2, upd-elim, upd-same, upd-other, means-all, means-eq}
 use Rattle.preservation.proofs.Sums.{ind, count, sum-change, sum2-change, sum2-at, sum-at, sum-none}
 use Rattle.preservation.proofs.Tables.{Tables, col, direntRow, rowsOf, fill, fileTo, bytesTo}
-use Rattle.preservation.proofs.Sound.{All, Slots, Directories, SoundBut, File, Block, Dirent, Directory, Depths, naming, linkCount, nameCount, sameRow}
+use Rattle.preservation.proofs.Sound.{All, Slots, Directories, SoundBut, File, Block, Symlink, Dirent, Directory, Depths, naming, linkCount, nameCount, sameRow}
 use Rattle.preservation.proofs.Rows.{length-to, links-to, version-to}
 use Rattle.preservation.proofs.Counts.{ind-eq}
-use Rattle.rules.specs.Layout.{SLOTS, DIRENTS, DIRENT-WIDTH, NAME, FILE-KIND, FILE-LENGTH, FILE-LINKS, FILE-VERSION, FREE, DIRECTORY, WORD-MAX}
+use Rattle.rules.specs.Layout.{SLOTS, DIRENTS, DIRENT-WIDTH, NAME, FILE-KIND, FILE-BITS, FILE-LENGTH, FILE-LINKS, FILE-VERSION, FREE, DIRECTORY, LINK, WORD-MAX}
 
 -- ---- a block with one entry changed, as rows
 
@@ -121,6 +121,9 @@ module _ (x : ℕ) (m : Tables) (h : SoundBut x m) (d p : ℕ) (r : ℕ → ℕ)
       }))
       (λ q e. rw e (h .slots .blocks i hi))
 
+  placed-texts : All SLOTS (λ i. m .file i FILE-KIND ≡ LINK → Symlink (m .file i FILE-BITS) (upd (col (m .file) FILE-LENGTH) d z i) (byte′ i))
+  placed-texts i hi k = split i d (λ q e. absurd (omega (arith, f .dir-kind, rw q at k))) (λ q e. rw e (h .slots .texts i hi k))
+
   placed-dirs : All SLOTS (λ i. m .file i FILE-KIND ≡ DIRECTORY → Directory (col (m .file) FILE-KIND) (direntRow byte′ i))
   placed-dirs i hi k = split i d
       (λ q e. rw (e, rows-fill (m .byte d) p r (f .row-end)) (dir-fill (col (m .file) FILE-KIND) (direntRow (m .byte) d) p r (h .tree .dirs d (f .dir-small) (f .dir-kind)) (f .row-dirent) (f .row-new)))
@@ -162,6 +165,7 @@ module _ (x : ℕ) (m : Tables) (h : SoundBut x m) (d p : ℕ) (r : ℕ → ℕ)
     root-kind = h .slots .root-kind;
     root-links = upd-other (col (m .file) FILE-LINKS) y c 0 (λ q. f .file-root (sym q)) ∙ h .slots .root-links;
     blocks = placed-blocks;
+    texts = placed-texts;
   }
 
   pub placed-tree : z + ind (not (eqb (direntRow (m .byte) d p NAME) 0)) ≡ m .file d FILE-LENGTH + ind (not (eqb (r NAME) 0)) →

@@ -1,17 +1,16 @@
 -- A flat list as a table: rows of w words. One word set, or a run of words inside one row, is one change of the table. The arithmetic of indices is
 -- done here, for every width, and nowhere else.
 use mathlib.Core.Path.{_≡_, refl, sym, ap, _∙_, fun-ext}
-use mathlib.Core.Bool.{cond}
 use mathlib.Core.List.{List, [], _∷_}
 use Prim.Native.Nat.{ℕ, zero, suc, _+_, _-_, _*_, _≤_, _<_}
 use native.Mathlib.Nat.{not-suc-le-zero, mul-le-mul-left}
 use native.Mathlib.Omega.{arith}
 use native.Mathlib.Decide.{decLt}
-use lib.Dec.{ltb}
 use lib.ListN.{length, getD, set, length-set, getD-replicate, List·getD-eq-default}
 use lib.Seq.{getD-set-same, getD-set-other, sets}
 use borrow.Author.Tests.{lt-ltb, le-ltb}
 use Rattle.preservation.proofs.Tests.{split, upd, upd2, updRow}
+use Rattle.preservation.proofs.Tables.{overRow}
 use Rattle.rules.specs.Store.{tab, zeros}
 use Rattle.rules.proofs.Lists.{length-zeros}
 
@@ -54,10 +53,6 @@ sets-run (v ∷ vs) l i h = go (sets-run vs (set l i v) (suc i) (rw (length-set 
         here (suc k) hk = let e : i + suc k ≡ suc i + k = omega arith in rw e (r .inside k (omega arith))
 
 -- ---- a run inside one row
-
--- the row f with vs from word a on
-abbrev pub overRow : (ℕ → ℕ) → ℕ → List ℕ → ℕ → ℕ
-overRow f a vs k = cond (ltb k a) (f k) (cond (ltb k (a + length vs)) (getD vs (k - a) 0) (f k))
 
 pub tab-run : (w : ℕ) (l ys : List ℕ) (j a : ℕ) (vs : List ℕ) → Run l (w * j + a) vs ys → a + length vs ≤ w → tab w ys ≡ upd (tab w l) j (overRow (tab w l j) a vs)
 tab-run w l ys j a vs r h = fun-ext (λ i. fun-ext (λ k. at i k (decLt k w)))

@@ -9,24 +9,25 @@ use lib.Dec.{eqb}
 use lib.ListN.{length, getD, List·getD-eq-default}
 use borrow.Author.Tests.{eqb-true, eqb-false, ltb-true}
 use Rattle.rules.specs.Layout.{SLOTS, BLOCK, DIRENTS, OPEN-FILES, PROCESSES, DESCRIPTORS, RIGHTS-SIZE, LABELS, NO-TRANSITION, BITS-MAX, LABEL-MAX}
-use Rattle.rules.specs.Layout.{FILE-KIND, FILE-OWNER, FILE-LENGTH, FILE-LINKS, OPEN-SLOT, OPEN-OFFSET, OPEN-REFERENCES, PROCESS-USED, FREE, PLAIN, DIRECTORY}
+use Rattle.rules.specs.Layout.{FILE-KIND, FILE-OWNER, FILE-LENGTH, FILE-LINKS, OPEN-SLOT, OPEN-OFFSET, OPEN-REFERENCES, PROCESS-USED, FREE, PLAIN, DIRECTORY, LINK}
 use Rattle.rules.specs.Scan.{all}
-use Rattle.rules.specs.Store.{Store, view, slot, isSlot, isPid, isFd, ofdOf, isOfd, entry, isDirent, bitsAt, subjectOf, up, plus}
+use Rattle.rules.specs.Store.{Store, view, slot, isSlot, isPid, isFd, ofdOf, isOfd, entry, isDirent, subjectOf, up, plus}
 use Rattle.rules.specs.Paths.{names, lastName}
 use Rattle.rules.specs.Rights.{TRUNCATE, owns, transition, moved}
 use Rattle.rules.specs.Directories.{isEmpty, freeDirent}
-use Rattle.rules.specs.Walk.{walkPath}
+use Rattle.rules.specs.Walk.{followPath}
 use Rattle.rules.specs.Sound.{policySound, rightSound, transitionSound}
 use Rattle.rules.specs.Calls.{Call}
 use Rattle.rules.specs.Checks.{inUse, held, ofdHeld, freeSlot, freeOfd, freeFd, freePid, slotFree, ofdFree, fdFree, pidFree, gains, loses, unnaming, releasing}
 use Rattle.rules.specs.Checks as checks
-use Rattle.rules.specs.DecidePaths.{truncated, newRecord}
+use Rattle.rules.specs.DecidePaths.{truncated, newRecord, newLink}
 use Rattle.rules.specs.Decide.{placement, asker}
 use Rattle.rules.specs.declared.ids.Slot.{Slot}
 use Rattle.rules.specs.declared.ids.Pid.{Pid}
 use Rattle.rules.specs.declared.ids.Fd.{Fd}
 use Rattle.rules.specs.declared.rights.Bits.{Bits}
 use Rattle.rules.specs.declared.decision.NewOpen.{NewOpen}
+use Rattle.rules.specs.declared.decision.NewFile.{NewFile}
 use Rattle.rules.specs.declared.decision.Output.{Output}
 use Rattle.rules.specs.declared.decision.Output.the-variants as output
 use Rattle.rules.specs.declared.decision.Effect.{Effect}
@@ -35,6 +36,7 @@ use Rattle.rules.proofs.Scans.{all-at, first-passes}
 use Rattle.preservation.specs.Claims.{EndsAt}
 use Rattle.preservation.proofs.Tests.{means-every, means-and, means-last, means-or, means-eq, means-le, means-lt, means-test}
 use Rattle.preservation.proofs.OneWord.{Held}
+use Rattle.preservation.proofs.Tables.{overRow}
 use Rattle.preservation.proofs.StoreChanges.{tablesOf, desc-past}
 use Rattle.preservation.proofs.SoundStore.{SoundStore}
 use Rattle.preservation.proofs.OpenEffects.{Caller, Opens, Holds}
@@ -47,22 +49,24 @@ abbrev pub AsksWrite : Store → Call → ℕ → Type 0
 AsksWrite s c f = (c .call ≡ 12) × ((0 < length (c .«data»)) × (view s .openFiles (ofdHeld (view s .desc) (c .process) (c .fd) .0) OPEN-SLOT ≡ f))
 
 abbrev pub AsksTruncation : List ℕ → Store → Call → ℕ → Type 0
-AsksTruncation Q s c f = (c .call ≡ 1) × ((TRUNCATE < c .number) × EndsAt (walkPath (view s .tree) Q (asker (view s) c) (c .path)) f)
+AsksTruncation Q s c f = (c .call ≡ 1) × ((TRUNCATE < c .number) × EndsAt (followPath (view s .tree) Q (asker (view s) c) (c .path)) f)
 
 module _ (Q : List ℕ) (s : Store) (h : SoundStore s) (c : Call) where
   pub data Granting : ℕ → Output → Effect → Type 0 where
     nothing : (n : ℕ) (o : Output) → Granting n o effect.Nothing
     opens : (n : NewOpen) → Opens (tablesOf s) (c .process) n → Granting (n .fd .0) output.Nothing (effect.Opened n)
     truncates : (n : NewOpen) → Opens (tablesOf s) (c .process) n → AsksTruncation Q s c (n .slot .0) → Granting (n .fd .0) output.Nothing (effect.Truncated n (truncated (view s .tree .file) (n .slot)))
-    creates : (d : Slot) (i y kind bits : ℕ) → Creates s h (lastName (names (c .path))) (subjectOf (view s .proc) (c .process)) d i (slot y) kind bits →
-        Granting y output.Nothing (effect.Created (gains (view s .tree .file) d (entry i)) (slot y) (newRecord (view s .tree .file) (subjectOf (view s .proc) (c .process)) kind (bitsAt bits) d (slot y)))
-    unlinks : (d : Slot) (i : ℕ) (y : Slot) → Names s h d i y → tablesOf s .file (y .0) FILE-KIND ≡ PLAIN →
+    creates : (d : Slot) (i y : ℕ) (new : NewFile) → Creates s h (lastName (names (c .path))) (subjectOf (view s .proc) (c .process)) d i (slot y) new (tablesOf s .byte y) →
+        Granting y output.Nothing (effect.Created (gains (view s .tree .file) d (entry i)) (slot y) (newRecord (view s .tree .file) (subjectOf (view s .proc) (c .process)) new d (slot y)))
+    symlinks : (d : Slot) (i y : ℕ) → Creates s h (lastName (names (c .path))) (subjectOf (view s .proc) (c .process)) d i (slot y) (newLink (length (c .«data»))) (overRow (tablesOf s .byte y) 0 (c .«data»)) →
+        Granting y output.Nothing (effect.Symlinked (gains (view s .tree .file) d (entry i)) (slot y) (newRecord (view s .tree .file) (subjectOf (view s .proc) (c .process)) (newLink (length (c .«data»))) d (slot y)))
+    unlinks : (d : Slot) (i : ℕ) (y : Slot) → Names s h d i y → (tablesOf s .file (y .0) FILE-KIND ≡ DIRECTORY → ⊥) →
         Granting 0 output.Nothing (effect.Unlinked (loses (view s .tree .file) d (entry i)) (unnaming (view s .tree .file) (view s .openFiles) y))
     removes : (d : Slot) (i : ℕ) (y : Slot) → Names s h d i y → tablesOf s .file (y .0) FILE-KIND ≡ DIRECTORY → tablesOf s .file (y .0) FILE-LENGTH ≡ 0 →
         Granting 0 output.Nothing (effect.Removed (loses (view s .tree .file) d (entry i)) y (checks.freed (view s .tree .file) y))
     links : (d : Slot) (i : ℕ) (y : Slot) → Naming (tablesOf s) (lastName (names (c .«data»))) d i y → y .0 < SLOTS → tablesOf s .file (y .0) FILE-KIND ≡ PLAIN →
         Granting 0 output.Nothing (effect.Linked (gains (view s .tree .file) d (entry i)) y (up (view s .tree .file (y .0) FILE-LINKS)))
-    changesBits : (y : Slot) (b : Bits) → y .0 < SLOTS → (tablesOf s .file (y .0) FILE-KIND ≡ FREE → ⊥) → b .0 ≤ BITS-MAX → owns (subjectOf (view s .proc) (c .process)) (view s .tree .file (y .0) FILE-OWNER) ≡ true → c .call ≡ 8 →
+    changesBits : (y : Slot) (b : Bits) → y .0 < SLOTS → (tablesOf s .file (y .0) FILE-KIND ≡ FREE → ⊥) → (tablesOf s .file (y .0) FILE-KIND ≡ LINK → ⊥) → b .0 ≤ BITS-MAX → owns (subjectOf (view s .proc) (c .process)) (view s .tree .file (y .0) FILE-OWNER) ≡ true → c .call ≡ 8 →
         Granting 0 output.Nothing (effect.BitsChanged y b)
     closes : (i : Fd) → Caller (tablesOf s) (c .process) → i .0 < DESCRIPTORS → Granting 0 output.Nothing (effect.Closed i (releasing (view s .tree .file) (view s .openFiles) (view s .desc) (c .process) i))
     stores : (e at : ℕ) → Held (tablesOf s) e → at + length (c .«data») ≤ BLOCK → AsksWrite s c (view s .openFiles e OPEN-SLOT) →

@@ -50,6 +50,9 @@ module _ {K : ℕ → Type 0} (f : ℕ) where
   pub kept-row : (y : ℕ) (row : ℕ → ℕ) (m : Tables) → (f ≡ y → ⊥) → Kept K f m (fileRowTo y row m)
   kept-row y row m n = record { words = λ k _. ap (λ (r : ℕ → ℕ). r k) (upd-other (m .file) y row f n); bytes = refl }
 
+  pub kept-bytes : (y : ℕ) (g : ℕ → ℕ) (m : Tables) → (f ≡ y → ⊥) → Kept K f m (bytesTo y g m)
+  kept-bytes y g m n = record { words = λ k _. refl; bytes = upd-other (m .byte) y g f n }
+
   pub kept-column : (y c v : ℕ) (m : Tables) → ((k : ℕ) → K k → k ≡ c → ⊥) → Kept K f m (fileTo y c v m)
   kept-column y c v m n = record { words = λ k u. rw (ne-eqb k c (n k u)); bytes = refl }
 

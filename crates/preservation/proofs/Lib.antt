@@ -1,8 +1,9 @@
 -- A call on a sound store leaves a sound store, and what follows from it. From the bottom up:
--- tests, sums and scans
+-- tests, sums and scans; the names of a path
 pub mod Tests
 pub mod Sums
 pub mod Scans
+pub mod PathNames
 -- the store as tables, what sound means of them, and how its counts change
 pub mod Tables
 pub mod Sound
@@ -35,7 +36,6 @@ pub mod NameEffects
 pub mod CloseEffects
 pub mod ForkEffects
 -- from a decision to what its effect owes
-pub mod PathNames
 pub mod NewName
 pub mod Reach
 pub mod Walked
@@ -52,4 +52,5 @@ pub mod OpenStays
 pub mod Unwritten
 pub mod NoWrap
 pub mod Sizes
+pub mod LinksStay
 pub mod Proved

@@ -11,7 +11,7 @@ use Rattle.preservation.proofs.Tables.{Tables, col, direntRow, fill}
 use Rattle.preservation.proofs.Sound.{All, Sound, SoundBut, Depths, openCount}
 use Rattle.preservation.proofs.Counts.{ind-eq, ind-ne}
 use Rattle.preservation.proofs.Dirents.{placed, Fits, placed-slots, placed-tree, placed-other-slot, placed-here-slot, naming-at}
-use Rattle.rules.specs.Layout.{SLOTS, DIRENTS, NAME, NAMES, FILE-KIND, FILE-LENGTH, FILE-LINKS, PLAIN, DIRECTORY, OPEN-SLOT, OPEN-REFERENCES}
+use Rattle.rules.specs.Layout.{SLOTS, DIRENTS, NAME, NAMES, FILE-KIND, FILE-LENGTH, FILE-LINKS, FREE, PLAIN, DIRECTORY, OPEN-SLOT, OPEN-REFERENCES}
 
 pub loosen : (x : ℕ) (m : Tables) → Sound m → SoundBut x m
 loosen x m h = record {
@@ -25,8 +25,8 @@ loosen x m h = record {
   procs = h .procs;
 }
 
--- slot x is a directory named once, or a plain file that is named or open
-pub tighten : (x : ℕ) (m : Tables) → SoundBut x m → (m .file x FILE-KIND ≡ DIRECTORY → (x ≡ 0 → ⊥) → m .file x FILE-LINKS ≡ 1) → (m .file x FILE-KIND ≡ PLAIN → 0 < m .file x FILE-LINKS + openCount (col (m .openFiles) OPEN-SLOT) (col (m .openFiles) OPEN-REFERENCES) x) → Sound m
+-- slot x is a directory or a link named once, or a plain file that is named or open
+pub tighten : (x : ℕ) (m : Tables) → SoundBut x m → ((m .file x FILE-KIND ≡ FREE → ⊥) → (m .file x FILE-KIND ≡ PLAIN → ⊥) → (x ≡ 0 → ⊥) → m .file x FILE-LINKS ≡ 1) → (m .file x FILE-KIND ≡ PLAIN → 0 < m .file x FILE-LINKS + openCount (col (m .openFiles) OPEN-SLOT) (col (m .openFiles) OPEN-REFERENCES) x) → Sound m
 tighten x m h a b = record {
   slots = h .slots;
   tree = h .tree;
@@ -49,14 +49,14 @@ ind-some n e = rw (ne-eqb n 0 e)
 unfoldable pub linked : (d p : ℕ) → (ℕ → ℕ) → (t y : ℕ) → Tables → Tables
 linked d p r t y m = placed d p r (m .file d FILE-LENGTH + 1) t y (m .file y FILE-LINKS + 1) m
 
--- what a new directory owes: it is empty, has no name yet, and stands at most NAMES deep
+-- what a new directory owes: it is empty, and stands at most NAMES deep
 pub record Leaf (m : Tables) (deep : ℕ) (y : ℕ) : Type 0 where
-  pub no-links : m .file y FILE-LINKS ≡ 0
   pub no-dirents : All DIRENTS (λ q. direntRow (m .byte) y q NAME ≡ 0)
   pub not-deep : deep < NAMES
 
+-- what is no plain file gets its only name
 module _ (m : Tables) (d p : ℕ) (r : ℕ → ℕ) (t y : ℕ) (h : SoundBut y m) (f : Fits m d p r t y) (e : r NAME ≡ y) (empty : direntRow (m .byte) d p NAME ≡ 0) (ne : d ≡ y → ⊥)
-    (c : Depths (col (m .file) FILE-KIND) (direntRow (m .byte))) (leaf : m .file y FILE-KIND ≡ DIRECTORY → Leaf m (c .depth d) y) where
+    (only : (m .file y FILE-KIND ≡ PLAIN → ⊥) → m .file y FILE-LINKS ≡ 0) (c : Depths (col (m .file) FILE-KIND) (direntRow (m .byte))) (leaf : m .file y FILE-KIND ≡ DIRECTORY → Leaf m (c .depth d) y) where
   linked-depths : Depths (col (m .file) FILE-KIND) (direntRow (upd (m .byte) d (fill (m .byte d) p r)))
   linked-depths = record {
     depth = upd D y (suc (D d));
@@ -73,7 +73,7 @@ module _ (m : Tables) (d p : ℕ) (r : ℕ → ℕ) (t y : ℕ) (h : SoundBut y 
 
       old : (u : ℕ) → u < SLOTS → m .file u FILE-KIND ≡ DIRECTORY → (q : ℕ) → q < DIRENTS → (direntRow (m .byte) u q NAME ≡ 0 → ⊥) → m .file (direntRow (m .byte) u q NAME) FILE-KIND ≡ DIRECTORY → upd D y (suc (D d)) (direntRow (m .byte) u q NAME) ≡ suc (upd D y (suc (D d)) u)
       old u hu ku q hq n k =
-          let a : direntRow (m .byte) u q NAME ≡ y → ⊥ = λ z. omega (arith, leaf (rw z at k) .no-links, h .tree .links y (rw z at (h .tree .dirs u hu ku .dirents q hq .slot-small)) (f .file-root), naming-at (col (m .file) FILE-KIND) (direntRow (m .byte)) u q y hu hq ku z) in
+          let a : direntRow (m .byte) u q NAME ≡ y → ⊥ = λ z. omega (arith, only (λ q. omega (arith, rw z at k, q)), h .tree .links y (rw z at (h .tree .dirs u hu ku .dirents q hq .slot-small)) (f .file-root), naming-at (col (m .file) FILE-KIND) (direntRow (m .byte)) u q y hu hq ku z) in
           let g : u ≡ y → ⊥ = λ z. n (rw (← z) at (leaf (rw z at ku) .no-dirents q hq)) in
           upd-other D y (suc (D d)) (direntRow (m .byte) u q NAME) a ∙ c .depth-step u hu ku q hq n k ∙ ap suc (sym (upd-other D y (suc (D d)) u g))
 
@@ -95,7 +95,7 @@ module _ (m : Tables) (d p : ℕ) (r : ℕ → ℕ) (t y : ℕ) (h : SoundBut y 
         (λ q w. rw w (omega (arith, ind-ne (direntRow (m .byte) d p NAME) s (λ z. n (sym z ∙ empty)), ind-ne (r NAME) s (λ z. q (sym z ∙ e))))))
         linked-depths;
     live = record {
-      once = λ i hi _ k n. split i y (λ q w. rw w (omega (arith, leaf (rw q at k) .no-links))) (λ q w. rw w (h .live .once i hi q k n));
+      once = λ i hi _ u k n. split i y (λ q w. rw w (omega (arith, only (rw q at k)))) (λ q w. rw w (h .live .once i hi q u k n));
       alive = λ i hi _ k. split i y (λ q w. rw w (omega arith)) (λ q w. rw w (h .live .alive i hi q k));
     };
     opens = h .opens;

@@ -28,7 +28,7 @@ use Rattle.preservation.proofs.StoreChanges.{tablesOf}
 use Rattle.preservation.proofs.SoundStore.{SoundStore, means-sound}
 use Rattle.preservation.proofs.OpenEffects.{held-open}
 use Rattle.preservation.proofs.ForkEffects.{Sharing, sharing-some, sharing-start, shared-held, shared-up}
-use Rattle.preservation.proofs.Granted.{Granting, nothing, opens, truncates, creates, unlinks, removes, links, changesBits, closes, stores, reads, seeks, duplicates, forks, exits, executes}
+use Rattle.preservation.proofs.Granted.{Granting, nothing, opens, truncates, creates, symlinks, unlinks, removes, links, changesBits, closes, stores, reads, seeks, duplicates, forks, exits, executes}
 use Rattle.preservation.proofs.Decided.{decide-fit}
 use Rattle.preservation.proofs.Preserved.{placed-well, caller-ranged}
 
@@ -60,11 +60,12 @@ module _ (s : Store) (h : SoundStore s) where
   sums c (nothing n o) = tt
   sums c (opens n o) = up-is (n .ofd .0) (omega (arith, o .ofd-small))
   sums c (truncates n o a) = up-is (n .ofd .0) (omega (arith, o .ofd-small))
-  sums c (creates d i y kind bits o) = length-goes-up (d .0) (o .naming .fits .dir-small)
+  sums c (creates d i y new o) = length-goes-up (d .0) (o .naming .fits .dir-small)
+  sums c (symlinks d i y o) = length-goes-up (d .0) (o .naming .fits .dir-small)
   sums c (unlinks d i y n k) = tt
   sums c (removes d i y n k l) = tt
   sums c (links d i y n hy k) = (length-goes-up (d .0) (n .fits .dir-small), links-go-up (y .0) hy)
-  sums c (changesBits y b hy k l o a) = tt
+  sums c (changesBits y b hy k n l o a) = tt
   sums c (closes i u hi) = tt
   sums c (stores e at o l a) = let w = placed-well s h c e at o l in (w .offset-is, w .length-is)
   sums c (reads e n o l) = plus-is (view s .openFiles e OPEN-OFFSET) n (unfold tablesOf in (omega (arith, l)))

@@ -2,12 +2,12 @@
 use mathlib.Core.Path.{_≡_}
 use Prim.Native.Nat.{ℕ, _+_, _≤_, _<_}
 use native.Mathlib.Omega.{arith}
-use Rattle.preservation.proofs.Tests.{upd2-elim}
+use Rattle.preservation.proofs.Tests.{split, upd2-elim}
 use Rattle.preservation.proofs.Tables.{Tables, col, fileTo, openTo}
 use Rattle.preservation.proofs.Sound.{SoundBut, OpenFile}
 use Rattle.preservation.proofs.Rows.{bits-to, offset-to}
 use Rattle.preservation.proofs.Counts.{holders-at}
-use Rattle.rules.specs.Layout.{BLOCK, OPEN-FILES, PROCESSES, DESCRIPTORS, FILE-KIND, FILE-BITS, FREE, OPEN-OFFSET, OPEN-REFERENCES, BITS-MAX}
+use Rattle.rules.specs.Layout.{BLOCK, OPEN-FILES, PROCESSES, DESCRIPTORS, FILE-KIND, FILE-BITS, FREE, LINK, OPEN-OFFSET, OPEN-REFERENCES, BITS-MAX}
 
 -- the open file that a descriptor holds is in use
 pub record Held (m : Tables) (e : ℕ) : Type 0 where
@@ -35,13 +35,14 @@ seek-sound x m h e v o l = record {
 
 -- ---- change bits
 
-pub bits-sound : (x : ℕ) (m : Tables) → SoundBut x m → (s v : ℕ) → (m .file s FILE-KIND ≡ FREE → ⊥) → v ≤ BITS-MAX → SoundBut x (fileTo s FILE-BITS v m)
-bits-sound x m h s v u l = record {
+pub bits-sound : (x : ℕ) (m : Tables) → SoundBut x m → (s v : ℕ) → (m .file s FILE-KIND ≡ FREE → ⊥) → (m .file s FILE-KIND ≡ LINK → ⊥) → v ≤ BITS-MAX → SoundBut x (fileTo s FILE-BITS v m)
+bits-sound x m h s v u n l = record {
   slots = record {
     files = bits-to (m .file) (h .slots .files) s v u l;
     root-kind = h .slots .root-kind;
     root-links = h .slots .root-links;
     blocks = h .slots .blocks;
+    texts = λ i hi k. split i s (λ q _. absurd (n (rw q at k))) (λ _ e. rw e (h .slots .texts i hi k));
   };
   tree = h .tree;
   live = h .live;

@@ -113,12 +113,12 @@ module _ (m : Tables) (h : Sound m) (p k e : ℕ) (hp : p < PROCESSES) (hk : k <
   -- the file has a name
   pub close-named : m .openFiles e OPEN-REFERENCES ≡ 1 → 0 < m .file (m .openFiles e OPEN-SLOT) FILE-LINKS → Sound (handed p k 0 e (λ _. 0) m)
   close-named q l = tighten (m .openFiles e OPEN-SLOT) (handed p k 0 e (λ _. 0) m) (last q)
-      (unfold handed in (λ z. absurd (omega (arith, z, slot-plain)))) (unfold handed in (λ _. omega arith))
+      (unfold handed in (λ _ n. absurd (n slot-plain))) (unfold handed in (λ _. omega arith))
 
   -- the file has another open file i
   pub close-open : m .openFiles e OPEN-REFERENCES ≡ 1 → (i : ℕ) → i < OPEN-FILES → (i ≡ e → ⊥) → (m .openFiles i OPEN-REFERENCES ≡ 0 → ⊥) → m .openFiles i OPEN-SLOT ≡ m .openFiles e OPEN-SLOT → Sound (handed p k 0 e (λ _. 0) m)
   close-open q i hi n r s = tighten (m .openFiles e OPEN-SLOT) (handed p k 0 e (λ _. 0) m) (last q)
-      (unfold handed in (λ z. absurd (omega (arith, z, slot-plain)))) (unfold handed in (λ _. omega (arith, other)))
+      (unfold handed in (λ _ n. absurd (n slot-plain))) (unfold handed in (λ _. omega (arith, other)))
     where
       other : 0 < openCount (col (upd (m .openFiles) e (λ _. 0)) OPEN-SLOT) (col (upd (m .openFiles) e (λ _. 0)) OPEN-REFERENCES) (m .openFiles e OPEN-SLOT)
       other = openCount-at (col (upd (m .openFiles) e (λ _. 0)) OPEN-SLOT) (col (upd (m .openFiles) e (λ _. 0)) OPEN-REFERENCES) i (m .openFiles e OPEN-SLOT) hi (rw (ne-eqb i e n) s) (rw (ne-eqb i e n) r)

@@ -9,7 +9,7 @@ use lib.Dec.{ltb}
 use lib.ListN.{length, getD}
 use borrow.Author.Tests.{eq-eqb, lt-ltb, le-ltb}
 use Rattle.rules.specs.Layout.{SLOTS, BLOCK, OPEN-FILES, PROCESSES, DESCRIPTORS, BITS-MAX, LABEL-MAX, MODE-MAX}
-use Rattle.rules.specs.Layout.{FILE-KIND, FILE-BITS, FILE-LENGTH, FILE-VERSION, OPEN-SLOT, OPEN-OFFSET, OPEN-REFERENCES, PROCESS-USED, PROCESS-LABEL, FREE, PLAIN}
+use Rattle.rules.specs.Layout.{FILE-KIND, FILE-BITS, FILE-LENGTH, FILE-VERSION, OPEN-SLOT, OPEN-OFFSET, OPEN-REFERENCES, PROCESS-USED, PROCESS-LABEL, FREE, PLAIN, LINK}
 use Rattle.rules.specs.Store as rules
 use Rattle.rules.specs.Store.{Store, change, view, ofdOf, up, zeros, applyAll, fileWord, openWord, procWord}
 use Rattle.rules.specs.DecidePaths.{truncated}
@@ -21,7 +21,7 @@ use Rattle.rules.specs.declared.decision.NewOpen.{NewOpen}
 use Rattle.rules.specs.declared.decision.Placement.{Placement}
 use Rattle.rules.proofs.Lists.{length-zeros}
 use Rattle.preservation.proofs.Tests.{upd}
-use Rattle.preservation.proofs.Tables.{Tables, fileTo, bytesTo, openTo, procTo}
+use Rattle.preservation.proofs.Tables.{Tables, overRow, fileTo, bytesTo, openTo, procTo}
 use Rattle.preservation.proofs.Sound.{Sound}
 use Rattle.preservation.proofs.Words.{up-is, up-most, references-most}
 use Rattle.preservation.proofs.OneWord.{held, Held, seek-sound, bits-sound}
@@ -29,7 +29,7 @@ use Rattle.preservation.proofs.Remake.{remade}
 use Rattle.preservation.proofs.Plain.{wrote, wrote-sound, cutRow, truncated-sound}
 use Rattle.preservation.proofs.Open.{openRow, handed, open-sound}
 use Rattle.preservation.proofs.Processes.{shared, shared-sound, execute-sound}
-use Rattle.preservation.proofs.FlatList.{overRow, upd-twice, getD-zeros}
+use Rattle.preservation.proofs.FlatList.{upd-twice, getD-zeros}
 use Rattle.preservation.proofs.StoreChanges.{tablesOf, Has, has-fileWord, has-clearTo, has-bytesTo, has-openWord, has-openRow, has-openTo, has-descTo, has-procWord}
 use Rattle.preservation.proofs.SoundStore.{SoundStore, kept}
 
@@ -125,11 +125,11 @@ duplicate-leaves s h p i j e o hj f = record {
 
 -- ---- change bits
 
-pub bits-leaves : (s : Store) → SoundStore s → (i v : ℕ) → i < SLOTS → (tablesOf s .file i FILE-KIND ≡ FREE → ⊥) → v ≤ BITS-MAX → Leaves (applyAll (fileWord i FILE-BITS v ∷ []) s) (fileTo i FILE-BITS v (tablesOf s))
+pub bits-leaves : (s : Store) → SoundStore s → (i v : ℕ) → i < SLOTS → (tablesOf s .file i FILE-KIND ≡ FREE → ⊥) → (tablesOf s .file i FILE-KIND ≡ LINK → ⊥) → v ≤ BITS-MAX → Leaves (applyAll (fileWord i FILE-BITS v ∷ []) s) (fileTo i FILE-BITS v (tablesOf s))
 unfolding applyAll
-bits-leaves s h i v hi u l = record {
+bits-leaves s h i v hi u n l = record {
   has = has-fileWord (its-tables s h) i FILE-BITS v hi (omega arith);
-  sound = bits-sound SLOTS (tablesOf s) (h .tables) i v u l;
+  sound = bits-sound SLOTS (tablesOf s) (h .tables) i v u n l;
 }
 
 -- ---- execute

@@ -10,10 +10,10 @@ use Rattle.rules.specs.Store.{Store, Fixed, view, slot, ofdOf, applyAll, block,
 use Rattle.rules.specs.Refusals.{GRANTED, refusalNumber}
 use Rattle.rules.specs.Sound.{sound}
 use Rattle.rules.specs.Calls.{Call, operationOf, operation}
-use Rattle.rules.specs.Effects.{createChanges, nameChanges, carryOut}
+use Rattle.rules.specs.Effects.{createChanges, symlinkChanges, nameChanges, carryOut}
 use Rattle.rules.specs.Step.{replyTo, storeAfter, outcomeOf, act, step}
 use Rattle.rules.specs.declared.refusal.Refusal.{Refusal}
-use Rattle.rules.specs.declared.refusal.Refusal.the-variants.{Unsound, NoProcess, Malformed, NotHeld, WrongDirection, NameMissing, NotADirectory, WrongKind, BitsForbid, LabelForbids, NameThere, NotEmpty, TableFull, TooLong}
+use Rattle.rules.specs.declared.refusal.Refusal.the-variants.{Unsound, NoProcess, Malformed, NotHeld, WrongDirection, NameMissing, NotADirectory, WrongKind, BitsForbid, LabelForbids, NameThere, NotEmpty, TableFull, TooLong, TooDeep}
 use Rattle.rules.specs.declared.request.Operation.{Operation}
 use Rattle.rules.specs.declared.request.Operation.the-variants as op
 use Rattle.rules.specs.declared.decision.DirChange.{DirChange}
@@ -60,19 +60,28 @@ on-plain m h f o = rw (o .on) at (h .opens .open-files (o .ofd) (o .small) .plai
 pub open-plain : (s : Store) → SoundStore s → (f : ℕ) → IsOpen s f → tablesOf s .file f FILE-KIND ≡ PLAIN
 open-plain s h f t = on-plain (tablesOf s) (h .tables) f (on-file s f t)
 
--- ---- what a create gives out was free
+-- ---- what a call gives out was free
 
 module _ (Q : List ℕ) (s : Store) (h : SoundStore s) (c : Call) (f : ℕ) where
   -- a create changes no open file, so f was open and plain before; what it gives out was free
   not-made : {o : Operation} {kind n : ℕ} {out : Output} {e : Effect} → Makes Q (view s) c o kind → Passed Q (view s) c o n out e → IsOpen (carryOut c e s) f → n ≡ f → ⊥
   unfolding carryOut createChanges nameChanges applyAll
-  not-made passed.plain (passed.creates _ k at b i q m t) o z = omega (arith, open-plain s h f o, rw z at (slot-free s h t))
-  not-made passed.directory (passed.creates _ k at b i q m t) o z = omega (arith, open-plain s h f o, rw z at (slot-free s h t))
+  not-made passed.plain (passed.creates _ k at b i q m d t) o z = omega (arith, open-plain s h f o, rw z at (slot-free s h t))
+  not-made passed.directory (passed.creates _ k at b i q m d t) o z = omega (arith, open-plain s h f o, rw z at (slot-free s h t))
 
-  not-created : {n : ℕ} {out : Output} {e : Effect} → (c .call ≡ 2) ⊎ (c .call ≡ 3) → Passed Q (view s) c (operation c) n out e → IsOpen (carryOut c e s) f → n ≡ f → ⊥
+  makes-no-link : (kind : ℕ) → Makes Q (view s) c op.Symlink kind → ⊥
+  makes-no-link kind = elim [ ]
+
+  not-linked : {n : ℕ} {out : Output} {e : Effect} → Passed Q (view s) c op.Symlink n out e → IsOpen (carryOut c e s) f → n ≡ f → ⊥
+  unfolding carryOut symlinkChanges nameChanges applyAll
+  not-linked (passed.symlinks at m t) o z = omega (arith, open-plain s h f o, rw z at (slot-free s h t))
+  not-linked (passed.creates _ kind at b i q m d t) o z = absurd (makes-no-link kind i)
+
+  not-created : {n : ℕ} {out : Output} {e : Effect} → (c .call ≡ 2) ⊎ ((c .call ≡ 3) ⊎ (c .call ≡ 18)) → Passed Q (view s) c (operation c) n out e → IsOpen (carryOut c e s) f → n ≡ f → ⊥
   unfolding operationOf
   not-created {n} {out} {e} (inl q) p = not-made passed.plain (subst (λ (k : ℕ). Passed Q (view s) c (operationOf k) n out e) q p)
-  not-created {n} {out} {e} (inr q) p = not-made passed.directory (subst (λ (k : ℕ). Passed Q (view s) c (operationOf k) n out e) q p)
+  not-created {n} {out} {e} (inr (inl q)) p = not-made passed.directory (subst (λ (k : ℕ). Passed Q (view s) c (operationOf k) n out e) q p)
+  not-created {n} {out} {e} (inr (inr q)) p = not-linked (subst (λ (k : ℕ). Passed Q (view s) c (operationOf k) n out e) q p)
 
 refusal-some : (r : Refusal) → refusalNumber r ≡ GRANTED → ⊥
 unfolding refusalNumber
@@ -90,8 +99,9 @@ refusal-some NameThere e = omega arith
 refusal-some NotEmpty e = omega arith
 refusal-some TableFull e = omega arith
 refusal-some TooLong e = omega arith
+refusal-some TooDeep e = omega arith
 
-not-given : (Q : List ℕ) (s : Store) → SoundStore s → (c : Call) (f : ℕ) → (c .call ≡ 2) ⊎ (c .call ≡ 3) → {d : Decision} → Fit (Permit Q (view s) c) d → IsOpen (storeAfter s c d) f → replyTo s c d .refusal ≡ GRANTED → replyTo s c d .value ≡ f → ⊥
+not-given : (Q : List ℕ) (s : Store) → SoundStore s → (c : Call) (f : ℕ) → (c .call ≡ 2) ⊎ ((c .call ≡ 3) ⊎ (c .call ≡ 18)) → {d : Decision} → Fit (Permit Q (view s) c) d → IsOpen (storeAfter s c d) f → replyTo s c d .refusal ≡ GRANTED → replyTo s c d .value ≡ f → ⊥
 unfolding storeAfter replyTo
 not-given Q s h c f k (granting n o e p) t g q = not-created Q s h c f k (p .passed) t q
 not-given Q s h c f k (refusing r j) t g q = refusal-some r g
@@ -142,7 +152,7 @@ module _ (Q : List ℕ) (s : Store) (h : SoundStore s) (c : Call) (f : ℕ) (o :
 
   unlink-passed : {n : ℕ} {out : Output} {e : Effect} → Passed Q (view s) c op.Unlink n out e → Granting Q s h c n out e → Unlinked s (carryOut c e s) f
   unlink-passed (passed.unlinks at w p r) g = unlink-same _ _ g
-  unlink-passed (passed.creates _ kind at b i q m t) g = absurd (makes-not kind i)
+  unlink-passed (passed.creates _ kind at b i q m d t) g = absurd (makes-not kind i)
 
   unlink-call : {n : ℕ} {out : Output} {e : Effect} → c .call ≡ 4 → Passed Q (view s) c (operation c) n out e → Granting Q s h c n out e → Unlinked s (carryOut c e s) f
   unfolding operationOf

@@ -1,4 +1,4 @@
--- The names of a well formed path: at most 8, each of 1 to 14 bytes other than 0 and slash, and neither "." nor "..".
+-- The names of a well formed path: each of 1 to 14 bytes other than 0 and slash, and neither "." nor ".."; and its size.
 use mathlib.Core.Path.{_≡_, refl, sym, _∙_}
 use mathlib.Core.Bool.{Bool, true, false, cond, not, false≢true}
 use mathlib.Core.List.{List, [], _∷_}
@@ -9,7 +9,7 @@ use lib.Dec.{eqb, leb}
 use lib.ListN.{length, getD, take, drop, length-drop}
 use lib.Seq.{length-take-le, getD-take, getD-drop}
 use borrow.Author.Tests.{eqb-true, eq-eqb}
-use Rattle.rules.specs.Layout.{NAME, NAMES, SLASH}
+use Rattle.rules.specs.Layout.{NAME, NAMES, SLASH, PATH}
 use Rattle.rules.specs.Choice.{every}
 use Rattle.rules.specs.Paths.{Name, isSlash, notSlash, notZero, span, skip, nextName, nameEnd, firstNames, names, isDots, nameOk, namesOk, noZero, sizeOk, shapeOk, endOk, namesFit, pathOk, isRoot, lastName}
 use Rattle.rules.specs.Calls.{pathBelowRoot}
@@ -105,16 +105,21 @@ good-names (n ∷ ns) b e = by (every (leb (length n) NAME ∷ not (isDots n) �
         (record { bytes = b .0; length-most = w .0; not-dots = w .1 }, rest r)
     by false q r rest = absurd (false≢true r)
 
-pub record GoodPath (p : List ℕ) : Type 0 where
-  pub good : Each GoodName (names p)
-  pub short : length (names p) ≤ NAMES
+abbrev pub GoodPath : List ℕ → Type 0
+GoodPath p = Each GoodName (names p)
 
 pub path-good : (p : List ℕ) → pathOk p ≡ true → GoodPath p
 unfolding pathOk shapeOk namesFit
 path-good p e =
     let w = means-every (means-and (means-every (means-and (means-test (sizeOk p)) (means-and (means-test (isSlash (getD p 0 0))) (means-last (means-test (noZero p))))))
     (means-and (means-every (means-and (means-le (length (names p)) NAMES) (means-last (means-test (namesOk (names p)))))) (means-last (means-test (endOk p))))) .holds e in
-    record { good = good-names (names p) (first-good (NAMES + 1) p (clean-path p (w .0 .1 .1))) (w .1 .0 .1); short = w .1 .0 .0 }
+    good-names (names p) (first-good (NAMES + 1) p (clean-path p (w .0 .1 .1))) (w .1 .0 .1)
+
+pub path-size : (p : List ℕ) → pathOk p ≡ true → length p ≤ PATH
+unfolding pathOk shapeOk sizeOk
+path-size p e =
+    means-every (means-and (means-every (means-and (means-every (means-and (means-le 1 (length p)) (means-last (means-le (length p) PATH)))) (means-and (means-test (isSlash (getD p 0 0))) (means-last (means-test (noZero p))))))
+    (means-and (means-test (namesFit (names p))) (means-last (means-test (endOk p))))) .holds e .0 .0 .1
 
 pub below-root : (p : List ℕ) → pathBelowRoot p ≡ true → GoodPath p × (0 < length (names p))
 unfolding pathBelowRoot isRoot
@@ -132,4 +137,4 @@ each-at P (n ∷ ns) zero h e = e .0
 each-at P (n ∷ ns) (suc k) h e = each-at P ns k (omega arith) (e .1)
 
 pub last-good : (p : List ℕ) → GoodPath p → 0 < length (names p) → GoodName (lastName (names p))
-last-good p g h = each-at GoodName (names p) (length (names p) - 1) (omega arith) (g .good)
+last-good p g h = each-at GoodName (names p) (length (names p) - 1) (omega arith) g

@@ -25,6 +25,7 @@ wrote-sound x m h s g z t k hz g0 ht = record {
     blocks = λ i hi. split i s
         (λ q e. rw e (record { length-most = λ _. hz; past-zero = λ _. g0; tail-zero = λ a. absurd (plain i q a) }))
         (λ q e. rw e (h .slots .blocks i hi));
+    texts = λ i hi a. split i s (λ q e. absurd (omega (arith, rw q at a))) (λ q e. rw e (h .slots .texts i hi a));
   };
   tree = record {
     dirs = λ i hi a. rw (ne-eqb i s (λ q. plain i q a)) (h .tree .dirs i hi a);

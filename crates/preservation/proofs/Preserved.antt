@@ -5,7 +5,7 @@ use mathlib.Core.List.{List}
 use Prim.Native.Nat.{ℕ, _+_, _-_, _≤_, _<_, max}
 use native.Mathlib.Omega.{arith}
 use lib.ListN.{length}
-use Rattle.rules.specs.Layout.{BLOCK, PROCESSES, FILE-LENGTH, OPEN-SLOT, OPEN-OFFSET, PROCESS-USED, PROCESS-USER, PROCESS-LABEL, USER-MAX, LABEL-MAX}
+use Rattle.rules.specs.Layout.{BLOCK, PROCESSES, FILE-LENGTH, OPEN-SLOT, OPEN-OFFSET, PROCESS-USED}
 use Rattle.rules.specs.Store.{Store, Fixed, view, slot, ofdOf, subjectOf, applyAll, plus}
 use Rattle.rules.specs.Sound.{sound}
 use Rattle.rules.specs.Calls.{Call}
@@ -23,11 +23,11 @@ use Rattle.preservation.proofs.Words.{plus-is}
 use Rattle.preservation.proofs.StoreChanges.{tablesOf}
 use Rattle.preservation.proofs.SoundStore.{SoundStore, means-sound}
 use Rattle.preservation.proofs.OpenEffects.{Caller, Writes, leaves-sound, open-leaves, truncate-leaves, move-leaves, duplicate-leaves, bits-leaves, execute-leaves, write-leaves}
-use Rattle.preservation.proofs.NameEffects.{link-leaves, create-leaves, unlink-leaves, unnaming-is, remove-leaves}
+use Rattle.preservation.proofs.NameEffects.{link-leaves, create-leaves, symlink-leaves, unlink-leaves, unnaming-is, remove-leaves}
 use Rattle.preservation.proofs.CloseEffects.{close-leaves, releasing-is, exit-leaves}
 use Rattle.preservation.proofs.Processes.{Ranged}
 use Rattle.preservation.proofs.ForkEffects.{Forks, fork-leaves}
-use Rattle.preservation.proofs.Granted.{Granting, nothing, opens, truncates, creates, unlinks, removes, links, changesBits, closes, stores, reads, seeks, duplicates, forks, exits, executes}
+use Rattle.preservation.proofs.Granted.{Granting, nothing, opens, truncates, creates, symlinks, unlinks, removes, links, changesBits, closes, stores, reads, seeks, duplicates, forks, exits, executes}
 use Rattle.preservation.proofs.Decided.{decide-fit}
 
 -- what holds of the store, and of what the effect of a granted call leaves, holds of what the call leaves
@@ -67,11 +67,12 @@ module _ (s : Store) (h : SoundStore s) (c : Call) where
   effect-keeps (nothing n o) = h
   effect-keeps (opens n o) = leaves-sound (open-leaves s h (c .process) n o)
   effect-keeps (truncates n o a) = leaves-sound (truncate-leaves s h (c .process) n o)
-  effect-keeps (creates d i y kind bits o) = leaves-sound (create-leaves s h _ (subjectOf (view s .proc) (c .process)) d i (slot y) kind bits o)
+  effect-keeps (creates d i y new o) = leaves-sound (create-leaves s h _ (subjectOf (view s .proc) (c .process)) d i (slot y) new o)
+  effect-keeps (symlinks d i y o) = leaves-sound (symlink-leaves s h _ (subjectOf (view s .proc) (c .process)) d i (slot y) (c .«data») o)
   effect-keeps (unlinks d i y n k) = leaves-sound (unlink-leaves s h d i y n k (unnaming-is s h y))
   effect-keeps (removes d i y n k l) = leaves-sound (remove-leaves s h d i y n k l)
   effect-keeps (links d i y n hy k) = leaves-sound (link-leaves s h _ d i y n hy k)
-  effect-keeps (changesBits y b hy k l o a) = leaves-sound (bits-leaves s h (y .0) (b .0) hy k l)
+  effect-keeps (changesBits y b hy k n l o a) = leaves-sound (bits-leaves s h (y .0) (b .0) hy k n l)
   effect-keeps (closes i u hi) = close-leaves s h (c .process) i (u .small) hi (u .used) (releasing-is s h (c .process) i (u .small) hi) .sound
   effect-keeps (stores e at o l a) = leaves-sound (write-leaves s h (c .«data») _ (placed-well e at o l))
   effect-keeps (reads e n o l) = leaves-sound (move-leaves s h e _ o (read-fits e n l))

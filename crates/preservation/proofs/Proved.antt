@@ -11,6 +11,7 @@ use Rattle.preservation.proofs.OpenStays.{open-plain, open-stays, unlin
 use Rattle.preservation.proofs.Unwritten.{changed-by-write, open-unwritten}
 use Rattle.preservation.proofs.NoWrap.{length-goes-up, links-go-up, references-go-up, offset-goes-on, granted-sums}
 use Rattle.preservation.proofs.Sizes.{other-size}
+use Rattle.preservation.proofs.LinksStay.{link-stays}
 
 pub claims : Claims
 claims = record {
@@ -35,4 +36,5 @@ claims = record {
   granted-sums = granted-sums;
   other-size-refused = other-size;
   unused-unseen = unused-unseen;
+  link-stays = link-stays;
 }

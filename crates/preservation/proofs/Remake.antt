@@ -1,16 +1,17 @@
 -- A slot that no entry names and no open file is on gets another record and other bytes: a new file before it has its name, and a freed slot.
 use mathlib.Core.Path.{_≡_, refl, sym, ap, _∙_}
 use mathlib.Core.Bool.{Bool, true, false, _&&_}
-use Prim.Native.Nat.{ℕ, _+_, _-_, _*_, _<_}
+use Prim.Native.Nat.{ℕ, _+_, _-_, _*_, _≤_, _<_}
 use native.Mathlib.Omega.{arith}
+use native.Mathlib.Decide.{ℕ-discrete}
 use lib.Dec.{eqb, ltb}
-use borrow.Author.Tests.{eqb-true, eq-eqb, ne-eqb, lt-ltb}
+use borrow.Author.Tests.{eqb-true, eq-eqb, ne-eqb, lt-ltb, le-ltb}
 use Rattle.preservation.proofs.Tests.{split, upd, upd-other}
-use Rattle.preservation.proofs.Sums.{ind, sum2-same, sum-at}
+use Rattle.preservation.proofs.Sums.{ind, sum2-same, sum-at, sum-none}
 use Rattle.preservation.proofs.Tables.{Tables, col, direntRow, rowsOf}
-use Rattle.preservation.proofs.Sound.{All, SoundBut, File, Block, Directory, Depths, OpenFile, naming, linkCount, openCount}
+use Rattle.preservation.proofs.Sound.{All, SoundBut, File, Block, Symlink, Directory, Depths, OpenFile, naming, linkCount, openCount}
 use Rattle.preservation.proofs.Dirents.{naming-at, used-none}
-use Rattle.rules.specs.Layout.{SLOTS, DIRENTS, DIRENT-WIDTH, OPEN-FILES, NAME, FILE-KIND, FILE-LENGTH, FILE-LINKS, DIRECTORY, OPEN-SLOT, OPEN-REFERENCES}
+use Rattle.rules.specs.Layout.{SLOTS, DIRENTS, DIRENT-WIDTH, OPEN-FILES, NAME, FILE-KIND, FILE-BITS, FILE-LENGTH, FILE-LINKS, DIRECTORY, LINK, OPEN-SLOT, OPEN-REFERENCES}
 
 -- ---- a group over other columns
 
@@ -65,6 +66,14 @@ openCount-at slot refs e s he q n =
     let a : ind (eqb (slot e) s && ltb 0 (refs e)) ≡ 1 = rw (eq-eqb (slot e) s q, lt-ltb 0 (refs e) (omega arith)) in
     omega (arith, sum-at OPEN-FILES (λ i. ind (eqb (slot i) s && ltb 0 (refs i))) e he)
 
+pub openCount-none : (slot refs : ℕ → ℕ) (s : ℕ) → All OPEN-FILES (λ e. (refs e ≡ 0 → ⊥) → slot e ≡ s → ⊥) → openCount slot refs s ≡ 0
+unfolding openCount
+openCount-none slot refs s h = sum-none OPEN-FILES (λ e. ind (eqb (slot e) s && ltb 0 (refs e))) (λ e he. rw (and-false (eqb (slot e) s) (ltb 0 (refs e)) (λ t. le-ltb 0 (refs e) (closed e he (eqb-true (slot e) s t) (ℕ-discrete (refs e) 0)))))
+  where
+    closed : (e : ℕ) → e < OPEN-FILES → slot e ≡ s → Dec (refs e ≡ 0) → refs e ≤ 0
+    closed e he q (yes z) = omega arith
+    closed e he q (no n) = absurd (h e he n q)
+
 -- ---- the change
 
 unfoldable pub remade : ℕ → (row g : ℕ → ℕ) → Tables → Tables
@@ -82,6 +91,7 @@ pub record Bare (m : Tables) (y : ℕ) : Type 0 where
 pub record Fresh (row g : ℕ → ℕ) : Type 0 where
   pub file-row : File row
   pub block-row : Block (row FILE-KIND) (row FILE-LENGTH) g
+  pub link-row : row FILE-KIND ≡ LINK → Symlink (row FILE-BITS) (row FILE-LENGTH) g
   pub links-row : row FILE-LINKS ≡ 0
   pub empty-length : row FILE-KIND ≡ DIRECTORY → row FILE-LENGTH ≡ 0
   pub empty-bytes : row FILE-KIND ≡ DIRECTORY → (b : ℕ) → b < DIRENTS * DIRENT-WIDTH → g b ≡ 0
@@ -127,6 +137,7 @@ module _ (m : Tables) (y : ℕ) (row g : ℕ → ℕ) (h : SoundBut y m) (a : Ba
       root-kind = rw (ne-eqb 0 y (λ q. a .not-root (sym q))) (h .slots .root-kind);
       root-links = rw (ne-eqb 0 y (λ q. a .not-root (sym q))) (h .slots .root-links);
       blocks = λ i hi. split i y (λ q t. rw t (n .block-row)) (λ q t. rw t (h .slots .blocks i hi));
+      texts = λ i hi. split i y (λ q t. rw t (n .link-row)) (λ q t. rw t (h .slots .texts i hi));
     };
     tree = record {
       dirs = λ i hi. split i y

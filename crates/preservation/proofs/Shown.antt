@@ -6,8 +6,8 @@ use Prim.Native.Nat.{ℕ, zero, suc, _+_, _-_, _*_, _≤_, _<_}
 use native.Mathlib.Omega.{arith}
 use native.Mathlib.Decide.{decLt}
 use lib.Dec.{eqb, ltb}
-use lib.ListN.{length, getD, drop, length-drop, List·getD-eq-default}
-use lib.Seq.{length-take-le, getD-take, getD-drop}
+use lib.ListN.{length, getD, take, drop, length-drop, List·getD-eq-default}
+use lib.Seq.{length-take-le, getD-take, getD-drop, ext-getD}
 use borrow.Author.Tests.{eqb-true, eq-eqb, ne-eqb}
 use Rattle.rules.specs.Layout.{SLOTS, BLOCK, DIRENT-WIDTH, NAME, POINT, FILE-WIDTH, FILE-KIND, FILE-LENGTH, FREE, PLAIN}
 use Rattle.rules.specs.Choice.{every, some}
@@ -33,6 +33,13 @@ module _ (C : List ℕ) (z : length C ≡ SLOTS * BLOCK) (d : ℕ) (h : d < SLOT
       at : Dec (k < BLOCK) → getD (block C d) k 0 ≡ tab BLOCK C d k
       at (yes l) = getD-take BLOCK (drop (BLOCK * d) C) k 0 l ∙ getD-drop (BLOCK * d) C k 0 ∙ sym (tab-in BLOCK C d k l)
       at (no l) = List·getD-eq-default (block C d) 0 (omega (arith, block-length)) ∙ sym (tab-out BLOCK C d k (omega arith))
+
+  -- a text that its first n bytes spell
+  pub block-text : (n : ℕ) (text : List ℕ) → length text ≡ n → n ≤ BLOCK → ((b : ℕ) → b < n → getD text b 0 ≡ tab BLOCK C d b) → take n (block C d) ≡ text
+  block-text n text e l same = ext-getD 0 (take n (block C d)) text (size ∙ sym e) (λ b hb. getD-take n (block C d) b 0 (rw size at hb) ∙ block-byte b ∙ sym (same b (rw size at hb)))
+    where
+      size : length (take n (block C d)) ≡ n
+      size = length-take-le n (block C d) (rw block-length l)
 
 pub shown-whole : (F C : List ℕ) (d : ℕ) → (tab FILE-WIDTH F d FILE-KIND ≡ PLAIN → ⊥) → shownOf F C d ≡ block C d
 unfolding shownOf hidden

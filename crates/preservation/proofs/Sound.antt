@@ -3,14 +3,15 @@
 use mathlib.Core.Path.{_≡_}
 use mathlib.Core.Bool.{Bool, true, not, cond, _&&_}
 use Prim.Native.Nat.{ℕ, zero, suc, _+_, _*_, _≤_, _<_}
-use mathlib.Core.List.{[], _∷_}
-use lib.ListN.{getD}
+use mathlib.Core.List.{List, [], _∷_}
+use lib.ListN.{length, getD}
 use lib.Dec.{eqb, ltb}
 use Rattle.rules.specs.Choice.{every, some, implies}
 use Rattle.rules.specs.Scan.{all, first}
 use Rattle.rules.specs.Layout.{SLOTS, BLOCK, DIRENT-WIDTH, DIRENTS, OPEN-FILES, PROCESSES, DESCRIPTORS, NAME, NAMES, SLASH, POINT, FILE-GROUP, PROCESS-GROUP, GROUP-MAX}
-use Rattle.rules.specs.Layout.{FILE-KIND, FILE-OWNER, FILE-BITS, FILE-LABEL, FILE-LENGTH, FILE-LINKS, FILE-VERSION, OPEN-SLOT, OPEN-MODE, OPEN-OFFSET, OPEN-REFERENCES, PROCESS-USED, PROCESS-USER, PROCESS-LABEL, FREE, PLAIN, DIRECTORY}
+use Rattle.rules.specs.Layout.{FILE-KIND, FILE-OWNER, FILE-BITS, FILE-LABEL, FILE-LENGTH, FILE-LINKS, FILE-VERSION, OPEN-SLOT, OPEN-MODE, OPEN-OFFSET, OPEN-REFERENCES, PROCESS-USED, PROCESS-USER, PROCESS-LABEL, FREE, PLAIN, DIRECTORY, LINK}
 use Rattle.rules.specs.Layout.{KIND-MAX, USER-MAX, BITS-MAX, LABEL-MAX, MODE-MAX, WORD-MAX}
+use Rattle.rules.specs.Paths.{pathOk}
 use Rattle.preservation.proofs.Sums.{count, count2}
 use Rattle.preservation.proofs.Tables.{Tables, col, direntRow}
 
@@ -33,12 +34,21 @@ pub record File (row : ℕ → ℕ) : Type 0 where
   pub length-zero : row FILE-KIND ≡ FREE → row FILE-LENGTH ≡ 0
   pub links-zero : row FILE-KIND ≡ FREE → row FILE-LINKS ≡ 0
 
--- ---- lengths of plain files, and the zero bytes: past a plain file's length, of a free slot, and past a directory's entries
+-- ---- lengths of plain files and links, and the zero bytes: past their length, of a free slot, and past a directory's entries
 
 pub record Block (kind length : ℕ) (bytes : ℕ → ℕ) : Type 0 where
   pub length-most : (kind ≡ DIRECTORY → ⊥) → length ≤ BLOCK
   pub past-zero : (kind ≡ DIRECTORY → ⊥) → All BLOCK (λ b. length ≤ b → bytes b ≡ 0)
   pub tail-zero : kind ≡ DIRECTORY → All BLOCK (λ b. DIRENTS * DIRENT-WIDTH ≤ b → bytes b ≡ 0)
+
+-- ---- a symbolic link: bits 0, and a text of so many bytes, which is a well formed path
+
+pub record Symlink (bits size : ℕ) (bytes : ℕ → ℕ) : Type 0 where
+  pub no-bits : bits ≡ 0
+  pub text : List ℕ
+  pub text-size : length text ≡ size
+  pub text-bytes : All size (λ b. getD text b 0 ≡ bytes b)
+  pub text-ok : pathOk text ≡ true
 
 -- ---- a directory's entries, as rows of DIRENT-WIDTH bytes
 
@@ -138,6 +148,7 @@ pub record Slots (file byte : ℕ → ℕ → ℕ) : Type 0 where
   pub root-kind : file 0 FILE-KIND ≡ DIRECTORY
   pub root-links : file 0 FILE-LINKS ≡ 0
   pub blocks : All SLOTS (λ s. Block (file s FILE-KIND) (file s FILE-LENGTH) (byte s))
+  pub texts : All SLOTS (λ s. file s FILE-KIND ≡ LINK → Symlink (file s FILE-BITS) (file s FILE-LENGTH) (byte s))
 
 -- the directories, and the names in them
 pub record Directories (kind length named : ℕ → ℕ) (direntRow : ℕ → ℕ → ℕ → ℕ) : Type 0 where
@@ -146,9 +157,10 @@ pub record Directories (kind length named : ℕ → ℕ) (direntRow : ℕ → �
   pub links : All SLOTS (λ s. (s ≡ 0 → ⊥) → named s ≡ linkCount kind direntRow s)
   pub depths : Depths kind direntRow
 
--- a directory has one name, and a plain file has one or is open, but for slot x, of which it is not said; opened s: how many open files are on s
+-- a directory and a link have one name, and a plain file has one or is open, but for slot x, of which it is not said; opened s: how many open files are
+-- on s
 pub record Live (x : ℕ) (kind named opened : ℕ → ℕ) : Type 0 where
-  pub once : All SLOTS (λ d. (d ≡ x → ⊥) → kind d ≡ DIRECTORY → (d ≡ 0 → ⊥) → named d ≡ 1)
+  pub once : All SLOTS (λ s. (s ≡ x → ⊥) → (kind s ≡ FREE → ⊥) → (kind s ≡ PLAIN → ⊥) → (s ≡ 0 → ⊥) → named s ≡ 1)
   pub alive : All SLOTS (λ s. (s ≡ x → ⊥) → kind s ≡ PLAIN → 0 < named s + opened s)
 
 pub record OpenFiles (kind : ℕ → ℕ) (openFiles desc : ℕ → ℕ → ℕ) : Type 0 where

@@ -6,22 +6,25 @@ use Prim.Native.Nat.{ℕ, _+_, _-_, _*_, _≤_, _<_}
 use native.Mathlib.Omega.{arith}
 use native.Mathlib.Decide.{decLt, ℕ-discrete}
 use lib.Dec.{ltb}
-use lib.ListN.{length, getD, drop}
-use lib.Seq.{getD-drop}
+use lib.ListN.{length, getD, take, drop, length-take}
+use lib.Seq.{length-take-le, getD-take, getD-drop}
 use borrow.Author.Tests.{lt-ltb}
 use Rattle.rules.specs.Layout.{SLOTS, BLOCK, DIRENT-WIDTH, DIRENTS, NAMES, OPEN-FILES, PROCESSES, FILE-WIDTH, OPEN-FILE-WIDTH}
-use Rattle.rules.specs.Layout.{FILE-KIND, FILE-LENGTH, FILE-LINKS, OPEN-SLOT, OPEN-REFERENCES, FREE, PLAIN, DIRECTORY}
+use Rattle.rules.specs.Layout.{FILE-KIND, FILE-BITS, FILE-LENGTH, FILE-LINKS, OPEN-SLOT, OPEN-REFERENCES, FREE, PLAIN, DIRECTORY, LINK}
 use Rattle.rules.specs.Choice.{some}
 use Rattle.rules.specs.Store.{Store, Fixed, view, slot, tab, block, shownOf, isOpen}
+use Rattle.rules.specs.Paths.{pathOk}
 use Rattle.rules.specs.Directories.{direntAt}
-use Rattle.rules.specs.Sound.{sizesSound, allZero, direntsSound, linksSound, directorySound, plainSound, kindSound, slotSound, openSound, procSound, treeSound, tablesSound, storeSound, policySound, sound}
+use Rattle.rules.specs.Walk.{linkText}
+use Rattle.rules.specs.Sound.{sizesSound, allZero, direntsSound, linksSound, directorySound, plainSound, textSound, linkSound, kindSound, slotSound, openSound, procSound, treeSound, tablesSound, storeSound, policySound, sound}
 use Rattle.preservation.proofs.Tests.{Means, means-every, means-and, means-last, means-cond, means-choice, means-or, means-eq, means-lt, means-le, means-test, means-all, means-within, means-same}
 use Rattle.preservation.proofs.Tables.{Tables, col, direntRow}
-use Rattle.preservation.proofs.Sound.{All, Sound, File, Block, Directory, OpenFile, Process, nameCount, linkCount, depthWithin, openCount, holderCount}
+use Rattle.preservation.proofs.Sound.{All, Sound, File, Block, Symlink, Directory, OpenFile, Process, nameCount, linkCount, depthWithin, openCount, holderCount}
 use Rattle.preservation.proofs.Tree.{depths-from, depth-is}
 use Rattle.preservation.proofs.StoreChanges.{tablesOf, Sized, Has}
-use Rattle.preservation.proofs.Shown.{block-length, block-byte, shown-whole, shown-plain, means-zeros}
+use Rattle.preservation.proofs.Shown.{block-length, block-byte, block-text, shown-whole, shown-plain, means-zeros}
 use Rattle.preservation.proofs.Counted.{links-total, means-climbs, means-open}
+use Rattle.preservation.proofs.PathNames.{path-size}
 use Rattle.preservation.proofs.Meaning.{means-sized, means-record, means-dirents, means-open-file, means-process}
 
 module _ (s : Store) (z : Sized s) where
@@ -59,6 +62,17 @@ module _ (s : Store) (z : Sized s) where
   abbrev OfPlain : ℕ → Type 0
   OfPlain d = (file d FILE-LENGTH ≤ BLOCK) × ((0 < file d FILE-LINKS + onSlot d) × Zeros (file d FILE-LENGTH) d)
 
+  -- the text of slot d, a link
+  abbrev textOf : ℕ → List ℕ
+  textOf d = take (file d FILE-LENGTH) (block (s .contents) d)
+
+  -- is the one that the record has
+  text-is : (d : ℕ) → d < SLOTS → file d FILE-LENGTH ≤ BLOCK → (x : Symlink (file d FILE-BITS) (file d FILE-LENGTH) (tab BLOCK (s .contents) d)) → textOf d ≡ x .text
+  text-is d h l x = block-text (s .contents) (z .contents-size) d h (file d FILE-LENGTH) (x .text) (x .text-size) l (x .text-bytes)
+
+  abbrev OfLink : ℕ → Type 0
+  OfLink d = (file d FILE-LINKS ≡ 1) × ((file d FILE-BITS ≡ 0) × ((pathOk (textOf d) ≡ true) × Zeros (file d FILE-LENGTH) d))
+
   means-directory : (d : ℕ) → d < SLOTS → file d FILE-KIND ≡ DIRECTORY → Means (directorySound (view s .tree) d) (OfDirectory d)
   unfolding directorySound
   means-directory d h e = means-every (means-and dirents (means-and (means-or (means-eq d 0) (means-eq (file d FILE-LINKS) 1)) (means-last (means-climbs (view s .tree) rows agree NAMES d))))
@@ -91,13 +105,20 @@ module _ (s : Store) (z : Sized s) where
       zeros : Means (allZero (shownOf (s .files) (s .contents) d)) (Zeros (file d FILE-LENGTH) d)
       zeros = rw (shown-plain (s .files) (s .contents) d e) (zeros-block d h (file d FILE-LENGTH))
 
+  means-link : (d : ℕ) → d < SLOTS → (file d FILE-KIND ≡ PLAIN → ⊥) → Means (linkSound (view s .tree) d) (OfLink d)
+  unfolding linkSound textSound
+  means-link d h n = rw (shown-whole (s .files) (s .contents) d n) (means-every (means-and (means-eq (file d FILE-LINKS) 1) (means-and (means-eq (file d FILE-BITS) 0)
+      (means-last (means-every (means-and (means-test (pathOk (textOf d))) (means-last (zeros-block d h (file d FILE-LENGTH)))))))))
+
   abbrev OfKind : ℕ → Type 0
-  OfKind d = (file d FILE-KIND ≡ DIRECTORY → OfDirectory d) × ((file d FILE-KIND ≡ DIRECTORY → ⊥) → (file d FILE-KIND ≡ PLAIN → OfPlain d) × ((file d FILE-KIND ≡ PLAIN → ⊥) → Zeros 0 d))
+  OfKind d = (file d FILE-KIND ≡ DIRECTORY → OfDirectory d) × ((file d FILE-KIND ≡ DIRECTORY → ⊥) →
+      (file d FILE-KIND ≡ PLAIN → OfPlain d) × ((file d FILE-KIND ≡ PLAIN → ⊥) → (file d FILE-KIND ≡ LINK → OfLink d) × ((file d FILE-KIND ≡ LINK → ⊥) → Zeros 0 d)))
 
   means-kind : (d : ℕ) → d < SLOTS → Means (kindSound (view s .tree) (view s .openFiles) d) (OfKind d)
   unfolding kindSound
   means-kind d h = means-choice (means-eq (file d FILE-KIND) DIRECTORY) (means-directory d h)
-      (λ _. means-choice (means-eq (file d FILE-KIND) PLAIN) (means-plain d h) (λ n. rw (shown-whole (s .files) (s .contents) d n) (zeros-block d h 0)))
+      (λ _. means-choice (means-eq (file d FILE-KIND) PLAIN) (means-plain d h)
+      (λ n. means-choice (means-eq (file d FILE-KIND) LINK) (λ _. means-link d h n) (λ _. rw (shown-whole (s .files) (s .contents) d n) (zeros-block d h 0))))
 
   -- ---- a slot
 
@@ -129,7 +150,7 @@ module _ (s : Store) (z : Sized s) where
   means-parts = means-every (means-and means-tree
       (means-and (means-all OPEN-FILES (openSound (view s .tree .file) (view s .openFiles) (view s .desc)) _ (means-open-file (view s .tree .file) (view s .openFiles) (view s .desc))) (means-last (means-all PROCESSES (procSound (view s .proc) (view s .desc)) _ (means-process (view s .proc) (view s .desc))))))
 
-  -- What the test says slot by slot, group by group. The test finds a block's zeros by kind: a slot neither directory nor plain is free, of length 0.
+  -- What the test says slot by slot, group by group. The test finds a block's zeros by kind: a slot neither directory, plain nor link is free, of length 0.
   from-parts : OfTables → Sound (tablesOf s)
   unfolding tablesOf
   from-parts w = record {
@@ -138,15 +159,16 @@ module _ (s : Store) (z : Sized s) where
       root-kind = w .0 .0;
       root-links = w .0 .1 0 (omega arith) .1 .0 .0 refl;
       blocks = blocks;
+      texts = texts;
     };
     tree = record {
       dirs = λ d h e. w .0 .1 d h .1 .1 .0 e .0 .0;
       lengths = λ d h e. w .0 .1 d h .1 .1 .0 e .0 .1 .0;
       links = λ d h. w .0 .1 d h .1 .0 .1;
-      depths = depths-from kind rows (λ u hu e p hp. w .0 .1 u hu .1 .1 .0 e .0 .0 .dirents p hp .slot-small) (λ d h e n. sym (w .0 .1 d h .1 .0 .1 n) ∙ once d h e n) (λ d h e. w .0 .1 d h .1 .1 .0 e .1 .1);
+      depths = depths-from kind rows (λ u hu e p hp. w .0 .1 u hu .1 .1 .0 e .0 .0 .dirents p hp .slot-small) (λ d h e n. sym (w .0 .1 d h .1 .0 .1 n) ∙ w .0 .1 d h .1 .1 .0 e .1 .0 n) (λ d h e. w .0 .1 d h .1 .1 .0 e .1 .1);
     };
     live = record {
-      once = λ d h _ e n. once d h e n;
+      once = λ d h _. once d h;
       alive = λ d h _ e. plain d h e .1 .0;
     };
     opens = record {
@@ -156,22 +178,43 @@ module _ (s : Store) (z : Sized s) where
     procs = w .1 .1;
   }
     where
-      once : (d : ℕ) → d < SLOTS → file d FILE-KIND ≡ DIRECTORY → (d ≡ 0 → ⊥) → file d FILE-LINKS ≡ 1
-      once d h e n = w .0 .1 d h .1 .1 .0 e .1 .0 n
-
       plain : (d : ℕ) → d < SLOTS → file d FILE-KIND ≡ PLAIN → OfPlain d
       plain d h e = w .0 .1 d h .1 .1 .1 (λ q. omega (arith, e)) .0 e
 
-      blocks : (d : ℕ) → d < SLOTS → Block (file d FILE-KIND) (file d FILE-LENGTH) (tab BLOCK (s .contents) d)
-      blocks d h = by (ℕ-discrete (file d FILE-KIND) DIRECTORY) (ℕ-discrete (file d FILE-KIND) PLAIN)
+      link : (d : ℕ) → d < SLOTS → file d FILE-KIND ≡ LINK → OfLink d
+      link d h e = w .0 .1 d h .1 .1 .1 (λ q. omega (arith, e)) .1 (λ q. omega (arith, e)) .0 e
+
+      once : (d : ℕ) → d < SLOTS → (file d FILE-KIND ≡ FREE → ⊥) → (file d FILE-KIND ≡ PLAIN → ⊥) → (d ≡ 0 → ⊥) → file d FILE-LINKS ≡ 1
+      once d h u o n = by (ℕ-discrete (file d FILE-KIND) DIRECTORY)
         where
-          by : Dec (file d FILE-KIND ≡ DIRECTORY) → Dec (file d FILE-KIND ≡ PLAIN) → Block (file d FILE-KIND) (file d FILE-LENGTH) (tab BLOCK (s .contents) d)
-          by (yes e) p = record { length-most = λ n. absurd (n e); past-zero = λ n. absurd (n e); tail-zero = λ _. w .0 .1 d h .1 .1 .0 e .0 .1 .1 }
-          by (no n) (yes e) = record { length-most = λ _. plain d h e .0; past-zero = λ _. plain d h e .1 .1; tail-zero = λ q. absurd (n q) }
-          by (no n) (no o) =
-              let f : file d FILE-KIND ≡ FREE = omega (arith, w .0 .1 d h .0 .kind-most, n, o) in
+          by : Dec (file d FILE-KIND ≡ DIRECTORY) → file d FILE-LINKS ≡ 1
+          by (yes e) = w .0 .1 d h .1 .1 .0 e .1 .0 n
+          by (no q) = link d h (omega (arith, w .0 .1 d h .0 .kind-most, u, o, q)) .0
+
+      -- a text has at most PATH bytes
+      short : (d : ℕ) → d < SLOTS → file d FILE-KIND ≡ LINK → file d FILE-LENGTH ≤ BLOCK
+      short d h e = omega (arith, rw (length-take (file d FILE-LENGTH) (block (s .contents) d), block-length (s .contents) (z .contents-size) d h) at (path-size (textOf d) (link d h e .1 .1 .0)))
+
+      texts : (d : ℕ) → d < SLOTS → file d FILE-KIND ≡ LINK → Symlink (file d FILE-BITS) (file d FILE-LENGTH) (tab BLOCK (s .contents) d)
+      texts d h e = record {
+        no-bits = link d h e .1 .0;
+        text = textOf d;
+        text-size = length-take-le (file d FILE-LENGTH) (block (s .contents) d) (rw (block-length (s .contents) (z .contents-size) d h) (short d h e));
+        text-bytes = λ b l. getD-take (file d FILE-LENGTH) (block (s .contents) d) b 0 l ∙ block-byte (s .contents) (z .contents-size) d h b;
+        text-ok = link d h e .1 .1 .0;
+      }
+
+      blocks : (d : ℕ) → d < SLOTS → Block (file d FILE-KIND) (file d FILE-LENGTH) (tab BLOCK (s .contents) d)
+      blocks d h = by (ℕ-discrete (file d FILE-KIND) DIRECTORY) (ℕ-discrete (file d FILE-KIND) PLAIN) (ℕ-discrete (file d FILE-KIND) LINK)
+        where
+          by : Dec (file d FILE-KIND ≡ DIRECTORY) → Dec (file d FILE-KIND ≡ PLAIN) → Dec (file d FILE-KIND ≡ LINK) → Block (file d FILE-KIND) (file d FILE-LENGTH) (tab BLOCK (s .contents) d)
+          by (yes e) p q = record { length-most = λ n. absurd (n e); past-zero = λ n. absurd (n e); tail-zero = λ _. w .0 .1 d h .1 .1 .0 e .0 .1 .1 }
+          by (no n) (yes e) q = record { length-most = λ _. plain d h e .0; past-zero = λ _. plain d h e .1 .1; tail-zero = λ q. absurd (n q) }
+          by (no n) (no o) (yes e) = record { length-most = λ _. short d h e; past-zero = λ _. link d h e .1 .1 .1; tail-zero = λ q. absurd (n q) }
+          by (no n) (no o) (no k) =
+              let f : file d FILE-KIND ≡ FREE = omega (arith, w .0 .1 d h .0 .kind-most, n, o, k) in
               let l : file d FILE-LENGTH ≡ 0 = w .0 .1 d h .0 .length-zero f in
-              record { length-most = λ _. omega arith; past-zero = λ _ b hb _. w .0 .1 d h .1 .1 .1 n .1 o b hb (omega arith); tail-zero = λ q. absurd (n q) }
+              record { length-most = λ _. omega arith; past-zero = λ _ b hb _. w .0 .1 d h .1 .1 .1 n .1 o .1 k b hb (omega arith); tail-zero = λ q. absurd (n q) }
 
   -- Back again: the depth that the test computes is the one that the tree has.
   to-parts : Sound (tablesOf s) → OfTables
@@ -179,7 +222,7 @@ module _ (s : Store) (z : Sized s) where
   to-parts h = ((h .slots .root-kind, slots), ((λ e he. (h .opens .refs e he, h .opens .open-files e he)), h .procs))
     where
       once : (d : ℕ) → d < SLOTS → file d FILE-KIND ≡ DIRECTORY → (d ≡ 0 → ⊥) → file d FILE-LINKS ≡ 1
-      once d hd = h .live .once d hd (λ q. omega (arith, hd))
+      once d hd e = h .live .once d hd (λ q. omega (arith, hd)) (λ q. omega (arith, e)) (λ q. omega (arith, e))
 
       deep : (d : ℕ) → d < SLOTS → file d FILE-KIND ≡ DIRECTORY → depthWithin kind rows NAMES d ≤ NAMES
       deep d hd e =
@@ -194,7 +237,7 @@ module _ (s : Store) (z : Sized s) where
           ((λ q. rw q (h .slots .root-links)), h .tree .links d hd),
           (
             (λ e. ((h .tree .dirs d hd e, (h .tree .lengths d hd e, b .tail-zero e)), (once d hd e, deep d hd e))),
-            λ n. ((λ e. (b .length-most n, (h .live .alive d hd (λ q. omega (arith, hd)) e, b .past-zero n))), λ o c hc _. b .past-zero n c hc (free n o)),
+            λ n. ((λ e. (b .length-most n, (h .live .alive d hd (λ q. omega (arith, hd)) e, b .past-zero n))), λ o. (link n, λ k c hc _. b .past-zero n c hc (free n o k))),
           ),
         ),
       )
@@ -202,8 +245,15 @@ module _ (s : Store) (z : Sized s) where
           b : Block (file d FILE-KIND) (file d FILE-LENGTH) (tab BLOCK (s .contents) d)
           b = h .slots .blocks d hd
 
-          free : (file d FILE-KIND ≡ DIRECTORY → ⊥) → (file d FILE-KIND ≡ PLAIN → ⊥) → {c : ℕ} → file d FILE-LENGTH ≤ c
-          free n o {c} = let f : file d FILE-KIND ≡ FREE = omega (arith, h .slots .files d hd .kind-most, n, o) in omega (arith, h .slots .files d hd .length-zero f)
+          link : (file d FILE-KIND ≡ DIRECTORY → ⊥) → file d FILE-KIND ≡ LINK → OfLink d
+          link n e =
+              let x = h .slots .texts d hd e in (
+                h .live .once d hd (λ q. omega (arith, hd)) (λ q. omega (arith, e)) (λ q. omega (arith, e)) (λ q. omega (arith, h .slots .root-kind, rw q at e)),
+                (x .no-bits, (rw (text-is d hd (b .length-most n) x) (x .text-ok), b .past-zero n)),
+              )
+
+          free : (file d FILE-KIND ≡ DIRECTORY → ⊥) → (file d FILE-KIND ≡ PLAIN → ⊥) → (file d FILE-KIND ≡ LINK → ⊥) → {c : ℕ} → file d FILE-LENGTH ≤ c
+          free n o k {c} = let f : file d FILE-KIND ≡ FREE = omega (arith, h .slots .files d hd .kind-most, n, o, k) in omega (arith, h .slots .files d hd .length-zero f)
 
   pub means-tables : Means (tablesSound (view s)) (Sound (tablesOf s))
   means-tables = means-same means-parts from-parts to-parts
@@ -225,6 +275,13 @@ means-store s = by (sizesSound s) refl
 pub means-sound : (K : Fixed) (s : Store) → Means (sound K s) ((policySound (K .policy) ≡ true) × SoundStore s)
 unfolding sound
 means-sound K s = means-every (means-and (means-test (policySound (K .policy))) (means-last (means-store s)))
+
+-- a link's text is a well formed path
+pub text-ok : (s : Store) → SoundStore s → (d : ℕ) → d < SLOTS → tablesOf s .file d FILE-KIND ≡ LINK → pathOk (linkText (view s .tree) (slot d)) ≡ true
+unfolding tablesOf
+text-ok s h d hd e =
+    let x = h .tables .slots .texts d hd e in
+    rw (shown-whole (s .files) (s .contents) d (λ q. omega (arith, e)), text-is s (h .sized) d hd (h .tables .slots .blocks d hd .length-most (λ q. omega (arith, e))) x) (x .text-ok)
 
 -- a store whose tables are sound
 pub kept : (s : Store) (m : Tables) → Has s m → Sound m → SoundStore s

@@ -14,8 +14,8 @@ use Rattle.rules.specs.Store.{Store, store, tab, procOf, descOf, puts, zeros, c
 use Rattle.rules.specs.Store as rules
 use Rattle.rules.proofs.Lists.{length-zeros, puts-sets}
 use Rattle.preservation.proofs.Tests.{split, upd, upd2, updRow}
-use Rattle.preservation.proofs.Tables.{Tables, fill, fileTo, bytesTo, openTo, procTo, descTo, fileRowTo, openRowTo, procRowTo}
-use Rattle.preservation.proofs.FlatList.{overRow, tab-run, tab-set, tab-row, sets-run, upd2-row, getD-zeros}
+use Rattle.preservation.proofs.Tables.{Tables, fill, overRow, fileTo, bytesTo, openTo, procTo, descTo, fileRowTo, openRowTo, procRowTo}
+use Rattle.preservation.proofs.FlatList.{tab-run, tab-set, tab-row, sets-run, upd2-row, getD-zeros}
 use Rattle.preservation.proofs.Remake.{remade}
 
 unfoldable pub tablesOf : Store → Tables

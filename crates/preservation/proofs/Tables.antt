@@ -1,9 +1,9 @@
 -- The store as tables: five functions of a row and a column. All of `Sound` is said of these, so no proof about it sees a list or an index.
 use mathlib.Core.Bool.{cond}
 use mathlib.Core.List.{List, [], _∷_}
-use Prim.Native.Nat.{ℕ, _+_, _*_, _/_, _%_}
+use Prim.Native.Nat.{ℕ, _+_, _-_, _*_, _/_, _%_}
 use lib.Dec.{eqb, ltb}
-use lib.ListN.{getD}
+use lib.ListN.{length, getD}
 use Rattle.rules.specs.Layout.{DIRENT-WIDTH, FILE-KIND, FILE-OWNER, FILE-BITS, FILE-LABEL, FILE-LENGTH, FILE-LINKS, FILE-VERSION, FILE-GROUP}
 use Rattle.preservation.proofs.Tests.{upd, upd2, updRow}
 
@@ -38,6 +38,10 @@ direntRow byte d = rowsOf (byte d)
 -- the block with entry p holding the bytes of r
 abbrev pub fill : (ℕ → ℕ) → ℕ → (ℕ → ℕ) → ℕ → ℕ
 fill bytes p r b = cond (eqb (b / DIRENT-WIDTH) p) (r (b % DIRENT-WIDTH)) (bytes b)
+
+-- the row with vs from word a on
+abbrev pub overRow : (ℕ → ℕ) → ℕ → List ℕ → ℕ → ℕ
+overRow row a vs k = cond (ltb k a) (row k) (cond (ltb k (a + length vs)) (getD vs (k - a) 0) (row k))
 
 -- ---- primitive changes
 

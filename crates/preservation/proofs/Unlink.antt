@@ -60,7 +60,7 @@ module _ (m : Tables) (d p t y : ℕ) (h : SoundBut y m) (hd : d < SLOTS) (kd : 
         (λ q w. rw w (omega (arith, ind-ne (direntRow (m .byte) d p NAME) s (λ a. q (sym a ∙ e)), ind-ne 0 s (λ a. n (sym a))))))
         unlinked-depths;
     live = record {
-      once = λ i hi q k n. rw (upd-other (col (m .file) FILE-LINKS) y c i q) (h .live .once i hi q k n);
+      once = λ i hi q u k n. rw (upd-other (col (m .file) FILE-LINKS) y c i q) (h .live .once i hi q u k n);
       alive = λ i hi q k. rw (upd-other (col (m .file) FILE-LINKS) y c i q) (h .live .alive i hi q k);
     };
     opens = h .opens;

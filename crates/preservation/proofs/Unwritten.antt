@@ -12,7 +12,7 @@ use Rattle.rules.specs.Refusals.{GRANTED}
 use Rattle.rules.specs.Paths.{Name}
 use Rattle.rules.specs.Calls.{Call}
 use Rattle.rules.specs.Decide.{placement, decide}
-use Rattle.rules.specs.Effects.{nameChanges, unnameChanges, createChanges, linkChanges, unnamedChanges, unlinkChanges, removeChanges, carryOut}
+use Rattle.rules.specs.Effects.{nameChanges, unnameChanges, createChanges, symlinkChanges, linkChanges, unnamedChanges, unlinkChanges, removeChanges, carryOut}
 use Rattle.rules.specs.Step.{Outcome, replyTo, storeAfter, outcomeOf, act, step, final}
 use Rattle.rules.specs.declared.ids.Slot.{Slot}
 use Rattle.rules.specs.declared.decision.Record.{Record}
@@ -35,13 +35,13 @@ use Rattle.preservation.proofs.Processes.{shared}
 use Rattle.preservation.proofs.StoreChanges.{tablesOf}
 use Rattle.preservation.proofs.SoundStore.{SoundStore, means-sound}
 use Rattle.preservation.proofs.OpenEffects.{Leaves, withOpen, open-leaves, truncate-leaves, move-leaves, duplicate-leaves, bits-leaves, execute-leaves, write-leaves}
-use Rattle.preservation.proofs.NameEffects.{link-leaves, create-leaves, unlink-leaves, unnaming-is, remove-leaves}
+use Rattle.preservation.proofs.NameEffects.{link-leaves, create-leaves, symlink-leaves, unlink-leaves, unnaming-is, remove-leaves}
 use Rattle.preservation.proofs.CloseEffects.{Steady, close-leaves, releasing-is, exit-leaves}
-use Rattle.preservation.proofs.Granted.{AsksWrite, AsksTruncation, Granting, nothing, opens, truncates, creates, unlinks, removes, links, changesBits, closes, stores, reads, seeks, duplicates, forks, exits, executes, used-small}
+use Rattle.preservation.proofs.Granted.{AsksWrite, AsksTruncation, Granting, nothing, opens, truncates, creates, symlinks, unlinks, removes, links, changesBits, closes, stores, reads, seeks, duplicates, forks, exits, executes, used-small}
 use Rattle.preservation.proofs.Decided.{decide-fit}
 use Rattle.preservation.proofs.Preserved.{placed-well, read-fits, forking, effect-keeps, after-sound}
 use Rattle.preservation.proofs.TestedOnce.{step-by}
-use Rattle.preservation.proofs.Kept.{Kept, kept-both, kept-same, kept-written, kept-remade, kept-row, kept-column, kept-remove, kept-unlink, kept-block}
+use Rattle.preservation.proofs.Kept.{Kept, kept-both, kept-same, kept-written, kept-remade, kept-row, kept-bytes, kept-column, kept-remove, kept-unlink, kept-block}
 use Rattle.preservation.proofs.OpenStays.{open-plain}
 
 -- ---- a change of names leaves the open files
@@ -50,6 +50,10 @@ module _ (s : Store) where
   create-open-files : (name : Name) (d : DirChange) (y : Slot) (r : Record) → applyAll (createChanges name d y r) s .openFiles ≡ s .openFiles
   unfolding createChanges nameChanges applyAll
   create-open-files name d y r = refl
+
+  symlink-open-files : (name : Name) (text : List ℕ) (d : DirChange) (y : Slot) (r : Record) → applyAll (symlinkChanges name text d y r) s .openFiles ≡ s .openFiles
+  unfolding symlinkChanges nameChanges applyAll
+  symlink-open-files name text d y r = refl
 
   link-open-files : (name : Name) (d : DirChange) (y : Slot) (n : ℕ) → applyAll (linkChanges name d y n) s .openFiles ≡ s .openFiles
   unfolding linkChanges nameChanges applyAll
@@ -113,10 +117,15 @@ module _ (Q : List ℕ) (s : Store) (h : SoundStore s) (c : Call) (f : ℕ) wher
   effect-leaves (opens n o) y = leaves (open-leaves s h (c .process) n o) (opened n)
   effect-leaves (truncates n o a) y = split (n .slot .0) f (λ q _. inr (inr (rw q at a)))
       (λ q _. leaves (truncate-leaves s h (c .process) n o) (kept-both f (opened n) (kept-remade f (n .slot .0) _ _ _ (λ z. q (sym z)))))
-  effect-leaves (creates d i y kind bits o) z =
+  effect-leaves (creates d i y new o) z =
       let k = z .was (create-open-files s _ _ _ _) in
-      leaves (create-leaves s h _ (subjectOf (view s .proc) (c .process)) d i (slot y) kind bits o)
+      leaves (create-leaves s h _ (subjectOf (view s .proc) (c .process)) d i (slot y) new o)
       (kept-both f (kept-row f y _ (tablesOf s) (apart y FREE (λ a. omega arith) k (o .free))) (kept-written f (d .0) _ _ _ _ (apart (d .0) DIRECTORY (λ a. omega arith) k (o .naming .fits .dir-kind))))
+  effect-leaves (symlinks d i y o) z =
+      let k = z .was (symlink-open-files s _ _ _ _ _) in
+      let q : f ≡ y → ⊥ = apart y FREE (λ a. omega arith) k (o .free) in
+      leaves (symlink-leaves s h _ (subjectOf (view s .proc) (c .process)) d i (slot y) (c .«data») o)
+      (kept-both f (kept-both f (kept-bytes f y _ (tablesOf s) q) (kept-row f y _ _ q)) (kept-written f (d .0) _ _ _ _ (apart (d .0) DIRECTORY (λ a. omega arith) k (o .naming .fits .dir-kind))))
   effect-leaves (unlinks d i y n k) z =
       let w = unnaming-is s h y in
       let l = unlink-leaves s h d i y n k w in
@@ -127,7 +136,7 @@ module _ (Q : List ℕ) (s : Store) (h : SoundStore s) (c : Call) (f : ℕ) wher
   effect-leaves (links d i y n hy k) z =
       leaves (link-leaves s h _ d i y n hy k)
       (kept-both f (kept-column f (y .0) FILE-LINKS _ (tablesOf s) (λ k u. u .0)) (kept-written f (d .0) _ _ _ _ (apart (d .0) DIRECTORY (λ a. omega arith) (z .was (link-open-files s _ _ _ _)) (n .fits .dir-kind))))
-  effect-leaves (changesBits y b hy k l o a) z = leaves (bits-leaves s h (y .0) (b .0) hy k l) (kept-column f (y .0) FILE-BITS _ (tablesOf s) (λ k u. u .1))
+  effect-leaves (changesBits y b hy k n l o a) z = leaves (bits-leaves s h (y .0) (b .0) hy k n l) (kept-column f (y .0) FILE-BITS _ (tablesOf s) (λ k u. u .1))
   effect-leaves (closes i u hi) y = steadily _ y (close-leaves s h (c .process) i (u .small) hi (u .used) (releasing-is s h (c .process) i (u .small) hi) .steady)
   effect-leaves (stores e at o l a) y = split (view s .openFiles e OPEN-SLOT) f (λ q _. inr (inl (rw q at a)))
       (λ q _. leaves (write-leaves s h (c .«data») _ (placed-well s h c e at o l)) (written (placement (view s .tree .file) (ofdOf e) (slot (view s .openFiles e OPEN-SLOT)) at (length (c .«data»))) _ (λ z. q (sym z))))

@@ -7,12 +7,13 @@ use mathlib.Core.Bool.{true}
 use mathlib.Core.Logic.{_⊎_}
 use mathlib.Core.List.{List, [], _∷_}
 use lib.ListN.{length}
-use Rattle.rules.specs.Layout.{SLOTS, FILE-WIDTH, BLOCK, OPEN-FILES, OPEN-FILE-WIDTH, PROCESSES, PROCESS-WIDTH, RIGHTS-SIZE, DESCRIPTORS, FILE-KIND, FILE-OWNER, FILE-BITS, FILE-LABEL, FILE-LENGTH, FILE-LINKS, FILE-VERSION, OPEN-SLOT, OPEN-OFFSET, OPEN-REFERENCES, PROCESS-USER, FREE, PLAIN, FILE-GROUP}
+use Rattle.rules.specs.Layout.{SLOTS, FILE-WIDTH, BLOCK, OPEN-FILES, OPEN-FILE-WIDTH, PROCESSES, PROCESS-WIDTH, RIGHTS-SIZE, DESCRIPTORS, FILE-KIND, FILE-OWNER, FILE-BITS, FILE-LABEL, FILE-LENGTH, FILE-LINKS, FILE-VERSION, OPEN-SLOT, OPEN-OFFSET, OPEN-REFERENCES, PROCESS-USER, FREE, PLAIN, LINK, FILE-GROUP}
 use Rattle.rules.specs.Scan.{repeat}
 use Rattle.rules.specs.Store.{Store, Fixed, View, view, block, up, plus, slot, fdOf, isOpen}
 use Rattle.rules.specs.Refusals.{GRANTED}
 use Rattle.rules.specs.Rights.{TRUNCATE}
-use Rattle.rules.specs.Walk.{walkPath}
+use Rattle.rules.specs.Paths.{pathOk}
+use Rattle.rules.specs.Walk.{linkText, followPath}
 use Rattle.rules.specs.Sound.{sound}
 use Rattle.rules.specs.Calls.{Call, operation, uses, Agree}
 use Rattle.rules.specs.Checks.{ofdHeld, shareOf}
@@ -74,9 +75,9 @@ unfoldable pub OpenAfterEach : Fixed → Store → ℕ → List Call → Type 0
 OpenAfterEach K s f [] = Unit {0}
 OpenAfterEach K s f (c ∷ cs) = IsOpen (step K s c .store) f × OpenAfterEach K (step K s c .store) f cs
 
--- call c, 2 (create) or 3 (make directory), gives out slot f
+-- call c, 2 (create), 3 (make directory) or 18 (make link), gives out slot f
 abbrev pub GivesOut : Fixed → Store → Call → ℕ → Type 0
-GivesOut K s c f = ((c .call ≡ 2) ⊎ (c .call ≡ 3)) × (IsGranted K s c × (step K s c .reply .value ≡ f))
+GivesOut K s c f = ((c .call ≡ 2) ⊎ ((c .call ≡ 3) ⊎ (c .call ≡ 18))) × (IsGranted K s c × (step K s c .reply .value ≡ f))
 
 -- after every call of the list slot f is plain, and no call gives it out
 unfoldable pub PlainAfterEach : Fixed → Store → ℕ → List Call → Type 0
@@ -94,9 +95,9 @@ unfoldable pub EndsAt : Walk → ℕ → Type 0
 EndsAt (Reached at) f = at .slot .0 ≡ f
 EndsAt (Stopped r k) f = ⊥
 
--- call c truncates slot f: a granted open (call 1) with a mode number over 8, along a path that leads its caller to f
+-- call c truncates slot f: a granted open (call 1) with a mode number over 8, along a path that leads its caller to f, links followed
 abbrev pub Truncates : Fixed → Store → Call → ℕ → Type 0
-Truncates K s c f = IsGranted K s c × ((c .call ≡ 1) × ((TRUNCATE < c .number) × EndsAt (walkPath (view s .tree) (K .policy) (asker (view s) c) (c .path)) f))
+Truncates K s c f = IsGranted K s c × ((c .call ≡ 1) × ((TRUNCATE < c .number) × EndsAt (followPath (view s .tree) (K .policy) (asker (view s) c) (c .path)) f))
 
 -- no call of the list does either
 unfoldable pub Unwritten : Fixed → Store → ℕ → List Call → Type 0
@@ -112,6 +113,13 @@ pub record SameFile (s t : Store) (f : ℕ) : Type 0 where
   pub label : word t f FILE-LABEL ≡ word s f FILE-LABEL
   pub length : word t f FILE-LENGTH ≡ word s f FILE-LENGTH
   pub version : word t f FILE-VERSION ≡ word s f FILE-VERSION
+
+-- ---- a symbolic link (paper 02, R-5): named once, bits 0, a well formed path as text
+
+pub record GoodLink (s : Store) (f : ℕ) : Type 0 where
+  pub named : word s f FILE-LINKS ≡ 1
+  pub bits : word s f FILE-BITS ≡ 0
+  pub text : pathOk (linkText (view s .tree) (slot f)) ≡ true
 
 -- ---- the numbers that a granted call writes are plain sums: nothing is lost to the 32 bits of a word. A number that only goes down, or is
 -- copied, is no sum; the version is left out, since it may wrap.
@@ -145,6 +153,7 @@ PlainSums s c o (effect.Forked q who) =
     (i : ℕ) → i < DESCRIPTORS → let t = repeat (shared (c .process) q) 0 i s in PlainShare (view t) (shareOf (view t .openFiles) (view t .desc) (c .process) (fdOf i))
 PlainSums s c o effect.Exited = Unit {0}
 PlainSums s c o (effect.Relabelled label) = Unit {0}
+PlainSums s c o (effect.Symlinked d y r) = d .length ≡ word s (d .dir .0) FILE-LENGTH + 1
 
 -- ---- the claims
 
@@ -191,3 +200,5 @@ pub record Claims : Type 0 where
   pub other-size-refused : (K : Fixed) (s : Store) (c : Call) → (sizes K s ≡ SIZES → ⊥) → step K s c .reply .refusal ≡ 1
   -- 6. Parts that a call does not use are not looked at: two calls that agree in what they use are answered alike, and leave the same store.
   pub unused-unseen : (K : Fixed) (s : Store) (c d : Call) → Agree (uses (operation c)) c d → step K s c ≡ step K s d
+  -- 7. Whatever calls went before, a symbolic link is named once, has bits 0 and a well formed path as text.
+  pub link-stays : (K : Fixed) (s : Store) (f : ℕ) (cs : List Call) → sound K s ≡ true → word (final K s cs) f FILE-KIND ≡ LINK → GoodLink (final K s cs) f

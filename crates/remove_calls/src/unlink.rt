@@ -4,9 +4,10 @@ ghost use mathlib.Core.Bool.{not};
 ghost use mathlib.Core.List.{[], _∷_};
 ghost use Prim.Native.Nat.{_-_};
 ghost use lib.Dec.{eqb};
-ghost use Rattle.rules.specs.Choice.{every};
+ghost use Rattle.rules.specs.Choice.{every, some};
 ghost use Rattle.rules.specs.Layout.{FILE-WIDTH, OPEN-FILE-WIDTH, FILE-LINKS};
 ghost use Rattle.rules.specs.Store.{tab, tree, isOpen};
+ghost use Rattle.rules.specs.Walk.{isPlain, isLink};
 ghost use Rattle.rules.specs.Checks.{freed, unnaming};
 ghost use Rattle.rules.specs.DecidePaths.{unlinked, unlinkAt, decideUnlink};
 ghost use Rattle.rules.specs.declared.decision.Unnamed.the-variants as unnamed;
@@ -27,6 +28,7 @@ use rules::ids::Slot;
 use rules::refusal::Refusal;
 use rules::request::Subject;
 use rules::rights::Rights;
+use tables::files::is_link;
 use tables::files::is_plain;
 use tables::files::links;
 use tables::layout::OPEN_FILES;
@@ -60,7 +62,7 @@ fn unnamed_kept(files: &[u32], s: Slot) -> Unnamed
     Unnamed::Kept(s, down_one(links(files, s)))
 }
 
-// The plain file in slot s loses a name.
+// The plain file or link in slot s loses a name.
 fn unname(files: &[u32], open_files: &[u32], s: Slot) -> Unnamed
     ensures { λ r. ⌜ r ≡ unnaming (tab FILE-WIDTH (now (files .entry))) (tab OPEN-FILE-WIDTH (now («open_files» .entry))) s ⌝ }
 {
@@ -83,6 +85,15 @@ fn unlinked_at(files: &[u32], open_files: &[u32], at: Location) -> Decision
     )
 }
 
+fn is_unlinkable(files: &[u32], s: Slot) -> bool
+    ensures { λ r. ⌜ r ≡ some (isPlain (tab FILE-WIDTH (now (files .entry))) s ∷ isLink (tab FILE-WIDTH (now (files .entry))) s ∷ []) ⌝ }
+{
+    if is_plain(files, s) {
+        return true;
+    }
+    is_link(files, s)
+}
+
 fn unlink_at(
     files: &[u32],
     open_files: &[u32],
@@ -92,7 +103,7 @@ fn unlink_at(
 ) -> Decision
     ensures { λ r. ⌜ r ≡ unlinkAt (now (policy .entry)) (tab FILE-WIDTH (now (files .entry))) (tab OPEN-FILE-WIDTH (now («open_files» .entry))) who at ⌝ }
 {
-    if !is_plain(files, at.slot) {
+    if !is_unlinkable(files, at.slot) {
         return Decision::Refused(Refusal::WrongKind, 0);
     }
     match permission_over(files, policy, who, at.dir, Rights::WRITE) {

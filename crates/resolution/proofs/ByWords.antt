@@ -9,7 +9,7 @@ use Rattle.rules.specs.Store.{tree, block, hidden, shownOf}
 use Rattle.rules.specs.Paths.{Name, span, notSlash}
 use Rattle.rules.specs.Walk.{lookup}
 use Rattle.rules.specs.declared.request.Subject.{Subject}
-use Rattle.rules.specs.declared.ids.Slot.{Slot}
+use Rattle.rules.specs.declared.decision.Location.{Location}
 use Rattle.rules.specs.declared.decision.Intent.{Intent}
 use Rattle.tables.specs.NameWords.{lowWord, highWord}
 use Rattle.directories.proofs.ByWords.{Bytes, same-dirent}
@@ -34,8 +34,8 @@ shown-bytes F C s h = drop-bytes (hidden F s) (block C s) (take-bytes 512 (drop 
 pub name-bytes : (p : List ℕ) (start : ℕ) → Bytes p → Bytes (nameAt p start)
 name-bytes p start h = take-bytes (span notSlash (drop start p)) (drop start p) (drop-bytes start p h)
 
--- the k-th name is looked for in directory d
-pub by-words : (intent : Intent) (F C Q : List ℕ) (who : Subject) (d : Slot) (n : Name) (k : ℕ) → Bytes C → Bytes n
-    → lookupBy intent (tree F C) Q who d (lowWord n) (highWord n) k ≡ lookup intent (tree F C) Q who d n k
+-- the k-th name is looked for in the directory at a location
+pub by-words : (intent : Intent) (F C Q : List ℕ) (who : Subject) (at : Location) (n : Name) (k : ℕ) → Bytes C → Bytes n
+    → lookupBy intent (tree F C) Q who at (lowWord n) (highWord n) k ≡ lookup intent (tree F C) Q who n k at
 unfolding lookupBy lookup
-by-words intent F C Q who d n k bc bn = rw (same-dirent (shownOf F C (d .0)) n (shown-bytes F C (d .0) bc) bn)
+by-words intent F C Q who at n k bc bn = rw (same-dirent (shownOf F C (at .slot .0)) n (shown-bytes F C (at .slot .0) bc) bn)

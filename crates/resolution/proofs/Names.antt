@@ -1,16 +1,16 @@
 -- Laws of `firstNames`: the names of the path from `at` on, of which the first stands from s up to e.
 use Prim.Native.Nat.{ℕ, zero, suc, _+_, _-_, _≤_, _<_}
 use mathlib.Core.Path.{_≡_, refl, sym, _∙_}
-use mathlib.Core.Logic.{_⊎_, inl, inr}
-use mathlib.Core.Bool.{Bool, true, false, not}
+use mathlib.Core.Bool.{Bool, true, false, cond}
 use mathlib.Core.List.{List, [], _∷_}
-use native.Mathlib.Nat.{not-suc-le-zero}
+use native.Mathlib.Decide.{decLt}
 use native.Mathlib.Omega.{arith}
-use borrow.Author.Tests.{eq-eqb, ne-eqb, not-false}
-use lib.ListN.{length, getD, take, drop, drop-of-length-le, length-take}
+use borrow.Author.Tests.{ne-eqb}
+use lib.Dec.{eqb}
+use lib.ListN.{length, getD, take, drop, drop-of-length-le}
 use lib.Seq.{drop-drop, drop-cons, take-nil}
 use Rattle.rules.specs.Paths.{Name, span, skip, nextName, nameEnd, firstNames, isSlash, notSlash}
-use Rattle.resolution.proofs.Spans.{span-stop, span-more, span-ends}
+use Rattle.resolution.proofs.Spans.{span-stop, span-more, span-past, span-ends}
 
 pub names-zero : (p : List ℕ) → firstNames 0 p ≡ []
 unfolding firstNames
@@ -51,20 +51,35 @@ module _ (p : List ℕ) (at s : ℕ) (a : s ≡ at + span isSlash (drop at p)) w
         let z : length (take (e - s) (drop s p)) ≡ 0 → ⊥ = λ w. omega (arith, name-bytes h) in
         rw (q, name, ne-eqb _ _ z, end)
 
-  module _ (h : s < length p) where
-    pub no-slashes : span isSlash (drop s p) ≡ 0
-    no-slashes = span-stop isSlash p s h (span-ends isSlash p at s a h)
-
-    pub some-names : (n m : ℕ) → n ≡ suc m → 0 < length (firstNames n (drop at p))
-    some-names n m q = rw (more-names _ refl n m h q) (omega arith)
+  -- past the slashes
+  pub no-slashes : span isSlash (drop s p) ≡ 0
+  no-slashes = by (decLt s (length p))
+    where
+      by : Dec (s < length p) → span isSlash (drop s p) ≡ 0
+      by (yes h) = span-stop isSlash p s h (span-ends isSlash p at s a h)
+      by (no h) = let m : length p ≤ s = omega arith in span-past isSlash p s m
 
 -- slashes before the names may be left out
-pub skip-names : (p : List ℕ) (at s : ℕ) → s ≡ at + span isSlash (drop at p) → s < length p → (n : ℕ) → firstNames n (drop s p) ≡ firstNames n (drop at p)
+pub skip-names : (p : List ℕ) (at s : ℕ) → s ≡ at + span isSlash (drop at p) → (n : ℕ) → firstNames n (drop s p) ≡ firstNames n (drop at p)
 unfolding firstNames
-skip-names p at s a h zero = refl
-skip-names p at s a h (suc n) =
-    let o : s ≡ s + span isSlash (drop s p) = omega (arith, no-slashes p at s a h) in
-    more-names p s s o _ refl (suc n) n h refl ∙ sym (more-names p at s a _ refl (suc n) n h refl)
+skip-names p at s a zero = refl
+skip-names p at s a (suc n) = by (decLt s (length p))
+  where
+    own : s ≡ s + span isSlash (drop s p)
+    own = omega (arith, no-slashes p at s a)
+
+    by : Dec (s < length p) → firstNames (suc n) (drop s p) ≡ firstNames (suc n) (drop at p)
+    by (yes h) = more-names p s s own _ refl (suc n) n h refl ∙ sym (more-names p at s a _ refl (suc n) n h refl)
+    by (no h) = let m : length p ≤ s = omega arith in no-names p s s own (suc n) m ∙ sym (no-names p at s a (suc n) m)
+
+pub few-names : (n : ℕ) (p : List ℕ) → length (firstNames n p) ≤ n
+unfolding firstNames
+few-names zero p = omega arith
+few-names (suc n) p = by (few-names n (drop (nameEnd p) p)) (eqb (length (nextName p)) 0)
+  where
+    by : length (firstNames n (drop (nameEnd p) p)) ≤ n → (b : Bool) → length (cond b [] (nextName p ∷ firstNames n (drop (nameEnd p) p))) ≤ suc n
+    by h true = omega arith
+    by h false = omega (arith, h)
 
 -- ---- the last of a name and those after it
 

@@ -3,7 +3,7 @@ ghost use mathlib.Core.Path.{_≡_};
 ghost use mathlib.Core.List.{[], _∷_};
 ghost use Prim.Native.Nat.{_+_, _-_};
 ghost use lib.Dec.{eqb};
-ghost use lib.ListN.{length, getD, drop};
+ghost use lib.ListN.{getD, drop};
 ghost use Rattle.rules.specs.Paths.{span, isSlash, names, isDots, pathOk, lastName};
 ghost use Rattle.rules.specs.Choice.{some};
 ghost use Rattle.rules.specs.Calls.{pathBelowRoot};

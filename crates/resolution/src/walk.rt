@@ -1,14 +1,16 @@
-// A path is resolved one name at a time, from the root.
+// A path is resolved one name at a time, from the root. The walk calls the follower of links, which calls the walk along a link's text.
 ghost use mathlib.Core.Path.{_≡_};
 ghost use mathlib.Core.Bool.{cond};
-ghost use Prim.Native.Nat.{_+_};
-ghost use lib.ListN.{drop, length};
-ghost use Rattle.rules.specs.Store.{tree};
-ghost use Rattle.rules.specs.Paths.{names, firstNames};
-ghost use Rattle.rules.specs.Walk.{reached, entered, walk, walkPath, walkNew, ROOT};
-ghost use Rattle.rules.specs.declared.decision.Intent.the-variants.{Find};
+ghost use mathlib.Core.List.{[], _∷_};
+ghost use Prim.Native.Nat.{_≤_};
+ghost use Rattle.rules.specs.Choice.{every};
+ghost use Rattle.rules.specs.Layout.{FILE-WIDTH, FOLLOWS};
+ghost use Rattle.rules.specs.Store.{tab, tree};
+ghost use Rattle.rules.specs.Paths.{names};
+ghost use Rattle.rules.specs.Walk.{isLink, deeper, reached, entered, start, stopAt, follows, follower, walk, walkPath, followPath, walkNew, ROOT};
+ghost use Rattle.rules.specs.declared.decision.Intent.the-variants.{Find, Follow};
 ghost use Rattle.directories.specs.ByWords.{direntBy};
-ghost use Rattle.resolution.specs.Walks.{foundBy, lookupBy, isLast, from, NameStarts};
+ghost use Rattle.resolution.specs.Walks.{foundBy, lookupBy, restFrom, noneLeft, namesLeft, RestOf};
 use crate::path_names::read_name;
 use crate::paths::ByteClass;
 use crate::paths::span_end;
@@ -24,151 +26,248 @@ use rules::refusal::Refusal;
 use rules::request::Subject;
 use rules::rights::Rights;
 use tables::ids::is_dirent;
+use tables::layout::FOLLOWS;
 use tables::layout::NAMES;
 
-// Entry i of directory d, whose bytes are `dir`.
-fn reach(dir: &[u8], d: Slot, i: Dirent) -> Walk
-    ensures { λ r. ⌜ r ≡ reached (now (dir .entry)) d i ⌝ }
+// What is left of a path: from `start` on, where the k-th name starts if there is one.
+struct Rest {
+    start: usize,
+    k: u32,
+}
+
+// How deep a directory may lie.
+const DEPTH: u32 = NAMES as u32;
+
+// Names of a path that are read: one more than it may have.
+const MOST: u32 = DEPTH + 1;
+
+fn one_deeper(d: u32) -> u32
+    ensures { λ r. ⌜ r ≡ deeper d ⌝ }
 {
+    if d <= DEPTH {
+        return d + 1;
+    }
+    d
+}
+
+// Entry i of the directory at a location, whose bytes are `dir`.
+fn reach(dir: &[u8], at: Location, i: Dirent) -> Walk
+    ensures { λ r. ⌜ r ≡ reached (now (dir .entry)) at i ⌝ }
+{
+    let d = at.slot;
+    let j = at.follows;
+    let deep = one_deeper(at.depth);
     Walk::Reached(Location {
         dir: d,
         dirent: i,
         slot: tables::directories::dirent_slot(dir, i),
+        depth: deep,
+        follows: j,
     })
 }
 
-fn reach_there(dir: &[u8], d: Slot, k: u32, i: Dirent) -> Walk
-    ensures { λ r. ⌜ r ≡ entered Find (now (dir .entry)) d k i ⌝ }
+fn reach_there(dir: &[u8], at: Location, k: u32, i: Dirent) -> Walk
+    ensures { λ r. ⌜ r ≡ entered Find (now (dir .entry)) at k i ⌝ }
 {
     if !is_dirent(i) {
         return Walk::Stopped(Refusal::NameMissing, k);
     }
-    reach(dir, d, i)
+    reach(dir, at, i)
 }
 
 // A name that is missing stops a walk for a file.
-fn enter(dir: &[u8], d: Slot, k: u32, intent: Intent, i: Dirent) -> Walk
-    ensures { λ r. ⌜ r ≡ entered intent (now (dir .entry)) d k i ⌝ }
+fn enter(dir: &[u8], at: Location, k: u32, intent: Intent, i: Dirent) -> Walk
+    ensures { λ r. ⌜ r ≡ entered intent (now (dir .entry)) at k i ⌝ }
 {
     match intent {
-        Intent::Find => reach_there(dir, d, k, i),
-        Intent::Create => reach(dir, d, i),
+        Intent::Find => reach_there(dir, at, k, i),
+        Intent::Follow => reach_there(dir, at, k, i),
+        Intent::Create => reach(dir, at, i),
     }
 }
 
-fn enter_by(dir: &[u8], d: Slot, low: u64, high: u64, k: u32, intent: Intent) -> Walk
-    ensures { λ r. ⌜ r ≡ entered intent (now (dir .entry)) d k (direntBy (now (dir .entry)) low high) ⌝ }
+fn enter_by(dir: &[u8], at: Location, low: u64, high: u64, k: u32, intent: Intent) -> Walk
+    ensures { λ r. ⌜ r ≡ entered intent (now (dir .entry)) at k (direntBy (now (dir .entry)) low high) ⌝ }
 {
-    enter(dir, d, k, intent, dirent_by(dir, low, high))
+    enter(dir, at, k, intent, dirent_by(dir, low, high))
 }
 
 fn find_by(
     files: &[u32],
     contents: &[u8],
-    d: Slot,
+    at: Location,
     low: u64,
     high: u64,
     k: u32,
     intent: Intent,
 ) -> Walk
-    ensures { λ r. ⌜ r ≡ foundBy intent (tree (now (files .entry)) (now (contents .entry))) d low high k ⌝ }
+    ensures { λ r. ⌜ r ≡ foundBy intent (tree (now (files .entry)) (now (contents .entry))) at low high k ⌝ }
 {
+    let d = at.slot;
     let dir = tables::files::shown(files, contents, d);
-    enter_by(dir, d, low, high, k, intent)
+    enter_by(dir, at, low, high, k, intent)
 }
 
-// The k-th name, by its words, is looked for in directory d.
+// The k-th name, by its words, is looked for in the directory at a location.
 fn look_up(
     files: &[u32],
     contents: &[u8],
     policy: &[u8],
     who: Subject,
-    d: Slot,
+    at: Location,
     low: u64,
     high: u64,
     k: u32,
     intent: Intent,
 ) -> Walk
-    ensures { λ r. ⌜ r ≡ lookupBy intent (tree (now (files .entry)) (now (contents .entry))) (now (policy .entry)) who d low high k ⌝ }
+    ensures { λ r. ⌜ r ≡ lookupBy intent (tree (now (files .entry)) (now (contents .entry))) (now (policy .entry)) who at low high k ⌝ }
 {
+    let d = at.slot;
     if !tables::files::is_directory(files, d) {
         return Walk::Stopped(Refusal::NotADirectory, k);
     }
     match permission_over(files, policy, who, d, Rights::EXECUTE) {
-        Permission::Allowed => find_by(files, contents, d, low, high, k, intent),
+        Permission::Allowed => find_by(files, contents, at, low, high, k, intent),
         Permission::Forbidden(r) => Walk::Stopped(r, k),
     }
 }
 
-// No name follows: the path ends, or as many names were read as tell.
-fn is_last(path: &[u8], next: usize, left: u8) -> bool
-    ensures { λ r. ⌜ r ≡ isLast (length (now (path .entry))) next left ⌝ }
+// The root, where so many links may still be followed.
+fn from_root(follows: u32) -> Location
+    ensures { λ r. ⌜ r ≡ start follows ⌝ }
 {
-    let none = left == 0;
-    if none {
-        return true;
+    Location {
+        dir: Slot(0),
+        dirent: Dirent(0),
+        slot: Slot(0),
+        depth: 0,
+        follows: follows,
     }
-    path.len() <= next
 }
 
-// The intent is that of the last name; those before it must be there.
+// From `at` on, past the slashes there.
+fn rest_from(path: &[u8], at: usize, k: u32) -> Rest
+    ensures { λ r. ⌜ r ≡ restFrom (now (path .entry)) at k ⌝ }
+{
+    Rest {
+        start: span_end(path, at, ByteClass::Slash),
+        k: k,
+    }
+}
+
+// No name is left: the path ends, or as many were read as tell.
+fn none_left(path: &[u8], rest: Rest) -> bool
+    ensures { λ r. ⌜ r ≡ noneLeft (now (path .entry)) rest ⌝ }
+{
+    let ends = path.len() <= rest.start;
+    if ends {
+        return true;
+    }
+    MOST < rest.k
+}
+
+// The intent is that of the last name; those before it must be there, and a link there is followed.
 fn here(last: bool, intent: Intent) -> Intent
-    ensures { λ r. ⌜ r ≡ cond last intent Find ⌝ }
+    ensures { λ r. ⌜ r ≡ cond last intent Follow ⌝ }
 {
     if last {
         return intent;
     }
-    Intent::Find
+    Intent::Follow
 }
 
-// The k-th name of the path starts at `start`, and at most `left` names follow it: it is looked up in directory d, and those that follow from there.
+fn follows_links(intent: Intent) -> bool
+    ensures { λ r. ⌜ r ≡ follows intent ⌝ }
+{
+    match intent {
+        Intent::Find => false,
+        Intent::Follow => true,
+        Intent::Create => false,
+    }
+}
+
+fn is_followed(files: &[u32], s: Slot, intent: Intent) -> bool
+    ensures { λ r. ⌜ r ≡ every (follows intent ∷ isLink (tab FILE-WIDTH (now (files .entry))) s ∷ []) ⌝ }
+{
+    if !follows_links(intent) {
+        return false;
+    }
+    tables::files::is_link(files, s)
+}
+
+// A refusal out of a link's text counts at the name that met the link.
+fn stop_at(k: u32, w: Walk) -> Walk
+    ensures { λ r. ⌜ r ≡ stopAt k w ⌝ }
+{
+    match w {
+        Walk::Reached(at) => Walk::Reached(at),
+        Walk::Stopped(r, _) => Walk::Stopped(r, k),
+    }
+}
+
+// Where the k-th name leads: through a link that is to be followed, to where the walk along its text comes.
+fn follow(
+    files: &[u32],
+    contents: &[u8],
+    policy: &[u8],
+    who: Subject,
+    at: Location,
+    k: u32,
+    intent: Intent,
+) -> Walk
+    requires { ⌜ at .follows ≤ FOLLOWS ⌝ }
+    ensures { λ r. ⌜ r ≡ follower FOLLOWS (tree (now (files .entry)) (now (contents .entry))) (now (policy .entry)) who intent k at ⌝ }
+{
+    let s = at.slot;
+    if !is_followed(files, s, intent) {
+        return Walk::Reached(at);
+    }
+    if at.follows == 0 {
+        return Walk::Stopped(Refusal::TooDeep, k);
+    }
+    let root = from_root(at.follows - 1);
+    let text = tables::files::link_text(files, contents, s);
+    let rest = rest_from(text, 0, 1);
+    let through = Intent::Follow;
+    let w = walk_from(files, contents, policy, who, text, rest, root, through);
+    stop_at(k, w)
+}
+
+// The names that are left, from a location on: the first is looked for there, and those after it where it leads.
 fn walk_from(
     files: &[u32],
     contents: &[u8],
     policy: &[u8],
     who: Subject,
     path: &[u8],
-    start: usize,
-    left: u8,
-    k: u32,
-    d: Slot,
+    rest: Rest,
+    at: Location,
     intent: Intent,
 ) -> Walk
-    requires { ⌜ NameStarts (now path) start k left ⌝ }
-    ensures { λ r. ⌜ r ≡ walk intent (tree (now (files .entry)) (now (contents .entry))) (now (policy .entry)) who (from d) k (firstNames (left + 1) (drop start (now (path .entry)))) ⌝ }
+    requires { ⌜ RestOf (now path) rest ⌝ }
+    requires { ⌜ at .follows ≤ FOLLOWS ⌝ }
+    ensures { λ r. ⌜ r ≡ walk intent (tree (now (files .entry)) (now (contents .entry))) (now (policy .entry)) who at (rest .k) (namesLeft (now (path .entry)) rest) ⌝ }
 {
-    let name = read_name(path, start);
-    let next = span_end(path, name.end, ByteClass::Slash);
-    let last = is_last(path, next, left);
-    let at = here(last, intent);
-    let w = look_up(files, contents, policy, who, d, name.low, name.high, k, at);
-    if last {
-        return w;
+    if none_left(path, rest) {
+        return Walk::Reached(at);
     }
-    match w {
-        Walk::Reached(to) => walk_from(
-            files,
-            contents,
-            policy,
-            who,
-            path,
-            next,
-            left - 1,
-            k + 1,
-            to.slot,
-            intent,
-        ),
+    let k = rest.k;
+    let name = read_name(path, rest.start);
+    let ns = rest_from(path, name.end, k + 1);
+    let last = none_left(path, ns);
+    let it = here(last, intent);
+    match look_up(files, contents, policy, who, at, name.low, name.high, k, it) {
         Walk::Stopped(r, n) => Walk::Stopped(r, n),
-    }
-}
-
-fn root() -> Location
-    ensures { λ r. ⌜ r ≡ ROOT ⌝ }
-{
-    Location {
-        dir: Slot(0),
-        dirent: Dirent(0),
-        slot: Slot(0),
+        Walk::Reached(met) => {
+            let w = follow(files, contents, policy, who, met, k, it);
+            if last {
+                return w;
+            }
+            match w {
+                Walk::Stopped(r, n) => Walk::Stopped(r, n),
+                Walk::Reached(to) => walk_from(files, contents, policy, who, path, ns, to, intent),
+            }
+        }
     }
 }
 
@@ -183,29 +282,23 @@ fn walk_names(
 ) -> Walk
     ensures { λ r. ⌜ r ≡ walk intent (tree (now (files .entry)) (now (contents .entry))) (now (policy .entry)) who ROOT 1 (names (now (path .entry))) ⌝ }
 {
-    let start = span_end(path, 0, ByteClass::Slash);
-    if path.len() <= start {
-        return Walk::Reached(root());
-    }
-    walk_from(
-        files,
-        contents,
-        policy,
-        who,
-        path,
-        start,
-        NAMES,
-        1,
-        Slot(0),
-        intent,
-    )
+    let root = from_root(FOLLOWS);
+    let rest = rest_from(path, 0, 1);
+    walk_from(files, contents, policy, who, path, rest, root, intent)
 }
 
-// To the file that the path names.
+// To the file that the path names, be it a link.
 pub fn walk_path(files: &[u32], contents: &[u8], policy: &[u8], who: Subject, path: &[u8]) -> Walk
     ensures { λ r. ⌜ r ≡ walkPath (tree (now (files .entry)) (now (contents .entry))) (now (policy .entry)) who (now (path .entry)) ⌝ }
 {
     walk_names(files, contents, policy, who, path, Intent::Find)
+}
+
+// To the file that a link by that name leads to.
+pub fn follow_path(files: &[u32], contents: &[u8], policy: &[u8], who: Subject, path: &[u8]) -> Walk
+    ensures { λ r. ⌜ r ≡ followPath (tree (now (files .entry)) (now (contents .entry))) (now (policy .entry)) who (now (path .entry)) ⌝ }
+{
+    walk_names(files, contents, policy, who, path, Intent::Follow)
 }
 
 // To the parent of the last name, with the parent's three checks, and that name's entry there; 16 where it is missing.

@@ -23,13 +23,13 @@ console-policy = refl
 
 -- ---- calls, with a buffer of 16 bytes
 
-abbrev call : (process call fd number : ℕ) (path : List ℕ) → Call
+abbrev pub call : (process call fd number : ℕ) (path : List ℕ) → Call
 call p n i number path = record { process = record { 0 = p }; call = n; fd = record { 0 = i }; number = number; path = path; «data» = []; buffer = replicate 16 255 }
 
-abbrev opens : (process : ℕ) (path : List ℕ) (mode : ℕ) → Call
+abbrev pub opens : (process : ℕ) (path : List ℕ) (mode : ℕ) → Call
 opens p path mode = call p 1 0 mode path
 
-abbrev creates : (process : ℕ) (path : List ℕ) → Call
+abbrev pub creates : (process : ℕ) (path : List ℕ) → Call
 creates p path = call p 2 0 7 path
 
 abbrev unlinks : (process : ℕ) (path : List ℕ) → Call
@@ -48,10 +48,10 @@ abbrev forks : (process : ℕ) → Call
 forks p = call p 15 0 0 []
 
 -- /fares, /fares/now, /fares/x, /key
-abbrev FARES-PATH : List ℕ
+abbrev pub FARES-PATH : List ℕ
 FARES-PATH = SLASH ∷ FARES
 
-abbrev FARES-NOW : List ℕ
+abbrev pub FARES-NOW : List ℕ
 FARES-NOW = FARES-PATH ++ SLASH ∷ NOW
 
 abbrev FARES-X : List ℕ
@@ -61,14 +61,14 @@ abbrev KEY-PATH : List ℕ
 KEY-PATH = SLASH ∷ KEY
 
 -- the store after the calls, and the answer to one more
-unfoldable afterFrom : Store → List Call → Store
+unfoldable pub afterFrom : Store → List Call → Store
 afterFrom s [] = s
 afterFrom s (c ∷ cs) = afterFrom (act consoleFixed s c .store) cs
 
-abbrev after : List Call → Store
+abbrev pub after : List Call → Store
 after cs = afterFrom console cs
 
-abbrev answer : List Call → Call → Reply
+abbrev pub answer : List Call → Call → Reply
 answer cs c = act consoleFixed (after cs) c .reply
 
 -- the bytes of /fares/now, slot 2

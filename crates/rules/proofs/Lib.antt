@@ -6,6 +6,7 @@ pub mod Lists
 pub mod Ranges
 pub mod Written
 pub mod Guards
+pub mod LinkGuards
 pub mod Walks
 pub mod Passed
 pub mod Unused

@@ -5,16 +5,16 @@ use mathlib.Core.Bool.{Bool, true, false, cond}
 use mathlib.Core.List.{List, [], _∷_}
 use lib.Dec.{eqb, ltb, leb}
 use lib.ListN.{length}
-use Rattle.rules.specs.Choice.{every}
+use Rattle.rules.specs.Choice.{every, some}
 use Rattle.rules.specs.Layout.{BLOCK, FILE-OWNER, FILE-LABEL, FILE-LENGTH, FILE-LINKS, PLAIN, DIRECTORY, OPEN-SLOT, OPEN-MODE, OPEN-OFFSET, OPEN-REFERENCES}
 use Rattle.rules.specs.Store.{Table, Tree, View, slot, isSlot, isPid, isFd, isOfd, isDirent, modeAt, subjectOf, recordOf, up, plus}
 use Rattle.rules.specs.Rights.{READ, WRITE, EXECUTE, bitsOf, modeOf, modeRights, reads, writes, owns, moved}
 use Rattle.rules.specs.Directories.{freeDirent, direntRanked}
-use Rattle.rules.specs.Walk.{isDirectory, isPlain, bitsAllow, labelAllows, walkPath, walkNew}
+use Rattle.rules.specs.Walk.{isDirectory, isPlain, isLink, bitsAllow, labelAllows, walkPath, followPath, walkNew}
 use Rattle.rules.specs.Calls.{Call, operation, wellFormed}
 use Rattle.rules.specs.Checks.{need, after, inUse, held, ofdHeld, isAbsent, freeSlot, freeOfd, freeFd, freePid, gains, loses, freed, unnaming, releasing}
-use Rattle.rules.specs.DecidePaths.{allowed, newOpen, truncated, opening, openRoom, openFile, openMode, decideOpen, newRecord, createRoom, createAt, decideCreate, unlinkAt, decideUnlink, removeAt, decideRemove}
-use Rattle.rules.specs.DecidePaths.{linkRoom, linkAt, linkTo, decideLink, listEntry, listAt, decideList, changeBitsAt, decideChangeBits, decideStat, bitsAllowExecute, executeAt, decideExecute}
+use Rattle.rules.specs.DecidePaths.{allowed, newOpen, truncated, opening, openRoom, openFile, openMode, decideOpen, newFile, newRecord, making, createRoom, depthOk, createAt, decideCreate, newLink, decideSymlink, unlinkAt, decideUnlink, removeAt, decideRemove}
+use Rattle.rules.specs.DecidePaths.{linkRoom, linkAt, linkTo, decideLink, listEntry, listAt, decideList, changeBitsAt, decideChangeBits, decideStat, bitsAllowExecute, executeAt, decideExecute, readLinkAt, decideReadLink}
 use Rattle.rules.specs.Decide.{decideClose, remaining, readOpen, decideRead, writeAt, placement, writeFile, writeSome, writeOpen, decideWrite, decideSeek, duplicateTo, decideDuplicate, forkTo, decideFork, decideOwn, decide}
 use Rattle.rules.specs.declared.ids.Slot.{Slot}
 use Rattle.rules.specs.declared.ids.Fd.{Fd}
@@ -34,6 +34,8 @@ use Rattle.rules.specs.declared.refusal.Refusal.{Refusal}
 use Rattle.rules.specs.declared.decision.Location.{Location}
 use Rattle.rules.specs.declared.decision.Walk.{Walk}
 use Rattle.rules.specs.declared.decision.Walk.the-variants.{Reached, Stopped}
+use Rattle.rules.specs.declared.decision.Record.{Record}
+use Rattle.rules.specs.declared.decision.DirChange.{DirChange}
 use Rattle.rules.specs.declared.decision.NewOpen.{NewOpen}
 use Rattle.rules.specs.declared.decision.Output.{Output}
 use Rattle.rules.specs.declared.decision.Output.the-variants as output
@@ -95,13 +97,17 @@ module _ (Q : List ℕ) (v : View) (c : Call) where
     pub bits : bitsAllow file who s want ≡ true
     pub label : labelAllows file Q who s want ≡ true
 
-  -- the path leads to `at`
+  -- the path leads to `at`, a link by its last name not followed
   abbrev pub Walked : Location → Type 0
   Walked at = walkPath (v .tree) Q who (c .path) ≡ Reached at
 
+  -- and followed
+  abbrev pub Followed : Location → Type 0
+  Followed at = followPath (v .tree) Q who (c .path) ≡ Reached at
+
   -- a plain file is opened in mode m
   pub record Opening (at : Location) (m : OpenMode) : Type 0 where
-    pub walked : Walked at
+    pub walked : Followed at
     pub plain : isPlain file (at .slot) ≡ true
     pub allows : Allowed (at .slot) (modeRights m)
     pub fd-free : isFd (freeFd (v .desc) (c .process)) ≡ true
@@ -130,6 +136,10 @@ module _ (Q : List ℕ) (v : View) (c : Call) where
   abbrev pub count : ℕ
   count = min (length (c .buffer)) (remaining file (v .openFiles) ofd)
 
+  -- and of a link
+  abbrev pub linkCount : Location → ℕ
+  linkCount at = min (length (c .buffer)) (file (at .slot .0) FILE-LENGTH)
+
   -- ---- every call
 
   -- what the number of an open says, and whether it truncates
@@ -147,19 +157,19 @@ module _ (Q : List ℕ) (v : View) (c : Call) where
         Passed op.Open (newest at m .fd .0) output.Nothing (effect.Opened (newest at m))
     opensTruncating : (at : Location) (m : OpenMode) (truncating : Bool) → Mode m (modeOf (c .number)) truncating → Opening at m → every (truncating ∷ ltb 0 (file (at .slot .0) FILE-LENGTH) ∷ []) ≡ true →
         Passed op.Open (newest at m .fd .0) output.Nothing (effect.Truncated (newest at m) (truncated file (at .slot)))
-    creates : (o : Operation) (kind : ℕ) (at : Location) (b : Bits) → Makes o kind → bitsOf (c .number) ≡ bitsNumber.Valid b → Naming (c .path) at → isSlot (freeSlot file) ≡ true →
-        Passed o (freeSlot file .0) output.Nothing (effect.Created (gains file (at .dir) (entryIn at)) (freeSlot file) (newRecord file who kind b (at .dir) (freeSlot file)))
-    unlinks : (at : Location) → Walked at → isPlain file (at .slot) ≡ true → Allowed (at .dir) WRITE →
+    creates : (o : Operation) (kind : ℕ) (at : Location) (b : Bits) → Makes o kind → bitsOf (c .number) ≡ bitsNumber.Valid b → Naming (c .path) at → depthOk kind at ≡ true → isSlot (freeSlot file) ≡ true →
+        Passed o (freeSlot file .0) output.Nothing (effect.Created (gains file (at .dir) (entryIn at)) (freeSlot file) (newRecord file who (newFile kind b) (at .dir) (freeSlot file)))
+    unlinks : (at : Location) → Walked at → some (isPlain file (at .slot) ∷ isLink file (at .slot) ∷ []) ≡ true → Allowed (at .dir) WRITE →
         Passed op.Unlink 0 output.Nothing (effect.Unlinked (loses file (at .dir) (at .dirent)) (unnaming file (v .openFiles) (at .slot)))
     removes : (at : Location) → Walked at → isDirectory file (at .slot) ≡ true → Allowed (at .dir) WRITE → eqb (file (at .slot .0) FILE-LENGTH) 0 ≡ true →
         Passed op.RemoveDirectory 0 output.Nothing (effect.Removed (loses file (at .dir) (at .dirent)) (at .slot) (freed file (at .slot)))
     links : (old at : Location) → Walked old → isPlain file (old .slot) ≡ true → Naming (c .«data») at →
         Passed op.Link 0 output.Nothing (effect.Linked (gains file (at .dir) (entryIn at)) (old .slot) (up (file (old .slot .0) FILE-LINKS)))
-    lists : (at : Location) → Walked at → isDirectory file (at .slot) ≡ true → Allowed (at .slot) READ → isDirent (direntRanked (v .tree .shown (at .slot .0)) (c .number)) ≡ true →
+    lists : (at : Location) → Followed at → isDirectory file (at .slot) ≡ true → Allowed (at .slot) READ → isDirent (direntRanked (v .tree .shown (at .slot .0)) (c .number)) ≡ true →
         Passed op.List 1 (output.Name (at .slot) (direntRanked (v .tree .shown (at .slot .0)) (c .number))) effect.Nothing
-    listsPast : (at : Location) → Walked at → isDirectory file (at .slot) ≡ true → Allowed (at .slot) READ → isDirent (direntRanked (v .tree .shown (at .slot .0)) (c .number)) ≡ false →
+    listsPast : (at : Location) → Followed at → isDirectory file (at .slot) ≡ true → Allowed (at .slot) READ → isDirent (direntRanked (v .tree .shown (at .slot .0)) (c .number)) ≡ false →
         Passed op.List 0 output.Nothing effect.Nothing
-    changesBits : (at : Location) (b : Bits) → bitsOf (c .number) ≡ bitsNumber.Valid b → Walked at → owns who (file (at .slot .0) FILE-OWNER) ≡ true → labelAllows file Q who (at .slot) WRITE ≡ true →
+    changesBits : (at : Location) (b : Bits) → bitsOf (c .number) ≡ bitsNumber.Valid b → Followed at → owns who (file (at .slot .0) FILE-OWNER) ≡ true → labelAllows file Q who (at .slot) WRITE ≡ true →
         Passed op.ChangeBits 0 output.Nothing (effect.BitsChanged (at .slot) b)
     describes : (at : Location) → Walked at → Passed op.Stat 0 (output.Fields (recordOf file (at .slot))) effect.Nothing
     closes : Holding → Passed op.Close 0 output.Nothing (effect.Closed (c .fd) (releasing file (v .openFiles) (v .desc) (c .process) (c .fd)))
@@ -173,8 +183,12 @@ module _ (Q : List ℕ) (v : View) (c : Call) where
         Passed op.Duplicate (freeFd (v .desc) (c .process) .0) output.Nothing (effect.Duplicated (freeFd (v .desc) (c .process)) ofd (up (v .openFiles (ofd .0) OPEN-REFERENCES)))
     forks : isPid (freePid (v .proc)) ≡ true → Passed op.Fork (freePid (v .proc) .0) output.Nothing (effect.Forked (freePid (v .proc)) who)
     exits : Passed op.Exit 0 output.Nothing effect.Exited
-    executes : (at : Location) → Walked at → isPlain file (at .slot) ≡ true → bitsAllowExecute file who (at .slot) ≡ true → labelAllows file Q who (at .slot) EXECUTE ≡ true →
+    executes : (at : Location) → Followed at → isPlain file (at .slot) ≡ true → bitsAllowExecute file who (at .slot) ≡ true → labelAllows file Q who (at .slot) EXECUTE ≡ true →
         Passed op.Execute 0 output.Nothing (effect.Relabelled (moved Q (who .label) (file (at .slot .0) FILE-LABEL)))
+    symlinks : (at : Location) → Naming (c .path) at → isSlot (freeSlot file) ≡ true →
+        Passed op.Symlink (freeSlot file .0) output.Nothing (effect.Symlinked (gains file (at .dir) (entryIn at)) (freeSlot file) (newRecord file who (newLink (length (c .«data»))) (at .dir) (freeSlot file)))
+    readsLink : (at : Location) → Walked at → isLink file (at .slot) ≡ true →
+        Passed op.ReadLink (linkCount at) (output.Bytes (at .slot) 0 (linkCount at)) effect.Nothing
 
   -- process (2), form (3), then the call's own checks
   pub record Permit (n : ℕ) (o : Output) (e : Effect) : Type 0 where
@@ -184,10 +198,15 @@ module _ (Q : List ℕ) (v : View) (c : Call) where
 
   -- ---- and every granted decision has
 
+  made : {o : Operation} {kind : ℕ} → Makes o kind → (d : DirChange) (s : Slot) (r : Record) → making kind d s r ≡ effect.Created d s r
+  unfolding making
+  made plain d s r = refl
+  made directory d s r = refl
+
   allowed-fit : {G : ℕ → Output → Effect → Type 0} (s : Slot) (want : Rights) (d : Decision) → (Allowed s want → Fit G d) → Fit G (allowed file Q who s want d)
   allowed-fit s want d f = need-fit (bitsAllow file who s want) _ _ (λ b. need-fit (labelAllows file Q who s want) _ _ (λ l. f (record { bits = b; label = l })))
 
-  open-fit : (at : Location) (m : OpenMode) (truncating : Bool) → Mode m (modeOf (c .number)) truncating → Walked at → Fit (Passed op.Open) (openFile Q file (v .openFiles) (v .desc) (c .process) who m truncating (at .slot))
+  open-fit : (at : Location) (m : OpenMode) (truncating : Bool) → Mode m (modeOf (c .number)) truncating → Followed at → Fit (Passed op.Open) (openFile Q file (v .openFiles) (v .desc) (c .process) who m truncating (at .slot))
   unfolding openFile openRoom opening
   open-fit at m truncating k w = need-fit _ _ _ (λ p. allowed-fit (at .slot) (modeRights m) _ (λ a. need-fit _ _ _ (λ i. need-fit _ _ _ (λ e.
       by (record { walked = w; plain = p; allows = a; fd-free = i; ofd-free = e }) (every (truncating ∷ ltb 0 (file (at .slot .0) FILE-LENGTH) ∷ [])) refl))))
@@ -196,7 +215,7 @@ module _ (Q : List ℕ) (v : View) (c : Call) where
       by h true q = granting _ _ _ (opensTruncating at m truncating k h q)
       by h false q = granting _ _ _ (opens at m truncating k h q)
 
-  mode-fit : (at : Location) → Walked at → (n : ModeNumber) → modeOf (c .number) ≡ n → Fit (Passed op.Open) (openMode Q file (v .openFiles) (v .desc) (c .process) who n (at .slot))
+  mode-fit : (at : Location) → Followed at → (n : ModeNumber) → modeOf (c .number) ≡ n → Fit (Passed op.Open) (openMode Q file (v .openFiles) (v .desc) (c .process) who n (at .slot))
   unfolding openMode
   mode-fit at w (modeNumber.Keep m) e = open-fit at m false (rw e keeps) w
   mode-fit at w (modeNumber.Truncate m) e = open-fit at m true (rw e truncates) w
@@ -205,8 +224,13 @@ module _ (Q : List ℕ) (v : View) (c : Call) where
   create-fit : {o : Operation} {kind : ℕ} → Makes o kind → (n : BitsNumber) → bitsOf (c .number) ≡ n → Fit (Passed o) (decideCreate Q (v .tree) who kind n (c .path))
   unfolding decideCreate createAt createRoom
   create-fit k bitsNumber.OutOfRange e = refusing _ _
-  create-fit k (bitsNumber.Valid b) e = after-fit _ _ (λ at w. need-fit _ _ _ (λ a. allowed-fit (at .dir) WRITE _ (λ r. need-fit _ _ _ (λ s. need-fit _ _ _ (λ i.
-      granting _ _ _ (creates _ _ at b k e (record { walked = w; absent = a; allows = r; dirent-free = i }) s))))))
+  create-fit {kind = kind} k (bitsNumber.Valid b) e = after-fit _ _ (λ at w. need-fit _ _ _ (λ a. allowed-fit (at .dir) WRITE _ (λ r. need-fit _ _ _ (λ d. need-fit _ _ _ (λ s. need-fit _ _ _ (λ i.
+      rw (made k _ _ _) (granting _ _ _ (creates _ _ at b k e (record { walked = w; absent = a; allows = r; dirent-free = i }) d s))))))))
+
+  symlink-fit : Fit (Passed op.Symlink) (decideSymlink Q (v .tree) who (length (c .«data»)) (c .path))
+  unfolding decideSymlink createAt createRoom making
+  symlink-fit = after-fit _ _ (λ at w. need-fit _ _ _ (λ a. allowed-fit (at .dir) WRITE _ (λ r. need-fit _ _ _ (λ d. need-fit _ _ _ (λ s. need-fit _ _ _ (λ i.
+      granting _ _ _ (symlinks at (record { walked = w; absent = a; allows = r; dirent-free = i }) s)))))))
 
   link-fit : Fit (Passed op.Link) (decideLink Q (v .tree) who (c .path) (c .«data»))
   unfolding decideLink linkTo linkAt linkRoom
@@ -228,7 +252,7 @@ module _ (Q : List ℕ) (v : View) (c : Call) where
   write-fit = need-fit _ _ _ (λ h. need-fit _ _ _ (λ w. cond-fit _ _ _ (λ z. granting _ _ _ (storesNothing h w z)) (λ z. need-fit _ _ _ (λ l. granting _ _ _ (stores h w z l)))))
 
   own-fit : (o : Operation) → Fit (Passed o) (decideOwn Q v c o)
-  unfolding decideOwn decideOpen decideUnlink unlinkAt decideRemove removeAt decideStat decideClose decideRead readOpen decideSeek decideDuplicate duplicateTo forkTo decideExecute executeAt
+  unfolding decideOwn decideOpen decideUnlink unlinkAt decideRemove removeAt decideStat decideClose decideRead readOpen decideSeek decideDuplicate duplicateTo forkTo decideExecute executeAt decideReadLink readLinkAt
   own-fit op.Open = after-fit _ _ (λ at w. mode-fit at w (modeOf (c .number)) refl)
   own-fit op.Create = create-fit plain (bitsOf (c .number)) refl
   own-fit op.MakeDirectory = create-fit directory (bitsOf (c .number)) refl
@@ -246,6 +270,8 @@ module _ (Q : List ℕ) (v : View) (c : Call) where
   own-fit op.Fork = need-fit _ _ _ (λ q. granting _ _ _ (forks q))
   own-fit op.Exit = granting _ _ _ exits
   own-fit op.Execute = after-fit _ _ (λ at w. need-fit _ _ _ (λ p. need-fit _ _ _ (λ b. need-fit _ _ _ (λ l. granting _ _ _ (executes at w p b l)))))
+  own-fit op.Symlink = symlink-fit
+  own-fit op.ReadLink = after-fit _ _ (λ at w. need-fit _ _ _ (λ l. granting _ _ _ (readsLink at w l)))
   own-fit op.Unknown = refusing _ _
 
   pub permitted : Fit Permit (decide Q v c)

@@ -8,7 +8,6 @@ use Rattle.rules.specs.Choice.{every}
 use Rattle.rules.specs.Layout.{BITS-MAX, MODE-MAX}
 use Rattle.rules.specs.Rights.{bitsOf, bitsValid, bitsKnown, modeOf, modeKept, TRUNCATE}
 use Rattle.rules.specs.declared.rights.BitsNumber.the-variants as bits
-use Rattle.rules.specs.declared.rights.ModeNumber.{ModeNumber}
 use Rattle.rules.specs.declared.rights.ModeNumber.the-variants.{Keep, Truncate, OutOfRange}
 
 pub bits-known : (n : ℕ) → bitsKnown n ≡ leb n BITS-MAX

@@ -46,6 +46,8 @@ module _ (Q : List ℕ) (v : View) (c d : Call) where
   formed-same op.Fork a = rw (a .process)
   formed-same op.Exit a = refl
   formed-same op.Execute a = rw (a .process, a .path (λ z. omega (arith, z)))
+  formed-same op.Symlink a = rw (a .process, a .path (λ z. omega (arith, z)), a .«data» (λ z. omega (arith, z)))
+  formed-same op.ReadLink a = rw (a .process, a .path (λ z. omega (arith, z)), a .buffer)
   formed-same op.Unknown a = refl
 
   pub decided-same : Agree (uses (operation c)) c d → decide Q v c ≡ decide Q v d
@@ -57,8 +59,8 @@ module _ (Q : List ℕ) (v : View) (c d : Call) where
   unfolding uses carryOut
   carried-same t o n out e a (passed.opens at m k h i q) = rw (a .process)
   carried-same t o n out e a (passed.opensTruncating at m k h i q) = rw (a .process)
-  carried-same t o n out e a (passed.creates _ kind at b passed.plain h i q) = rw (a .path (λ z. omega (arith, z)))
-  carried-same t o n out e a (passed.creates _ kind at b passed.directory h i q) = rw (a .path (λ z. omega (arith, z)))
+  carried-same t o n out e a (passed.creates _ kind at b passed.plain h i y q) = rw (a .path (λ z. omega (arith, z)))
+  carried-same t o n out e a (passed.creates _ kind at b passed.directory h i y q) = rw (a .path (λ z. omega (arith, z)))
   carried-same t o n out e a (passed.unlinks at w p r) = refl
   carried-same t o n out e a (passed.removes at w p r z) = refl
   carried-same t o n out e a (passed.links old at w p r) = rw (a .«data» (λ z. omega (arith, z)))
@@ -75,6 +77,8 @@ module _ (Q : List ℕ) (v : View) (c d : Call) where
   carried-same t o n out e a (passed.forks q) = rw (a .process)
   carried-same t o n out e a passed.exits = rw (a .process)
   carried-same t o n out e a (passed.executes at w p b l) = rw (a .process)
+  carried-same t o n out e a (passed.symlinks at h q) = rw (a .path (λ z. omega (arith, z)), a .«data» (λ z. omega (arith, z)))
+  carried-same t o n out e a (passed.readsLink at w l) = refl
 
   outcome-same : (t : Store) (x : Decision) → Agree (uses (operation c)) c d → Fit (Permit Q v c) x → outcomeOf t c x ≡ outcomeOf t d x
   unfolding outcomeOf replyTo storeAfter

@@ -1,4 +1,4 @@
--- "The seventeen calls": a call, its number, and its form.
+-- "The seventeen calls", and two for symbolic links: a call, its number, and its form.
 use Prim.Native.Nat.{ℕ}
 use mathlib.Core.Path.{_≡_}
 use mathlib.Core.Bool.{Bool, true, false, cond, not}
@@ -16,7 +16,7 @@ use Rattle.rules.specs.declared.request.Operation.{Operation}
 use Rattle.rules.specs.declared.request.Operation.the-variants as op
 
 -- "its numbers, paths and bytes with the reader's buffer as lent". The number is a mode, bits, an index or a position; `data` is a write's
--- bytes or a second path. A read's size is the buffer's. Parts that a call does not use (`uses`) are not looked at.
+-- bytes, a second path or a link's text. A read's size is the buffer's. Parts that a call does not use (`uses`) are not looked at.
 pub record Call : Type 0 where
   pub process : Pid
   pub call : ℕ
@@ -50,7 +50,9 @@ operationOf n =
     (cond (eqb n 15) op.Fork
     (cond (eqb n 16) op.Exit
     (cond (eqb n 17) op.Execute
-    op.Unknown))))))))))))))))
+    (cond (eqb n 18) op.Symlink
+    (cond (eqb n 19) op.ReadLink
+    op.Unknown))))))))))))))))))
 
 abbrev pub operation : Call → Operation
 operation c = operationOf (c .call)
@@ -64,7 +66,7 @@ parts fd number path «data» = record { fd = fd; number = number; path = path; 
 abbrev pub reading : Parts → Parts
 reading u = record { fd = u .fd; number = u .number; path = u .path; «data» = u .«data»; reads = true }
 
--- "paths of at most 64 bytes and data of at most 512": a second path is a path. Of an unknown call nothing is unused, its last text is data
+-- "paths of at most 64 bytes and data of at most 512": a second path is a path, and so is a link's text. Of an unknown call nothing is unused, its last text is data
 unfoldable pub uses : Operation → Parts
 uses op.Open = parts false true PATH 0
 uses op.Create = parts false true PATH 0
@@ -83,6 +85,8 @@ uses op.Duplicate = parts true false 0 0
 uses op.Fork = parts false false 0 0
 uses op.Exit = parts false false 0 0
 uses op.Execute = parts false false PATH 0
+uses op.Symlink = parts false false PATH PATH
+uses op.ReadLink = reading (parts false true PATH 0)
 uses op.Unknown = parts true true PATH BLOCK
 
 -- Two calls agree in what they use: their process, the call, and of these parts those that are used; and the same buffer is lent to both. A call
@@ -124,6 +128,8 @@ formOk op.Duplicate n p b = true
 formOk op.Fork n p b = true
 formOk op.Exit n p b = true
 formOk op.Execute n p b = pathOk p
+formOk op.Symlink n p b = every (pathBelowRoot p ∷ pathOk b ∷ [])
+formOk op.ReadLink n p b = pathOk p
 formOk op.Unknown n p b = false
 
 abbrev pub wellFormed : Call → Bool

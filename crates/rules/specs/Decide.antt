@@ -9,7 +9,7 @@ use Rattle.rules.specs.Store.{Table, View, slot, isPid, isFd, modeAt, su
 use Rattle.rules.specs.Rights.{bitsOf, reads, writes, appends}
 use Rattle.rules.specs.Calls.{Call, operation, wellFormed}
 use Rattle.rules.specs.Checks.{need, granted, inUse, held, ofdHeld, freeFd, freePid, releasing}
-use Rattle.rules.specs.DecidePaths.{decideOpen, decideCreate, decideUnlink, decideRemove, decideLink, decideList, decideChangeBits, decideStat, decideExecute}
+use Rattle.rules.specs.DecidePaths.{decideOpen, decideCreate, decideUnlink, decideRemove, decideLink, decideList, decideChangeBits, decideStat, decideExecute, decideSymlink, decideReadLink}
 use Rattle.rules.specs.declared.ids.Slot.{Slot}
 use Rattle.rules.specs.declared.ids.Pid.{Pid}
 use Rattle.rules.specs.declared.ids.Fd.{Fd}
@@ -133,6 +133,8 @@ decideOwn Q v c op.Duplicate = decideDuplicate (v .openFiles) (v .desc) (c .proc
 decideOwn Q v c op.Fork = decideFork (v .proc) (c .process)
 decideOwn Q v c op.Exit = granted 0 effect.Exited
 decideOwn Q v c op.Execute = decideExecute Q (v .tree) (asker v c) (c .path)
+decideOwn Q v c op.Symlink = decideSymlink Q (v .tree) (asker v c) (length (c .«data»)) (c .path)
+decideOwn Q v c op.ReadLink = decideReadLink Q (v .tree) (asker v c) (length (c .buffer)) (c .path)
 decideOwn Q v c op.Unknown = Refused Malformed 0
 
 -- "Order: 1, 2, 3, then as each call lists"

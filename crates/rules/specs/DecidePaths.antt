@@ -1,14 +1,14 @@
--- The calls on paths, once their form is right: 1 to 9 and 17. The text's order is the order of refusals.
-use Prim.Native.Nat.{ℕ, _+_, _-_}
+-- The calls on paths, once their form is right: 1 to 9 and 17 to 19. The text's order is the order of refusals.
+use Prim.Native.Nat.{ℕ, _+_, _-_, min}
 use mathlib.Core.Bool.{Bool, true, false, cond, not}
 use mathlib.Core.List.{List, [], _∷_}
-use lib.Dec.{eqb, ltb}
-use Rattle.rules.specs.Choice.{every}
-use Rattle.rules.specs.Layout.{SLOTS, OPEN-FILES, DESCRIPTORS, DIRENTS, FILE-OWNER, FILE-GROUP, FILE-BITS, FILE-LABEL, FILE-LENGTH, FILE-LINKS, FILE-VERSION, PLAIN, DIRECTORY}
+use lib.Dec.{eqb, ltb, leb}
+use Rattle.rules.specs.Choice.{every, some, implies}
+use Rattle.rules.specs.Layout.{SLOTS, OPEN-FILES, DESCRIPTORS, DIRENTS, FILE-OWNER, FILE-GROUP, FILE-BITS, FILE-LABEL, FILE-LENGTH, FILE-LINKS, FILE-VERSION, PLAIN, DIRECTORY, LINK, NAMES}
 use Rattle.rules.specs.Store.{Table, Tree, slot, isSlot, isFd, isOfd, isDirent, bitsAt, recordOf, up}
 use Rattle.rules.specs.Rights.{READ, WRITE, EXECUTE, bitsExecute, owns, moved, modeOf, modeRights}
 use Rattle.rules.specs.Directories.{freeDirent, direntRanked}
-use Rattle.rules.specs.Walk.{isDirectory, isPlain, bitsAllow, labelAllows, walkPath, walkNew}
+use Rattle.rules.specs.Walk.{isDirectory, isPlain, isLink, bitsAllow, labelAllows, walkPath, followPath, walkNew}
 use Rattle.rules.specs.Checks.{need, granted, after, isAbsent, freeSlot, freeOfd, freeFd, gains, loses, freed, unnaming}
 use Rattle.rules.specs.declared.ids.Slot.{Slot}
 use Rattle.rules.specs.declared.ids.Pid.{Pid}
@@ -23,9 +23,11 @@ use Rattle.rules.specs.declared.rights.OpenMode.{OpenMode}
 use Rattle.rules.specs.declared.rights.ModeNumber.{ModeNumber}
 use Rattle.rules.specs.declared.rights.ModeNumber.the-variants.{Keep, Truncate, OutOfRange}
 use Rattle.rules.specs.declared.request.Subject.{Subject}
-use Rattle.rules.specs.declared.refusal.Refusal.the-variants.{Malformed, WrongKind, BitsForbid, LabelForbids, NameThere, NotEmpty, TableFull}
+use Rattle.rules.specs.declared.refusal.Refusal.the-variants.{Malformed, WrongKind, BitsForbid, LabelForbids, NameThere, NotEmpty, TableFull, TooDeep}
 use Rattle.rules.specs.declared.decision.Location.{Location}
 use Rattle.rules.specs.declared.decision.Record.{Record}
+use Rattle.rules.specs.declared.decision.NewFile.{NewFile}
+use Rattle.rules.specs.declared.decision.DirChange.{DirChange}
 use Rattle.rules.specs.declared.decision.NewOpen.{NewOpen}
 use Rattle.rules.specs.declared.decision.Output.the-variants as output
 use Rattle.rules.specs.declared.decision.Effect.{Effect}
@@ -81,39 +83,63 @@ openMode Q file openFiles desc p who (Truncate m) s = openFile Q file openFiles 
 openMode Q file openFiles desc p who OutOfRange s = Refused Malformed 0
 
 unfoldable pub decideOpen : List ℕ → Tree → (openFiles desc : Table) → Pid → Subject → ℕ → List ℕ → Decision
-decideOpen Q t openFiles desc p who n path = after (walkPath t Q who path) (λ at. openMode Q (t .file) openFiles desc p who (modeOf n) (at .slot))
+decideOpen Q t openFiles desc p who n path = after (followPath t Q who path) (λ at. openMode Q (t .file) openFiles desc p who (modeOf n) (at .slot))
 
 -- ---- 2. Create, 3. Make directory: "Walk to the parent with its three checks; name there (11); write on the parent (9, 10); free slot and
 -- place (13). Owner is the caller's user, bits as given, label the parent's. Value: the slot"
 
-abbrev pub newRecord : Table → Subject → (kind : ℕ) → Bits → (d s : Slot) → Record
-newRecord file who kind bits d s = record { kind = kind; owner = who .user; group = who .group; bits = bits; label = file (d .0) FILE-LABEL; length = 0; links = 1; version = file (s .0) FILE-VERSION }
+abbrev pub newFile : (kind : ℕ) → Bits → NewFile
+newFile kind bits = record { kind = kind; bits = bits; length = 0 }
 
-abbrev pub created : Table → Subject → (kind : ℕ) → Bits → (d s : Slot) → Dirent → Decision
-created file who kind bits d s i = granted (s .0) (effect.Created (gains file d i) s (newRecord file who kind bits d s))
+abbrev pub newRecord : Table → Subject → NewFile → (d s : Slot) → Record
+newRecord file who new d s = record { kind = new .kind; owner = who .user; group = who .group; bits = new .bits; label = file (d .0) FILE-LABEL; length = new .length; links = 1; version = file (s .0) FILE-VERSION }
 
-unfoldable pub createRoom : Table → Subject → (kind : ℕ) → Bits → (d s : Slot) → Dirent → Decision
-createRoom file who kind bits d s i = need (isSlot s) TableFull (need (isDirent i) TableFull (created file who kind bits d s i))
+-- a link gets its text too
+unfoldable pub making : (kind : ℕ) → DirChange → Slot → Record → Effect
+making kind d s r = cond (eqb kind LINK) (effect.Symlinked d s r) (effect.Created d s r)
+
+abbrev pub created : Table → Subject → NewFile → (d s : Slot) → Dirent → Decision
+created file who new d s i = granted (s .0) (making (new .kind) (gains file d i) s (newRecord file who new d s))
+
+unfoldable pub createRoom : Table → Subject → NewFile → (d s : Slot) → Dirent → Decision
+createRoom file who new d s i = need (isSlot s) TableFull (need (isDirent i) TableFull (created file who new d s i))
+
+-- "A directory that would lie over 8 names deep through links is refused with 15, before 13"
+abbrev pub depthOk : (kind : ℕ) → Location → Bool
+depthOk kind at = implies (eqb kind DIRECTORY) (leb (at .depth) NAMES)
 
 -- at the new name's entry in its parent
-unfoldable pub createAt : List ℕ → Tree → Subject → (kind : ℕ) → Bits → Location → Decision
-createAt Q t who kind bits at =
+unfoldable pub createAt : List ℕ → Tree → Subject → NewFile → Location → Decision
+createAt Q t who new at =
     need (isAbsent at) NameThere
     (allowed (t .file) Q who (at .dir) WRITE
-    (createRoom (t .file) who kind bits (at .dir) (freeSlot (t .file)) (freeDirent (t .shown (at .dir .0)))))
+    (need (depthOk (new .kind) at) TooDeep
+    (createRoom (t .file) who new (at .dir) (freeSlot (t .file)) (freeDirent (t .shown (at .dir .0))))))
+
+abbrev pub createNew : List ℕ → Tree → Subject → NewFile → List ℕ → Decision
+createNew Q t who new path = after (walkNew t Q who path) (createAt Q t who new)
 
 unfoldable pub decideCreate : List ℕ → Tree → Subject → (kind : ℕ) → BitsNumber → List ℕ → Decision
 decideCreate Q t who kind bitsNumber.OutOfRange path = Refused Malformed 0
-decideCreate Q t who kind (bitsNumber.Valid bits) path = after (walkNew t Q who path) (createAt Q t who kind bits)
+decideCreate Q t who kind (bitsNumber.Valid bits) path = createNew Q t who (newFile kind bits) path
 
--- ---- 4. Unlink: "walk; plain (8); write on the parent (9, 10)"
+-- ---- 18. Make link: "path and text both well formed (3), otherwise as create, value included"; "Link bits are 0"
+
+-- with a text of n bytes
+abbrev pub newLink : ℕ → NewFile
+newLink n = record { kind = LINK; bits = bitsAt 0; length = n }
+
+unfoldable pub decideSymlink : List ℕ → Tree → Subject → ℕ → List ℕ → Decision
+decideSymlink Q t who n path = createNew Q t who (newLink n) path
+
+-- ---- 4. Unlink: "walk; plain (8); write on the parent (9, 10)"; "unlink takes [the link itself] away"
 
 abbrev pub unlinked : (file openFiles : Table) → Location → Decision
 unlinked file openFiles at = granted 0 (effect.Unlinked (loses file (at .dir) (at .dirent)) (unnaming file openFiles (at .slot)))
 
 unfoldable pub unlinkAt : List ℕ → (file openFiles : Table) → Subject → Location → Decision
 unlinkAt Q file openFiles who at =
-    need (isPlain file (at .slot)) WrongKind
+    need (some (isPlain file (at .slot) ∷ isLink file (at .slot) ∷ [])) WrongKind
     (allowed file Q who (at .dir) WRITE
     (unlinked file openFiles at))
 
@@ -172,7 +198,7 @@ listAt Q t who k d =
     (listEntry d (direntRanked (t .shown (d .0)) k)))
 
 unfoldable pub decideList : List ℕ → Tree → Subject → ℕ → List ℕ → Decision
-decideList Q t who k path = after (walkPath t Q who path) (λ at. listAt Q t who k (at .slot))
+decideList Q t who k path = after (followPath t Q who path) (λ at. listAt Q t who k (at .slot))
 
 -- ---- 8. Change bits: "walk; owner or user 0 (9); label write (10)"
 
@@ -184,7 +210,7 @@ changeBitsAt Q file who bits s =
 
 unfoldable pub decideChangeBits : List ℕ → Tree → Subject → BitsNumber → List ℕ → Decision
 decideChangeBits Q t who bitsNumber.OutOfRange path = Refused Malformed 0
-decideChangeBits Q t who (bitsNumber.Valid bits) path = after (walkPath t Q who path) (λ at. changeBitsAt Q (t .file) who bits (at .slot))
+decideChangeBits Q t who (bitsNumber.Valid bits) path = after (followPath t Q who path) (λ at. changeBitsAt Q (t .file) who bits (at .slot))
 
 -- ---- 9. Stat: "walk. Kind, owner, bits, label, length, names, stamp"
 
@@ -211,4 +237,15 @@ executeAt Q file who s =
     (executed Q file who s)))
 
 unfoldable pub decideExecute : List ℕ → Tree → Subject → List ℕ → Decision
-decideExecute Q t who path = after (walkPath t Q who path) (λ at. executeAt Q (t .file) who (at .slot))
+decideExecute Q t who path = after (followPath t Q who path) (λ at. executeAt Q (t .file) who (at .slot))
+
+-- ---- 19. Read link: "walk, 8; bytes as in read, from 0"
+
+abbrev pub linkRead : Slot → ℕ → Decision
+linkRead s n = Granted n (output.Bytes s 0 n) effect.Nothing
+
+unfoldable pub readLinkAt : Table → (size : ℕ) → Slot → Decision
+readLinkAt file size s = need (isLink file s) WrongKind (linkRead s (min size (file (s .0) FILE-LENGTH)))
+
+unfoldable pub decideReadLink : List ℕ → Tree → Subject → (size : ℕ) → List ℕ → Decision
+decideReadLink Q t who size path = after (walkPath t Q who path) (λ at. readLinkAt (t .file) size (at .slot))

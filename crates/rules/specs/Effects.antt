@@ -45,6 +45,10 @@ unnameChanges d = bytesTo (d .dir .0) (DIRENT-WIDTH * d .dirent .0) (zeros DIREN
 unfoldable pub createChanges : Name → DirChange → Slot → Record → List Change
 createChanges name d s r = fileTo (s .0) (words r) ∷ nameChanges name s d
 
+-- a link's text from its first byte on: a free slot's bytes are 0, so those past it are
+unfoldable pub symlinkChanges : Name → (text : List ℕ) → DirChange → Slot → Record → List Change
+symlinkChanges name text d s r = fileTo (s .0) (words r) ∷ bytesTo (s .0) 0 text ∷ nameChanges name s d
+
 unfoldable pub linkChanges : Name → DirChange → Slot → ℕ → List Change
 linkChanges name d s links = fileWord (s .0) FILE-LINKS links ∷ nameChanges name s d
 
@@ -133,3 +137,4 @@ carryOut c (effect.Duplicated i e refs) t = applyAll (duplicateChanges (c .proce
 carryOut c (effect.Forked q who) t = applyAll (forkChanges q who) (sharedAll (c .process) q t)
 carryOut c effect.Exited t = applyAll (procZero (c .process .0) ∷ []) (releasedAll (c .process) t)
 carryOut c (effect.Relabelled label) t = applyAll (procWord (c .process .0) PROCESS-LABEL label ∷ []) t
+carryOut c (effect.Symlinked d s r) t = applyAll (symlinkChanges (lastName (names (c .path))) (c .«data») d s r) t

@@ -40,6 +40,10 @@ NAMES = 8
 abbrev pub PATH : ℕ
 PATH = 64
 
+-- symbolic links followed in one walk
+abbrev pub FOLLOWS : ℕ
+FOLLOWS = 8
+
 -- ---- a file's record
 
 abbrev pub FILE-WIDTH : ℕ
@@ -80,6 +84,10 @@ PLAIN = 1
 
 abbrev pub DIRECTORY : ℕ
 DIRECTORY = 2
+
+-- a symbolic link
+abbrev pub LINK : ℕ
+LINK = 3
 
 -- ---- an open file
 
@@ -132,7 +140,7 @@ NO-TRANSITION = 255
 -- ---- largest values
 
 abbrev pub KIND-MAX : ℕ
-KIND-MAX = 2
+KIND-MAX = 3
 
 abbrev pub USER-MAX : ℕ
 USER-MAX = 65535

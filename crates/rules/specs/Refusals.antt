@@ -1,7 +1,7 @@
 -- "When the store says no": the paper's number of each refusal. Granted is 0.
 use Prim.Native.Nat.{ℕ}
 use Rattle.rules.specs.declared.refusal.Refusal.{Refusal}
-use Rattle.rules.specs.declared.refusal.Refusal.the-variants.{Unsound, NoProcess, Malformed, NotHeld, WrongDirection, NameMissing, NotADirectory, WrongKind, BitsForbid, LabelForbids, NameThere, NotEmpty, TableFull, TooLong}
+use Rattle.rules.specs.declared.refusal.Refusal.the-variants.{Unsound, NoProcess, Malformed, NotHeld, WrongDirection, NameMissing, NotADirectory, WrongKind, BitsForbid, LabelForbids, NameThere, NotEmpty, TableFull, TooLong, TooDeep}
 
 abbrev pub GRANTED : ℕ
 GRANTED = 0
@@ -21,3 +21,4 @@ refusalNumber NameThere = 11
 refusalNumber NotEmpty = 12
 refusalNumber TableFull = 13
 refusalNumber TooLong = 14
+refusalNumber TooDeep = 15

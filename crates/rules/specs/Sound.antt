@@ -7,13 +7,13 @@ use lib.ListN.{length, getD, drop}
 use Rattle.rules.specs.Choice.{every, some, implies}
 use Rattle.rules.specs.Scan.{all, any, count, total, first}
 use Rattle.rules.specs.Layout.{SLOTS, BLOCK, DIRENT-WIDTH, DIRENTS, NAME, NAMES, OPEN-FILES, PROCESSES, DESCRIPTORS, FILE-WIDTH, OPEN-FILE-WIDTH, PROCESS-WIDTH, RIGHTS-SIZE, NO-TRANSITION, SLASH}
-use Rattle.rules.specs.Layout.{FILE-KIND, FILE-OWNER, FILE-GROUP, FILE-BITS, FILE-LABEL, FILE-LENGTH, FILE-LINKS, FILE-VERSION, FREE, PLAIN, DIRECTORY, OPEN-SLOT, OPEN-MODE, OPEN-OFFSET, OPEN-REFERENCES, PROCESS-USED, PROCESS-USER, PROCESS-GROUP, PROCESS-LABEL}
+use Rattle.rules.specs.Layout.{FILE-KIND, FILE-OWNER, FILE-GROUP, FILE-BITS, FILE-LABEL, FILE-LENGTH, FILE-LINKS, FILE-VERSION, FREE, OPEN-SLOT, OPEN-MODE, OPEN-OFFSET, OPEN-REFERENCES, PROCESS-USED, PROCESS-USER, PROCESS-GROUP, PROCESS-LABEL}
 use Rattle.rules.specs.Layout.{KIND-MAX, USER-MAX, GROUP-MAX, LABEL-MAX, WORD-MAX}
 use Rattle.rules.specs.Store.{Store, Fixed, Table, Tree, View, view, slot, isOpen}
 use Rattle.rules.specs.Rights.{rightsKnown, bitsKnown, modeOf, modeKept}
-use Rattle.rules.specs.Paths.{Name, isDots, sameName}
+use Rattle.rules.specs.Paths.{Name, isDots, sameName, pathOk}
 use Rattle.rules.specs.Directories.{direntAt, direntSlot, isEmpty, isPadding}
-use Rattle.rules.specs.Walk.{isDirectory, isPlain}
+use Rattle.rules.specs.Walk.{isDirectory, isPlain, isLink, linkText}
 
 -- ---- sizes: "Lent tables of another size are 1"
 
@@ -145,11 +145,23 @@ unfoldable pub plainSound : Tree → (openFiles : Table) → ℕ → Bool
 plainSound t openFiles s =
     every (leb (t .file s FILE-LENGTH) BLOCK ∷ some (ltb 0 (t .file s FILE-LINKS) ∷ isOpen openFiles (slot s) ∷ []) ∷ allZero (t .shown s) ∷ [])
 
+-- ---- symbolic links: "named once, bits 0, a valid path as text, of the record's length, then 0"
+
+-- its text, and nothing after it
+unfoldable pub textSound : Tree → ℕ → Bool
+textSound t s = every (pathOk (linkText t (slot s)) ∷ allZero (drop (t .file s FILE-LENGTH) (t .shown s)) ∷ [])
+
+unfoldable pub linkSound : Tree → ℕ → Bool
+linkSound t s = every (eqb (t .file s FILE-LINKS) 1 ∷ eqb (t .file s FILE-BITS) 0 ∷ textSound t s ∷ [])
+
+-- ---- every slot
+
 -- what is owed by kind; a free slot's bytes are 0
 unfoldable pub kindSound : Tree → (openFiles : Table) → ℕ → Bool
 kindSound t openFiles s =
     cond (isDirectory (t .file) (slot s)) (directorySound t s)
-    (cond (isPlain (t .file) (slot s)) (plainSound t openFiles s) (allZero (t .shown s)))
+    (cond (isPlain (t .file) (slot s)) (plainSound t openFiles s)
+    (cond (isLink (t .file) (slot s)) (linkSound t s) (allZero (t .shown s))))
 
 unfoldable pub slotSound : Tree → (openFiles : Table) → ℕ → Bool
 slotSound t openFiles s = every (recordSound (t .file) s ∷ linksSound t s ∷ kindSound t openFiles s ∷ [])

@@ -1,4 +1,4 @@
--- "Written down, a call is process, call and descriptor .. its number .. the path's length, the path; then a write's bytes or a second path".
+-- "Written down, a call is process, call and descriptor .. its number .. the path's length, the path; then a write's bytes or a second path", or a link's text.
 use Prim.Native.Nat.{ℕ, _+_, _*_, _/_, _%_, _<_}
 use mathlib.Core.Bool.{Bool, true, false, cond, not}
 use mathlib.Core.List.{List, [], _∷_, _++_}

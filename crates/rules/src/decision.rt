@@ -9,16 +9,21 @@ use crate::request::Subject;
 use crate::rights::Bits;
 use crate::rights::OpenMode;
 
-// Where a walk came to: a slot, and the directory and directory entry that name it.
+// Where a walk came to: a slot, and the directory and directory entry that name it; how many names deep it lies, as the walk came to it; and how many
+// symbolic links may still be followed.
 pub struct Location {
     pub dir: Slot,
     pub dirent: Dirent,
     pub slot: Slot,
+    pub depth: u32,
+    pub follows: u32,
 }
 
-// What a path is walked for: the file that it names; or a new name in its parent, which may be there or not.
+// What a path is walked for: the file that it names; the file that a link by that name leads to; or a new name in its parent, which may be there or
+// not.
 pub enum Intent {
     Find,
+    Follow,
     Create,
 }
 
@@ -38,6 +43,13 @@ pub struct Record {
     pub length: u32,
     pub links: u32,
     pub version: u32,
+}
+
+// What a file that is made has of its own. A link's length is that of its text.
+pub struct NewFile {
+    pub kind: u32,
+    pub bits: Bits,
+    pub length: u32,
 }
 
 // A directory entry (the paper's place) that is written or cleared, with the directory's new length and version.
@@ -69,7 +81,7 @@ pub struct Placement {
     pub offset: u32,
 }
 
-// What becomes of a plain file that loses a name: it keeps its slot, with its links afterwards; or the slot is freed, with its record afterwards.
+// What becomes of a plain file or a link that loses a name: it keeps its slot, with its links afterwards; or the slot is freed, with its record afterwards.
 pub enum Unnamed {
     Kept(Slot, u32),
     Freed(Slot, Record),
@@ -99,7 +111,8 @@ pub enum Output {
     Bytes(Slot, u32, u32),
 }
 
-// What a granted call does. `Truncated`: the paper's cut; `Moved`: a new offset (the paper's position); `Relabelled`: the label after execute.
+// What a granted call does. `Truncated`: the paper's cut; `Moved`: a new offset (the paper's position); `Relabelled`: the label after execute;
+// `Symlinked`: a link with its text.
 pub enum Effect {
     Nothing,
     Opened(NewOpen),
@@ -116,6 +129,7 @@ pub enum Effect {
     Forked(Pid, Subject),
     Exited,
     Relabelled(u32),
+    Symlinked(DirChange, Slot, Record),
 }
 
 // Refused, at a name of the path; or granted, with a value.

@@ -17,6 +17,7 @@ pub enum Refusal {
     NotEmpty,
     TableFull,
     TooLong,
+    TooDeep,
 }
 
 impl Refusal {
@@ -38,6 +39,7 @@ impl Refusal {
             Refusal::NotEmpty => 12,
             Refusal::TableFull => 13,
             Refusal::TooLong => 14,
+            Refusal::TooDeep => 15,
         }
     }
 }

@@ -29,6 +29,8 @@ pub enum Operation {
     Fork,
     Exit,
     Execute,
+    Symlink,
+    ReadLink,
     Unknown,
 }
 

@@ -6,8 +6,8 @@ use mathlib.Core.Bool.{Bool, true, false, cond, false≢true}
 use mathlib.Core.List.{List, [], _∷_}
 use native.Mathlib.Decide.{decLe}
 use native.Mathlib.Omega.{arith}
-use borrow.Author.Tests.{ltb-true, le-leb, lt-leb, le-ltb, ne-eqb}
-use lib.Dec.{eqb, ltb, leb}
+use borrow.Author.Tests.{le-leb, lt-leb, le-ltb, ne-eqb}
+use lib.Dec.{leb}
 use lib.ListN.{length, take}
 use lib.Seq.{length-take-le, take-all}
 use Rattle.rules.specs.Choice.{every}
@@ -29,6 +29,7 @@ use Rattle.rules.specs.declared.decision.Decision.the-variants.{Refused}
 use Rattle.rules.proofs.Passed.{Fit, granting, refusing, need-fit}
 use Rattle.rules.proofs.Unused.{unused-unseen}
 use Rattle.script_rules.specs.Replay.{BYTE-MAX, asByte, UNKNOWN, readsTooMuch, callFor, bytesFor, askedBy}
+use Rattle.script_rules.proofs.Numbers.{unknown}
 use Rattle.script_claims.specs.Claims.{whole}
 
 -- what is capped stays, or it is over the cap, and so is what it becomes
@@ -61,13 +62,6 @@ large-call w = go (readsTooMuch w)
     go true = stays refl
     go false = large (w .call)
 
-unknown : (n : ℕ) → Large n → operationOf n ≡ op.Unknown
-unfolding operationOf
-unknown n h = simp no
-  where
-    no : (k : ℕ) → ltb k BYTE-MAX ≡ true → eqb n k ≡ false
-    no k l = ne-eqb n k (λ e. omega (arith, ltb-true k BYTE-MAX l))
-
 -- ---- the last text: none as long is a path, or can be written
 
 abbrev Long : List ℕ → Type 0
@@ -81,17 +75,19 @@ long w = go (decLe (length (w .«data»)) (BLOCK + 1))
     go (yes l) = stays (sym (take-all (BLOCK + 1) (w .«data») l))
     go (no g) = over (omega arith) (omega (arith, length-take-le (BLOCK + 1) (w .«data») (omega arith)))
 
-not-path : (b : List ℕ) → Long b → pathBelowRoot b ≡ false
-unfolding pathBelowRoot pathOk shapeOk sizeOk every
+not-path : (b : List ℕ) → Long b → pathOk b ≡ false
+unfolding pathOk shapeOk sizeOk every
 not-path b h = rw (le-leb 1 (length b) (omega arith), lt-leb (length b) PATH (omega arith))
 
-not-link : (path b : List ℕ) → Long b → every (pathOk path ∷ pathBelowRoot b ∷ []) ≡ false
+not-below : (b : List ℕ) → Long b → pathBelowRoot b ≡ false
+unfolding pathBelowRoot every
+not-below b h = rw (not-path b h)
+
+-- the second of two tests
+second-fails : (t : Bool) {u : Bool} → u ≡ false → every (t ∷ u ∷ []) ≡ false
 unfolding every
-not-link path b h = rw (not-path b h) (go (pathOk path))
-  where
-    go : (t : Bool) → cond t false false ≡ false
-    go true = refl
-    go false = refl
+second-fails true e = rw e
+second-fails false e = refl
 
 too-long : (file openFiles : Table) (e : Ofd) (at n : ℕ) → BLOCK < n → writeFile file openFiles e at n ≡ Refused TooLong 0
 unfolding writeFile need
@@ -171,9 +167,10 @@ module _ (K : Fixed) (s : Store) (k : ℕ) (path buffer : List ℕ) where
     holds : {o : Operation} → uses o .«data» ≡ 0 → (t : Bool) → ((l : ℕ) (x : List ℕ) → Large l → formed (asks p n l x) o ≡ need t Malformed (Refused NotHeld 0)) → Same o
     holds z t f = either fd (λ e. agrees (λ u. e) (λ u. absurd (u z))) (λ h g. refuse _ (need-fit t Malformed (Refused NotHeld 0) (λ _. refusing NotHeld 0)) (f i a h) (f j b g))
 
-    links : Same op.Link
-    unfolding uses formOk need
-    links = either text (λ e. agrees (λ u. absurd (false≢true u)) (λ u. e)) (λ h g. refuse (Refused Malformed 0) (refusing Malformed 0) (rw (not-link path a h)) (rw (not-link path b g)))
+    -- the last text is used, alone: a call is refused for it
+    names : {o : Operation} → uses o .fd ≡ false → ((x : List ℕ) → Long x → formOk o k path x ≡ false) → Same o
+    unfolding need
+    names z f = either text (λ e. agrees (λ u. absurd (false≢true (sym z ∙ u))) (λ u. e)) (λ h g. refuse (Refused Malformed 0) (refusing Malformed 0) (rw (f a h)) (rw (f b g)))
 
     write-unheld : (l : ℕ) (t : List ℕ) → Large l → formed (asks p n l t) op.Write ≡ Refused NotHeld 0
     unfolding formOk need decideOwn decideWrite
@@ -195,7 +192,7 @@ module _ (K : Fixed) (s : Store) (k : ℕ) (path buffer : List ℕ) where
     alike op.MakeDirectory = neither refl refl
     alike op.Unlink = neither refl refl
     alike op.RemoveDirectory = neither refl refl
-    alike op.Link = links
+    alike op.Link = names refl (λ x h. second-fails (pathOk path) (not-below x h))
     alike op.List = neither refl refl
     alike op.ChangeBits = neither refl refl
     alike op.Stat = neither refl refl
@@ -207,6 +204,8 @@ module _ (K : Fixed) (s : Store) (k : ℕ) (path buffer : List ℕ) where
     alike op.Fork = neither refl refl
     alike op.Exit = neither refl refl
     alike op.Execute = neither refl refl
+    alike op.Symlink = names refl (λ x h. second-fails (pathBelowRoot path) (not-path x h))
+    alike op.ReadLink = neither refl refl
     alike op.Unknown = refuse (Refused Malformed 0) (refusing Malformed 0) refl refl
 
     rest-same : step K s (asks p n i a) ≡ step K s (asks p n j b)

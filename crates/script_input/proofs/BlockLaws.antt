@@ -4,61 +4,34 @@ use mathlib.Core.Path.{_≡_, refl, sym, _∙_}
 use mathlib.Core.Bool.{Bool, true, false, cond}
 use mathlib.Core.List.{List, [], _∷_}
 use native.Mathlib.Omega.{arith}
-use borrow.Author.Tests.{leb-true, leb-false, ne-eqb}
+use borrow.Author.Tests.{leb-true, leb-false}
 use lib.Dec.{leb}
 use lib.ListN.{take}
 use Rattle.rules.specs.Choice.{every}
 use Rattle.rules.specs.Layout.{NUMBER-MAX}
 use Rattle.rules.specs.Calls.{operationOf, uses, Call, callOf}
-use Rattle.rules.specs.declared.request.Operation.the-variants as op
 use Rattle.rules.specs.Store.{zeros}
 use Rattle.rules.specs.Written.{partsOf, capped}
 use Rattle.rules.proofs.Tests.{test}
 use Rattle.script_rules.specs.Text.{numberOk, bytesOf}
 use Rattle.script_rules.specs.Blocks.{textOf, numberIn, numberLineOk, headLinesOk, operandLinesOk, numberLinesOk, linesOk, partsOk, blockOf, blockOk, fromCall, fromFd, fromArg, fromPath, fromData}
-use Rattle.script_rules.specs.Replay.{asByte, readsTooMuch, callFor, roomFor, bytesFor, askedBy}
+use Rattle.script_rules.specs.Replay.{BYTE-MAX, asByte, readsTooMuch, callFor, roomFor, bytesFor, askedBy}
 use Rattle.script_rules.specs.declared.line.Line.{Line}
 use Rattle.script_rules.specs.declared.line.Line.the-variants as line
+use Rattle.script_rules.proofs.Numbers.{unknown}
 use Rattle.script_rules.proofs.Blocks.{NumberLines, number-lines, lines}
 use Rattle.script_input.specs.Read.{numberRead, numbersRead, numbered, headOk, operandsOk, numbersOk, readOk, requestFor}
 
 -- ---- numbers over 255
 
-unknown : (n : ℕ) → 255 < n → operationOf n ≡ op.Unknown
-unfolding operationOf
-unknown n h =
-    rw (
-      ne-eqb n 1 (λ e. omega arith),
-      ne-eqb n 2 (λ e. omega arith),
-      ne-eqb n 3 (λ e. omega arith),
-      ne-eqb n 4 (λ e. omega arith),
-      ne-eqb n 5 (λ e. omega arith),
-      ne-eqb n 6 (λ e. omega arith),
-      ne-eqb n 7 (λ e. omega arith),
-      ne-eqb n 8 (λ e. omega arith),
-      ne-eqb n 9 (λ e. omega arith),
-      ne-eqb n 10 (λ e. omega arith),
-      ne-eqb n 11 (λ e. omega arith),
-      ne-eqb n 12 (λ e. omega arith),
-      ne-eqb n 13 (λ e. omega arith),
-      ne-eqb n 14 (λ e. omega arith),
-      ne-eqb n 15 (λ e. omega arith),
-      ne-eqb n 16 (λ e. omega arith),
-      ne-eqb n 17 (λ e. omega arith),
-    )
-
-last : operationOf 255 ≡ op.Unknown
-unfolding operationOf
-last = refl
-
 -- no call has such a number
 pub byte-operation : (n : ℕ) → operationOf (asByte n) ≡ operationOf n
 unfolding asByte
-byte-operation n = by (leb n 255) refl
+byte-operation n = by (leb n BYTE-MAX) refl
   where
-    by : (t : Bool) → leb n 255 ≡ t → operationOf (cond (leb n 255) n 255) ≡ operationOf n
-    by true e = rw e
-    by false e = rw e (last ∙ sym (unknown n (leb-false n 255 e)))
+    by : (t : Bool) → leb n BYTE-MAX ≡ t → operationOf (cond t n BYTE-MAX) ≡ operationOf n
+    by true e = refl
+    by false e = unknown BYTE-MAX (omega arith) ∙ sym (unknown n (omega (arith, leb-false n BYTE-MAX e)))
 
 -- ---- numbers
 

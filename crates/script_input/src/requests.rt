@@ -74,7 +74,7 @@ fn reads_well(n: Numbers) -> bool
     n.number <= READ_MAX
 }
 
-// How many bytes are lent for a read.
+// How many bytes are lent for a read, of a file or of a link.
 pub fn room_for(n: Numbers) -> usize
     ensures { λ r. ⌜ r ≡ roomFor (numbered n [] []) ⌝ }
 {

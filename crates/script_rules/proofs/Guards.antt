@@ -8,9 +8,9 @@ use mathlib.Core.Bool.{Bool, true, false}
 use mathlib.Core.List.{List, [], _∷_, _++_}
 use lib.ListN.{length, replicate}
 use Rattle.rules.specs.Choice.{every, some}
-use Rattle.rules.specs.Store.{store, fixed}
+use Rattle.rules.specs.Store.{Store, store, fixed}
 use Rattle.rules.specs.Written.{Written}
-use Rattle.rules.specs.Step.{act}
+use Rattle.rules.specs.Step.{Outcome, act}
 use Rattle.rules.specs.Console.{console, consoleFixed}
 use Rattle.rules.specs.declared.answer.Answer.{Answer}
 use Rattle.script_rules.specs.Computing.{computing}
@@ -18,7 +18,7 @@ use Rattle.script_rules.specs.Text.{numberOk, decimal, hexOf, bytesOf}
 use Rattle.script_rules.specs.Blocks.{blockOk, blockOf, blocks, afterBlocks}
 use Rattle.script_rules.specs.Answers.{answerText}
 use Rattle.script_rules.specs.Reasons.{reasonNumber}
-use Rattle.script_rules.specs.Replay.{askedBy, Run, run}
+use Rattle.script_rules.specs.Replay.{askedBy, replyText, Run, run}
 
 -- the bytes of a text
 abbrev bytes : String → List ℕ
@@ -72,6 +72,10 @@ link-read : said (blockOf (bytes "proc=0\ncall=6\nfd=0\narg=0\npath=/=\ndata=2f6
 unfolding computing
 link-read = refl
 
+symlink-read : said (blockOf (bytes "proc=0\ncall=18\nfd=0\narg=0\npath=/=\ndata=2f61\n")) ≡ 0 ∷ 18 ∷ 0 ∷ 0 ∷ 2 ∷ 47 ∷ 61 ∷ 47 ∷ 97 ∷ []
+unfolding computing
+symlink-read = refl
+
 whole-blocks : every (block "proc=2\ncall=12\nfd=3\narg=0\npath=\ndata=0a\n" ∷ block "proc=9\ncall=15\nfd=0\narg=0\npath=\ndata=\nx" ∷ []) ≡ true
 unfolding computing block
 whole-blocks = refl
@@ -114,8 +118,17 @@ unused-text : some (block "proc=2\ncall=15\nfd=0\narg=0\npath=/\ndata=\n" ∷ bl
 unfolding computing block
 unused-text = refl
 
--- "an unknown call leaves nothing unused"; no call has the number 257
-unknown-call : every (block "proc=2\ncall=0\nfd=9\narg=7\npath=x\ndata=00\n" ∷ block "proc=2\ncall=257\nfd=9\narg=7\npath=x\ndata=00\n" ∷ []) ≡ true
+-- a link is made with a path and a text, and read with a path and a size
+links-whole : every (block "proc=2\ncall=18\nfd=0\narg=0\npath=/a\ndata=2f61\n" ∷ block "proc=2\ncall=19\nfd=0\narg=16\npath=/a\ndata=\n" ∷ []) ≡ true
+unfolding computing block
+links-whole = refl
+
+unused-of-links : some (block "proc=2\ncall=18\nfd=0\narg=1\npath=/a\ndata=2f61\n" ∷ block "proc=2\ncall=18\nfd=1\narg=0\npath=/a\ndata=2f61\n" ∷ block "proc=2\ncall=19\nfd=0\narg=16\npath=/a\ndata=2f61\n" ∷ block "proc=2\ncall=19\nfd=1\narg=16\npath=/a\ndata=\n" ∷ []) ≡ false
+unfolding computing block
+unused-of-links = refl
+
+-- "an unknown call leaves nothing unused"; no call has the number 20 or 257
+unknown-call : every (block "proc=2\ncall=0\nfd=9\narg=7\npath=x\ndata=00\n" ∷ block "proc=2\ncall=20\nfd=9\narg=7\npath=x\ndata=00\n" ∷ block "proc=2\ncall=257\nfd=9\narg=7\npath=x\ndata=00\n" ∷ []) ≡ true
 unfolding computing block
 unknown-call = refl
 
@@ -129,7 +142,7 @@ broken-after-one : length (blocks 3 (FORK ++ bytes "proc=1\n")) ∷ afterBlocks 
 unfolding computing FORK
 broken-after-one = refl
 
--- process, call and descriptor 258, a read of 512 bytes, and of more
+-- process, call and descriptor 258, a read of 512 bytes, of a link too, and of more
 abbrev ofBlock : Written → List ℕ
 ofBlock w = askedBy w .process .0 ∷ askedBy w .call ∷ askedBy w .fd .0 ∷ askedBy w .number ∷ length (askedBy w .buffer) ∷ []
 
@@ -141,13 +154,36 @@ largest-read : ofBlock (blockOf (bytes "proc=2\ncall=11\nfd=1\narg=512\npath=\nd
 unfolding computing
 largest-read = refl
 
+largest-link-read : ofBlock (blockOf (bytes "proc=2\ncall=19\nfd=0\narg=512\npath=/a\ndata=\n")) ≡ 2 ∷ 19 ∷ 0 ∷ 512 ∷ 512 ∷ []
+unfolding computing
+largest-link-read = refl
+
 -- "read size (at most 512, else 3)", "3, after 2"
+asking : Store → String → Outcome
+asking s block = act consoleFixed s (askedBy (blockOf (bytes block)))
+
 answered : String → ℕ
-answered s = act consoleFixed console (askedBy (blockOf (bytes s))) .reply .refusal
+answered block = asking console block .reply .refusal
 
 larger-read : answered "proc=2\ncall=11\nfd=0\narg=513\npath=\ndata=\n" ∷ answered "proc=9\ncall=11\nfd=0\narg=513\npath=\ndata=\n" ∷ [] ≡ 3 ∷ 2 ∷ []
-unfolding computing answered
+unfolding computing asking answered
 larger-read = refl
+
+larger-link-read : answered "proc=2\ncall=19\nfd=0\narg=513\npath=/a\ndata=\n" ∷ answered "proc=9\ncall=19\nfd=0\narg=513\npath=/a\ndata=\n" ∷ [] ≡ 3 ∷ 2 ∷ []
+unfolding computing asking answered
+larger-link-read = refl
+
+-- /today is made to lead to /fares/now: stat shows a link, and its text is read
+LINKED : Store
+LINKED = asking console "proc=0\ncall=18\nfd=0\narg=0\npath=/today\ndata=2f66617265732f6e6f77\n" .store
+
+link-shown : replyText (asking LINKED "proc=0\ncall=9\nfd=0\narg=0\npath=/today\ndata=\n" .reply) ≡ bytes "answer=0\nvalue=0\ndata=03000001000000000a00010000000000\n"
+unfolding computing asking LINKED
+link-shown = refl
+
+link-text : replyText (asking LINKED "proc=0\ncall=19\nfd=0\narg=64\npath=/today\ndata=\n" .reply) ≡ bytes "answer=0\nvalue=10\ndata=2f66617265732f6e6f77\n"
+unfolding computing asking LINKED
+link-text = refl
 
 -- ---- answers
 

@@ -27,7 +27,7 @@ asByte n = cond (leb n BYTE-MAX) n BYTE-MAX
 abbrev pub reads : Written → Bool
 reads w = partsOf w .reads
 
--- "read size (at most 512, else 3)"
+-- "read size (at most 512, else 3)", of a link's text too
 unfoldable pub readsTooMuch : Written → Bool
 readsTooMuch w = every (reads w ∷ ltb BLOCK (w .number) ∷ [])
 
@@ -38,7 +38,7 @@ UNKNOWN = 0
 unfoldable pub callFor : Written → ℕ
 callFor w = cond (readsTooMuch w) UNKNOWN (asByte (w .call))
 
--- how many bytes are lent for a read; no other call is lent any
+-- how many bytes are lent for a read, of a file or of a link; no other call is lent any
 unfoldable pub roomFor : Written → ℕ
 roomFor w = cond (every (reads w ∷ leb (w .number) BLOCK ∷ [])) (w .number) 0
 

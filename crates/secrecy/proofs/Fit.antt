@@ -1,17 +1,17 @@
 -- What a granted decision's numbers are known to satisfy, by the checks that it has passed.
 use mathlib.Core.Path.{_≡_, refl}
-use mathlib.Core.Bool.{true}
+use mathlib.Core.Bool.{true, false}
 use mathlib.Core.List.{List, [], _∷_}
 use mathlib.Core.Logic.{_≢_}
 use Prim.Native.Nat.{ℕ, _≤_, _<_, max}
 use native.Mathlib.Omega.{arith}
 use borrow.Author.Tests.{ltb-true, eqb-true, eqb-false, not-true}
 use Rattle.rules.specs.Layout.{SLOTS, PROCESSES, DESCRIPTORS, FILE-LABEL, FILE-LENGTH, OPEN-SLOT, OPEN-MODE, PROCESS-USED}
-use Rattle.rules.specs.Store.{Tree, View, slot, modeAt, subjectOf}
+use Rattle.rules.specs.Store.{Tree, View, slot, isSlot, modeAt, subjectOf}
 use Rattle.rules.specs.Rights.{reads, labelGrants, moved, modeRights}
 use Rattle.rules.specs.Paths.{Name, names}
-use Rattle.rules.specs.Walk.{isDirectory, entered, lookup, walk, ROOT}
-use Rattle.rules.specs.Checks.{inUse, held, slotFree}
+use Rattle.rules.specs.Walk.{isDirectory, isLink, linkText, entered, lookup, follows, walkBy, walk, ROOT}
+use Rattle.rules.specs.Checks.{inUse, held, slotFree, freeSlot}
 use Rattle.rules.specs.Calls.{Call, operation}
 use Rattle.rules.specs.Decide.{decide}
 use Rattle.rules.specs.declared.ids.Slot.{Slot}
@@ -25,7 +25,7 @@ use Rattle.rules.specs.declared.request.Subject.{Subject}
 use Rattle.rules.specs.declared.request.Operation.{Operation}
 use Rattle.rules.specs.declared.decision.Location.{Location}
 use Rattle.rules.specs.declared.decision.Intent.{Intent}
-use Rattle.rules.specs.declared.decision.Intent.the-variants.{Find, Create}
+use Rattle.rules.specs.declared.decision.Intent.the-variants.{Find, Follow, Create}
 use Rattle.rules.specs.declared.decision.Walk.the-variants.{Reached}
 use Rattle.rules.specs.declared.decision.Record.{Record}
 use Rattle.rules.specs.declared.decision.DirChange.{DirChange}
@@ -38,7 +38,7 @@ use Rattle.rules.specs.declared.decision.Output.the-variants as output
 use Rattle.rules.specs.declared.decision.Effect.{Effect}
 use Rattle.rules.specs.declared.decision.Effect.the-variants as effect
 use Rattle.rules.proofs.Scans.{first-passes}
-use Rattle.rules.proofs.Walks.{WalkFit, reached, needAt-fit, fit-at, Each, walk-fit}
+use Rattle.rules.proofs.Walks.{WalkFit, reached, needAt-fit, fit-at, any-names, Kept, walk-fit}
 use Rattle.rules.proofs.Passed as passed
 use Rattle.rules.proofs.Passed.{Fit, fit-map, Passed, Opening, newest, permitted}
 use Rattle.rules.proofs.Tests.{test}
@@ -55,7 +55,7 @@ pub record Caller (v : View) (p : Pid) : Type 0 where
   pub small : p .0 < PROCESSES
   pub used : v .proc (p .0) PROCESS-USED ≡ 1
 
--- bytes are given out of slots that an open file reads
+-- bytes are given out of slots that an open file reads, or out of links
 pub record Fetched (v : View) (s : ℕ) : Type 0 where
   pub ofd : Ofd
   pub mode : reads (modeAt (v .openFiles (ofd .0) OPEN-MODE)) ≡ true
@@ -66,6 +66,7 @@ pub data OutputFit (v : View) : Output → Type 0 where
   listed : (d : Slot) (i : Dirent) → OutputFit v (output.Name d i)
   described : (r : Record) → OutputFit v (output.Fields r)
   fetched : (s : Slot) (from n : ℕ) → Fetched v (s .0) → OutputFit v (output.Bytes s from n)
+  texted : (s : Slot) (from n : ℕ) → isLink (v .tree .file) s ≡ true → OutputFit v (output.Bytes s from n)
 
 -- a file is opened with a descriptor of the eight, in a mode whose rights the labels grant
 pub record OpenFit (Q : List ℕ) (v : View) (p : Pid) (n : NewOpen) : Type 0 where
@@ -88,44 +89,48 @@ pub data EffectFit (Q : List ℕ) (v : View) (p : Pid) : Effect → Type 0 where
   forked : (q : Pid) (who : Subject) → subjectOf (v .proc) p .label ≡ who .label → EffectFit Q v p (effect.Forked q who)
   exited : EffectFit Q v p effect.Exited
   relabelled : (t label : ℕ) → moved Q (subjectOf (v .proc) p .label) (v .tree .file t FILE-LABEL) ≡ label → EffectFit Q v p (effect.Relabelled label)
+  symlinked : (d : DirChange) (s : Slot) (r : Record) → isDirectory (v .tree .file) (d .dir) ≡ true → slotFree (v .tree .file) (s .0) ≡ true → EffectFit Q v p (effect.Symlinked d s r)
 
 pub record Grant (Q : List ℕ) (v : View) (p : Pid) (n : ℕ) (o : Output) (e : Effect) : Type 0 where
   pub caller : Caller v p
   pub output-fit : OutputFit v o
   pub effect-fit : EffectFit Q v p e
 
--- ---- a walk ends in a directory: in the root, or in the one that its last name was looked for in
+-- ---- a walk ends in a directory: in the root, or in the one that its last name was looked for in; a link sends it to the root
 
 abbrev InDirectory : Tree → Location → Type 0
 InDirectory t at = isDirectory (t .file) (at .dir) ≡ true
 
-any-names : (ns : List Name) → Each (λ _. Unit {0}) ns
-unfolding Each
-any-names [] = tt
-any-names (n ∷ ns) = (tt, any-names ns)
-
 module _ (Q : List ℕ) (t : Tree) (who : Subject) where
-  entered-fit : (intent : Intent) (D : List ℕ) (d : Slot) (k : ℕ) (i : Dirent) → isDirectory (t .file) d ≡ true → WalkFit (InDirectory t) (entered intent D d k i)
+  entered-fit : (intent : Intent) (D : List ℕ) (at : Location) (k : ℕ) (i : Dirent) → isDirectory (t .file) (at .slot) ≡ true → WalkFit (InDirectory t) (entered intent D at k i)
   unfolding entered
-  entered-fit Find D d k i h = needAt-fit _ _ _ _ (λ _. reached _ h)
-  entered-fit Create D d k i h = reached _ h
+  entered-fit Find D at k i h = needAt-fit _ _ _ _ (λ _. reached _ h)
+  entered-fit Follow D at k i h = needAt-fit _ _ _ _ (λ _. reached _ h)
+  entered-fit Create D at k i h = reached _ h
 
-  lookup-fit : (intent : Intent) (d : Slot) (name : Name) (k : ℕ) → WalkFit (InDirectory t) (lookup intent t Q who d name k)
+  lookup-fit : (intent : Intent) (name : Name) (k : ℕ) (at : Location) → WalkFit (InDirectory t) (lookup intent t Q who name k at)
   unfolding lookup
-  lookup-fit intent d name k = needAt-fit _ _ _ _ (λ h. needAt-fit _ _ _ _ (λ _. needAt-fit _ _ _ _ (λ _. entered-fit intent _ d k _ h)))
+  lookup-fit intent name k at = needAt-fit _ _ _ _ (λ h. needAt-fit _ _ _ _ (λ _. needAt-fit _ _ _ _ (λ _. entered-fit intent _ at k _ h)))
 
-  in-directory : (intent : Intent) (ns : List Name) → InDirectory t ROOT → WalkFit (InDirectory t) (walk intent t Q who ROOT 1 ns)
-  unfolding walk
-  in-directory intent [] root = reached ROOT root
-  in-directory intent (n ∷ ns) root = walk-fit {G = λ _. Unit {0}} {P = λ _. InDirectory t} {R = λ _ _. InDirectory t}
-      (record { looks = λ j at m k _ _. lookup-fit Find (at .slot) m k; last = λ j at m k _ _. lookup-fit intent (at .slot) m k }) n ns 0 ROOT 1 (any-names (n ∷ ns)) root
+  kept : InDirectory t ROOT → Kept t Q who (λ _. Unit {0}) (InDirectory t) (InDirectory t)
+  kept root = record {
+    looks = λ name k at _ _. lookup-fit Follow name k at;
+    passes = λ at h _. h;
+    starts = λ at _ _. root;
+    texts = λ at _ _. any-names (names (linkText t (at .slot)));
+  }
+
+  in-directory : (intent : Intent) → follows intent ≡ false → (ns : List Name) → InDirectory t ROOT → WalkFit (InDirectory t) (walk intent t Q who ROOT 1 ns)
+  unfolding walkBy
+  in-directory intent stays [] root = reached ROOT root
+  in-directory intent stays (n ∷ ns) root = walk-fit (kept root) intent stays {R = λ _. InDirectory t} (λ name k at _ _. lookup-fit intent name k at) n ns ROOT 1 (any-names (n ∷ ns)) root
 
 -- ---- a call
 
 module _ (Q : List ℕ) (v : View) (b : Based v) (c : Call) where
   -- the parent of a path's last name
-  parent : (intent : Intent) (path : List ℕ) (at : Location) → walk intent (v .tree) Q (subjectOf (v .proc) (c .process)) ROOT 1 (names path) ≡ Reached at → InDirectory (v .tree) at
-  parent intent path at w = fit-at (in-directory Q (v .tree) (subjectOf (v .proc) (c .process)) intent (names path) (b .root)) at w
+  parent : (intent : Intent) → follows intent ≡ false → (path : List ℕ) (at : Location) → walk intent (v .tree) Q (subjectOf (v .proc) (c .process)) ROOT 1 (names path) ≡ Reached at → InDirectory (v .tree) at
+  parent intent stays path at w = fit-at (in-directory Q (v .tree) (subjectOf (v .proc) (c .process)) intent stays (names path) (b .root)) at w
 
   open-fit : (at : Location) (m : OpenMode) → Opening Q v c at m → OpenFit Q v (c .process) (newest Q v c at m)
   open-fit at m h = record { eight = ltb-true _ _ (h .fd-free); rights = h .allows .label }
@@ -138,14 +143,18 @@ module _ (Q : List ℕ) (v : View) (b : Based v) (c : Call) where
   longer : (a b : ℕ) → a ≤ max a b
   longer a b = omega arith
 
+  free-slot : isSlot (freeSlot (v .tree .file)) ≡ true → slotFree (v .tree .file) (freeSlot (v .tree .file) .0) ≡ true
+  free-slot s = first-passes (slotFree (v .tree .file)) SLOTS (ltb-true _ _ s)
+
   -- one case a call
   own-fit : (o : Operation) {n : ℕ} {out : Output} {e : Effect} → Passed Q v c o n out e → OutputFit v out × EffectFit Q v (c .process) e
+  unfolding follows
   own-fit _ (passed.opens at m t k h q) = (silent, opened _ (open-fit at m h))
   own-fit _ (passed.opensTruncating at m t k h q) = (silent, truncates _ _ (open-fit at m h))
-  own-fit _ (passed.creates o kind at bits k e h s) = (silent, created _ _ _ (parent Create (c .path) at (h .walked)) (first-passes (slotFree (v .tree .file)) SLOTS (ltb-true _ _ s)))
-  own-fit _ (passed.unlinks at w p a) = (silent, unlinked _ _ (parent Find (c .path) at w))
-  own-fit _ (passed.removes at w d a z) = (silent, removed _ _ _ (parent Find (c .path) at w))
-  own-fit _ (passed.links old at w p h) = (silent, linked _ _ _ (parent Create (c .«data») at (h .walked)))
+  own-fit _ (passed.creates o kind at bits k e h d s) = (silent, created _ _ _ (parent Create refl (c .path) at (h .walked)) (free-slot s))
+  own-fit _ (passed.unlinks at w p a) = (silent, unlinked _ _ (parent Find refl (c .path) at w))
+  own-fit _ (passed.removes at w d a z) = (silent, removed _ _ _ (parent Find refl (c .path) at w))
+  own-fit _ (passed.links old at w p h) = (silent, linked _ _ _ (parent Create refl (c .«data») at (h .walked)))
   own-fit _ (passed.lists at w d a i) = (listed _ _, nothing)
   own-fit _ (passed.listsPast at w d a i) = (silent, nothing)
   own-fit _ (passed.changesBits at bits e w o l) = (silent, rebitted _ _)
@@ -159,6 +168,8 @@ module _ (Q : List ℕ) (v : View) (b : Based v) (c : Call) where
   own-fit _ (passed.forks q) = (silent, forked _ _ refl)
   own-fit _ passed.exits = (silent, exited)
   own-fit _ (passed.executes at w p b l) = (silent, relabelled (at .slot .0) _ refl)
+  own-fit _ (passed.symlinks at h s) = (silent, symlinked _ _ _ (parent Create refl (c .path) at (h .walked)) (free-slot s))
+  own-fit _ (passed.readsLink at w l) = (texted _ _ _ l, nothing)
 
   pub decide-fit : Fit (Grant Q v (c .process)) (decide Q v c)
   unfolding inUse

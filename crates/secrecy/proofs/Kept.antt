@@ -10,14 +10,14 @@ use lib.Dec.{eqb}
 use lib.ListN.{length, take, drop}
 use lib.Seq.{sets}
 use Rattle.rules.specs.Choice.{every, some, implies}
-use Rattle.rules.specs.Layout.{DESCRIPTORS, LABELS, FILE-WIDTH, FILE-KIND, FILE-BITS, FILE-LABEL, FILE-LENGTH, FILE-LINKS, FILE-VERSION, FREE, PLAIN, DIRECTORY, PROCESS-LABEL}
+use Rattle.rules.specs.Layout.{DESCRIPTORS, LABELS, FILE-WIDTH, FILE-KIND, FILE-BITS, FILE-LABEL, FILE-LENGTH, FILE-LINKS, FILE-VERSION, FREE, PLAIN, DIRECTORY, LINK, PROCESS-LABEL}
 use Rattle.rules.specs.Rights.{READ, READ-WRITE, WRITE, MODE-READ, MODE-BOTH, reads, stands, covers, labelGrants, modeRights, moved}
-use Rattle.rules.specs.Store.{Store, View, view, tab, slot, clearTo, fdOf}
+use Rattle.rules.specs.Store.{Store, View, view, tab, block, slot, clearTo, fdOf}
 use Rattle.rules.specs.Paths.{Name}
-use Rattle.rules.specs.Walk.{isDirectory}
+use Rattle.rules.specs.Walk.{isDirectory, isLink}
 use Rattle.rules.specs.Calls.{Call}
 use Rattle.rules.specs.Checks.{slotFree, releasing, shareOf}
-use Rattle.rules.specs.Effects.{nameChanges, unnameChanges, createChanges, linkChanges, unnamedChanges, unlinkChanges, removeChanges, openChanges, truncateChanges, releaseChanges, closeChanges, storeChanges, duplicateChanges, shareChanges, shared, sharedAll, released, releasedAll, forkChanges, carryOut, dirWords, words}
+use Rattle.rules.specs.Effects.{nameChanges, unnameChanges, createChanges, symlinkChanges, linkChanges, unnamedChanges, unlinkChanges, removeChanges, openChanges, truncateChanges, releaseChanges, closeChanges, storeChanges, duplicateChanges, shareChanges, shared, sharedAll, released, releasedAll, forkChanges, carryOut, dirWords, words}
 use Rattle.rules.specs.Step.{nameOut, bufferOut}
 use Rattle.rules.specs.declared.ids.Slot.{Slot}
 use Rattle.rules.specs.declared.ids.Pid.{Pid}
@@ -41,7 +41,7 @@ use Rattle.secrecy.specs.Claim.{mayRead}
 use Rattle.secrecy.proofs.Tables.{OwnWord}
 use Rattle.secrecy.proofs.Agree.{agree-block}
 use Rattle.secrecy.proofs.Related.{Apart, Secret, Related, apart, view-same, Keeps, KeepsAll, all-keep, append-keep, repeat-keep, alike-keep}
-use Rattle.secrecy.proofs.Fit.{OutputFit, silent, listed, described, fetched, OpenFit, EffectFit, nothing, opened, truncates, created, unlinked, removed, linked, rebitted, closed, stored, shifted, duplicated, forked, exited, relabelled}
+use Rattle.secrecy.proofs.Fit.{OutputFit, silent, listed, described, fetched, texted, OpenFit, EffectFit, nothing, opened, truncates, created, unlinked, removed, linked, rebitted, closed, stored, shifted, duplicated, forked, exited, relabelled, symlinked}
 use Rattle.rules.specs.declared.request.Subject.{Subject}
 
 -- ---- an open that reads has asked for the right to read
@@ -115,19 +115,19 @@ module _ (reach : ℕ → Type 0) (f n : ℕ) where
 module _ (Q : List ℕ) (reach : ℕ → Type 0) (f n L : ℕ) (no-right : (l : ℕ) → reach l → mayRead Q l L ≡ false)
     (closed-under : (l m : ℕ) → m < LABELS → reach l → reach (moved Q l m)) where
   module _ (s s′ : Store) (a : Apart f n s s′) (z : Secret reach f n L s) (small : (t : ℕ) → tab FILE-WIDTH (s .files) t FILE-LABEL < LABELS) where
-    -- a directory or a free slot is not f
+    -- a slot of another kind is not f
+    other-kind : (t kind : ℕ) → eqb (view s .tree .file t FILE-KIND) kind ≡ true → kind ≢ PLAIN → t ≢ f
+    other-kind t kind d ne e = ne (sym (eqb-true _ _ d) ∙ ap (λ (x : ℕ). tab FILE-WIDTH (s .files) x FILE-KIND) e ∙ z .own .plain)
+
     not-directory : (t : Slot) → isDirectory (view s .tree .file) t ≡ true → t .0 ≢ f
-    not-directory t d e =
-        let k : tab FILE-WIDTH (s .files) (t .0) FILE-KIND ≡ DIRECTORY = eqb-true _ _ d in
-        let q : tab FILE-WIDTH (s .files) (t .0) FILE-KIND ≡ PLAIN = ap (λ (x : ℕ). tab FILE-WIDTH (s .files) x FILE-KIND) e ∙ z .own .plain in
-        omega arith
+    not-directory t d = other-kind (t .0) DIRECTORY d (λ e. omega arith)
+
+    not-link : (t : Slot) → isLink (view s .tree .file) t ≡ true → t .0 ≢ f
+    not-link t d = other-kind (t .0) LINK d (λ e. omega arith)
 
     not-free : (t : ℕ) → slotFree (view s .tree .file) t ≡ true → t ≢ f
     unfolding slotFree
-    not-free t d e =
-        let k : tab FILE-WIDTH (s .files) t FILE-KIND ≡ FREE = eqb-true _ _ d in
-        let q : tab FILE-WIDTH (s .files) t FILE-KIND ≡ PLAIN = ap (λ (x : ℕ). tab FILE-WIDTH (s .files) x FILE-KIND) e ∙ z .own .plain in
-        omega arith
+    not-free t d = other-kind t FREE d (λ e. omega arith)
 
     dir-keep : (d : DirChange) → isDirectory (view s .tree .file) (d .dir) ≡ true → KeepsAll reach f n L (dirWords d)
     unfolding KeepsAll Keeps
@@ -159,6 +159,10 @@ module _ (Q : List ℕ) (reach : ℕ → Type 0) (f n L : ℕ) (no-right : (l : 
     create-keep : (nm : Name) (d : DirChange) (t : Slot) (x : Record) → isDirectory (view s .tree .file) (d .dir) ≡ true → slotFree (view s .tree .file) (t .0) ≡ true → KeepsAll reach f n L (createChanges nm d t x)
     unfolding createChanges KeepsAll Keeps
     create-keep nm d t x h g = ((refl, not-free (t .0) g), name-keep nm t d h)
+
+    symlink-keep : (nm : Name) (text : List ℕ) (d : DirChange) (t : Slot) (x : Record) → isDirectory (view s .tree .file) (d .dir) ≡ true → slotFree (view s .tree .file) (t .0) ≡ true → KeepsAll reach f n L (symlinkChanges nm text d t x)
+    unfolding symlinkChanges KeepsAll Keeps
+    symlink-keep nm text d t x h g = ((refl, not-free (t .0) g), (tt, name-keep nm t d h))
 
     link-keep : (nm : Name) (d : DirChange) (t : Slot) (links : ℕ) → isDirectory (view s .tree .file) (d .dir) ≡ true → KeepsAll reach f n L (linkChanges nm d t links)
     unfolding linkChanges KeepsAll Keeps
@@ -210,16 +214,19 @@ module _ (Q : List ℕ) (reach : ℕ → Type 0) (f n L : ℕ) (no-right : (l : 
     effect-keep c _ r (forked q who h) = all-keep reach f n L _ _ _ (fork-keep q who (subst reach h r)) (sharedAll-keep reach f n L (c .process) q s s′ (apart a z))
     effect-keep c _ r exited = all-keep reach f n L _ _ _ (tt, tt) (releasedAll-keep reach f n L (c .process) s s′ (apart a z))
     effect-keep c _ r (relabelled t label h) = all-keep reach f n L _ s s′ ((refl, subst reach h (closed-under _ _ (small t) r)), tt) (apart a z)
+    effect-keep c _ r (symlinked d t x h g) = all-keep reach f n L _ s s′ (symlink-keep _ (c .«data») d t x h g) (apart a z)
 
-    -- the answer: only a read looks at bytes, and not at those of f
+    bytes-same : (t : Slot) (from m : ℕ) → t .0 ≢ f → (buffer : List ℕ) → sets buffer 0 (take m (drop from (block (s .contents) (t .0)))) ≡ sets buffer 0 (take m (drop from (block (s′ .contents) (t .0))))
+    bytes-same t from m ne buffer = ap (λ (l : List ℕ). sets buffer 0 (take m (drop from l))) (agree-block f n (s .contents) (s′ .contents) (a .contents) (a .small) (t .0) ne)
+
+    -- the answer: only a read and a read link look at bytes, and not at those of f
     pub buffer-same : (o : Output) → OutputFit (view s) o → (buffer : List ℕ) → bufferOut s o buffer ≡ bufferOut s′ o buffer
     unfolding bufferOut
     buffer-same _ silent buffer = refl
     buffer-same _ (listed d i) buffer = refl
     buffer-same _ (described x) buffer = refl
-    buffer-same _ (fetched t from m h) buffer =
-        ap (λ (l : List ℕ). sets buffer 0 (take m (drop from l)))
-        (agree-block f n (s .contents) (s′ .contents) (a .contents) (a .small) (t .0) (λ e. z .unread (h .ofd .0) (h .mode) (h .names ∙ e)))
+    buffer-same _ (fetched t from m h) buffer = bytes-same t from m (λ e. z .unread (h .ofd .0) (h .mode) (h .names ∙ e)) buffer
+    buffer-same _ (texted t from m l) buffer = bytes-same t from m (not-link t l) buffer
 
     pub name-same : (o : Output) → nameOut (view s .tree) o ≡ nameOut (view s′ .tree) o
     name-same o = ap (λ (v : View). nameOut (v .tree) o) (view-same f n L s s′ a (z .own))

@@ -9,8 +9,8 @@ use Rattle.rules.specs.Layout.{NAMES, FILE-LENGTH, FILE-LINKS, OPEN-REFERENCES}
 use Rattle.rules.specs.Store.{Tree, Table, slot}
 use Rattle.rules.specs.Paths.{sameName}
 use Rattle.rules.specs.Directories.{direntAt, isEmpty}
-use Rattle.rules.specs.Walk.{isDirectory, isPlain}
-use Rattle.rules.specs.Sound.{recordSound, direntsSound, plainSound, allZero, openFree, openUsed}
+use Rattle.rules.specs.Walk.{isDirectory, isPlain, isLink}
+use Rattle.rules.specs.Sound.{recordSound, direntsSound, plainSound, linkSound, allZero, openFree, openUsed}
 use Rattle.tables.specs.NameWords.{lowWord, highWord}
 
 -- entry j is empty or has another name than entry i, which is not empty
@@ -35,7 +35,8 @@ directorySoundBy t P d =
 unfoldable pub kindSoundBy : Tree → (openFiles : Table) → List ℕ → ℕ → Bool
 kindSoundBy t openFiles P s =
     cond (isDirectory (t .file) (slot s)) (directorySoundBy t P s)
-    (cond (isPlain (t .file) (slot s)) (plainSound t openFiles s) (allZero (t .shown s)))
+    (cond (isPlain (t .file) (slot s)) (plainSound t openFiles s)
+    (cond (isLink (t .file) (slot s)) (linkSound t s) (allZero (t .shown s))))
 
 unfoldable pub slotSoundBy : Tree → (openFiles : Table) → List ℕ → List ℕ → ℕ → Bool
 slotSoundBy t openFiles L P s = every (recordSound (t .file) s ∷ linksSoundBy (t .file) L s ∷ kindSoundBy t openFiles P s ∷ [])

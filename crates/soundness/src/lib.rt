@@ -3,6 +3,7 @@ mod bytes;
 mod directories;
 mod fields;
 mod files;
+mod links;
 mod open_files;
 pub mod policy;
 mod processes;

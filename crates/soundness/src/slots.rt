@@ -11,12 +11,14 @@ ghost use Rattle.soundness.specs.Counted.{kindSoundBy, slotSoundBy};
 use crate::bytes::all_zero;
 use crate::fields::at_most;
 use crate::files::record_sound;
+use crate::links::link_sound;
 use crate::tree::directory_sound;
 use crate::tree::links_sound;
 use counts::count::count_links;
 use rules::ids::Ofd;
 use rules::ids::Slot;
 use tables::files::is_directory;
+use tables::files::is_link;
 use tables::files::is_plain;
 use tables::files::links;
 use tables::files::shown;
@@ -71,6 +73,9 @@ fn kind_sound(files: &[u32], contents: &[u8], open_files: &[u32], parents: &[u32
     }
     if is_plain(files, s) {
         return plain_sound(files, contents, open_files, s);
+    }
+    if is_link(files, s) {
+        return link_sound(files, contents, s);
     }
     shown_zero(files, contents, s)
 }

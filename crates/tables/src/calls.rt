@@ -28,6 +28,8 @@ pub fn operation_of(call: u8) -> Operation
         15 => Operation::Fork,
         16 => Operation::Exit,
         17 => Operation::Execute,
+        18 => Operation::Symlink,
+        19 => Operation::ReadLink,
         _ => Operation::Unknown,
     }
 }
@@ -79,6 +81,8 @@ pub fn uses(o: Operation) -> Parts
         Operation::Fork => parts(false, false, 0, 0),
         Operation::Exit => parts(false, false, 0, 0),
         Operation::Execute => parts(false, false, PATH, 0),
+        Operation::Symlink => parts(false, false, PATH, PATH),
+        Operation::ReadLink => reading(parts(false, true, PATH, 0)),
         Operation::Unknown => parts(true, true, PATH, BLOCK),
     }
 }

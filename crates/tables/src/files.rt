@@ -1,8 +1,9 @@
 // The file table, a record of 8 words for each slot, and the contents, 512 bytes a slot.
 ghost use mathlib.Core.Path.{_≡_};
 ghost use lib.Dec.{eqb};
-ghost use Rattle.rules.specs.Layout.{FILE-WIDTH, FILE-KIND, FILE-OWNER, FILE-GROUP, FILE-BITS, FILE-LABEL, FILE-LENGTH, FILE-LINKS, FILE-VERSION, FREE, PLAIN, DIRECTORY};
-ghost use Rattle.rules.specs.Store.{tab, bitsAt, block, hidden, shownOf, recordOf};
+ghost use Rattle.rules.specs.Layout.{FILE-WIDTH, FILE-KIND, FILE-OWNER, FILE-GROUP, FILE-BITS, FILE-LABEL, FILE-LENGTH, FILE-LINKS, FILE-VERSION, FREE, PLAIN, DIRECTORY, LINK};
+ghost use Rattle.rules.specs.Store.{tab, bitsAt, block, hidden, shownOf, recordOf, tree};
+ghost use Rattle.rules.specs.Walk.{linkText};
 use crate::layout::BLOCK;
 use crate::layout::DIRECTORY;
 use crate::layout::FILE_BITS;
@@ -15,6 +16,7 @@ use crate::layout::FILE_OWNER;
 use crate::layout::FILE_VERSION;
 use crate::layout::FILE_WIDTH;
 use crate::layout::FREE;
+use crate::layout::LINK;
 use crate::layout::PLAIN;
 use crate::parts::after;
 use crate::parts::upto;
@@ -104,6 +106,12 @@ pub fn is_directory(files: &[u32], s: Slot) -> bool
     kind(files, s) == DIRECTORY
 }
 
+pub fn is_link(files: &[u32], s: Slot) -> bool
+    ensures { λ r. ⌜ r ≡ eqb (tab FILE-WIDTH (now (files .entry)) (s .0) FILE-KIND) LINK ⌝ }
+{
+    kind(files, s) == LINK
+}
+
 // The bytes of a slot.
 pub fn bytes(contents: &[u8], s: Slot) -> &[u8]
     ensures { λ r. ⌜ now r ≡ block (now (contents .entry)) (s .0) ⌝ }
@@ -127,4 +135,13 @@ pub fn shown<'a>(files: &[u32], contents: &'a [u8], s: Slot) -> &'a [u8]
     let own = own_bytes(files, s);
     let all = bytes(contents, s);
     after(all, own as usize)
+}
+
+// A link's text.
+pub fn link_text<'a>(files: &[u32], contents: &'a [u8], s: Slot) -> &'a [u8]
+    ensures { λ r. ⌜ now r ≡ linkText (tree (now (files .entry)) (now (contents .entry))) s ⌝ }
+{
+    let n = length(files, s);
+    let all = shown(files, contents, s);
+    upto(all, n as usize)
 }

@@ -30,6 +30,9 @@ pub const NAMES: u8 = 8;
 
 pub const PATH: usize = 64;
 
+// Symbolic links followed in one walk.
+pub const FOLLOWS: u32 = 8;
+
 // A file's record: how many words it has, and their columns.
 pub const FILE_WIDTH: usize = 8;
 
@@ -57,6 +60,9 @@ pub const FREE: u32 = 0;
 pub const PLAIN: u32 = 1;
 
 pub const DIRECTORY: u32 = 2;
+
+// A symbolic link.
+pub const LINK: u32 = 3;
 
 // An open file: how many words it has, and their columns.
 pub const OPEN_FILE_WIDTH: usize = 4;
@@ -88,7 +94,7 @@ pub const PROCESS_LABEL: usize = 3;
 pub const NO_TRANSITION: u32 = 255;
 
 // Largest values.
-pub const KIND_MAX: u32 = 2;
+pub const KIND_MAX: u32 = 3;
 
 pub const USER_MAX: u32 = 65535;
 

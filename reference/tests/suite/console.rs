@@ -28,6 +28,7 @@ pub const PROCESS_DESCRIPTOR: usize = 4;
 pub const FREE: u32 = 0;
 pub const PLAIN: u32 = 1;
 pub const DIRECTORY: u32 = 2;
+pub const SYMLINK: u32 = 3;
 
 /// Tables that can be lent.
 #[derive(Clone, Debug, PartialEq, Eq)]
@@ -236,7 +237,7 @@ impl Console {
 
         assert!(self.is_sound());
         assert_eq!(self.policy, before.policy);
-        let read = (answer.refusal, request.call) == (0, 11);
+        let read = answer.refusal == 0 && [11, 19].contains(&request.call);
         let written = if read { answer.value as usize } else { 0 };
         assert_eq!(buffer[written..], lent[written..]);
         if answer.refusal != 0 {

@@ -9,7 +9,7 @@ fn unsound_then_no_process_then_malformed() {
     let mut console = Console::new();
     let answer = console.raw(request(9, 99), b"", b"", &mut []);
     assert_eq!(outcome(&answer), no(2));
-    console.set_field(0, FILE_KIND, 3);
+    console.set_field(0, FILE_KIND, 4);
     let answer = console.raw(request(9, 99), b"", b"", &mut []);
     assert_eq!(outcome(&answer), no(1));
 }

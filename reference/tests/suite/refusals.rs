@@ -28,7 +28,7 @@ fn refusal_1_for_tables_of_another_size() {
         resize(&mut console);
         assert!(!console.is_sound());
         let before = console.clone();
-        for call in 0..=18 {
+        for call in 0..=20 {
             let answer = console.raw(request(1, call), b"/fares", b"/x", &mut []);
             assert_eq!(outcome(&answer), no(1));
         }
@@ -81,7 +81,7 @@ fn refusal_2_for_a_process_not_in_use_or_over_7() {
 #[test]
 fn refusal_3_for_unknown_calls() {
     let mut console = Console::new();
-    for call in (18..=255).chain([0]) {
+    for call in (20..=255).chain([0]) {
         let answer = console.call(request(1, call), b"/fares", b"", &mut []);
         assert_eq!(outcome(&answer), no(3));
     }

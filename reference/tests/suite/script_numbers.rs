@@ -20,7 +20,7 @@ fn holding() -> Console {
 #[test]
 fn a_high_process_is_not_in_use() {
     for process in HIGH {
-        for call in [1, 10, 15, 16, 18] {
+        for call in [1, 10, 15, 16, 18, 20] {
             let refused = block(process, call);
             assert_eq!(Console::new().scripted(refused), lines(2, 0, b""));
         }

@@ -9,17 +9,17 @@ use reference::{Answer, Reason, Request};
 fn scripted(request: Request, path: &str, data: &[u8]) -> Block {
     let call = request.call;
     let mut block = block(request.process.into(), call.into());
-    let unknown = !(1..=17).contains(&call);
+    let unknown = !(1..=19).contains(&call);
     if unknown || (10..=14).contains(&call) {
         block.descriptor = request.descriptor.into();
     }
-    if unknown || [1, 2, 3, 7, 8, 11, 13].contains(&call) {
+    if unknown || [1, 2, 3, 7, 8, 11, 13, 19].contains(&call) {
         block.number = request.number.into();
     }
-    if unknown || call < 10 || call == 17 {
+    if unknown || !(10..17).contains(&call) {
         block.path = path.into();
     }
-    if unknown || call == 6 || call == 12 {
+    if unknown || [6, 12, 18].contains(&call) {
         block.data = data.to_vec();
     }
     block
@@ -38,7 +38,7 @@ fn answer_lines(call: u8, answer: &Answer, buffer: &[u8]) -> String {
         data.extend((links as u16).to_le_bytes());
         data.extend(version.to_le_bytes());
     }
-    if call == 11 {
+    if [11, 19].contains(&call) {
         data.extend(&buffer[..answer.value as usize]);
     }
     lines(answer.refusal, answer.value, &data)
@@ -51,7 +51,8 @@ fn chance_day(chance: &mut Chance) -> (Vec<Block>, String, Console) {
     let (mut blocks, mut expected) = (Vec::new(), String::new());
     for _ in 0..100 {
         let mut request = chance.request();
-        if request.call == 16 || request.call == 11 && request.number > 512 {
+        let reads = [11, 19].contains(&request.call);
+        if request.call == 16 || reads && request.number > 512 {
             request.number = 1;
             request.call = 1;
         }

@@ -55,7 +55,7 @@ fn consoles_are_sound() {
 #[test]
 fn a_file_has_its_fields_in_range() {
     unsound(&[
-        |console| console.set_field(2, FILE_KIND, 3),
+        |console| console.set_field(2, FILE_KIND, 4),
         |console| console.set_field(2, FILE_KIND, u32::MAX),
         |console| console.set_field(2, FILE_OWNER, 65_536),
         |console| console.set_field(1, FILE_OWNER, 65_536),

@@ -1,4 +1,4 @@
-//! The seventeen calls, short to write.
+//! The calls, short to write.
 
 use crate::console::{request, Console, FILE_WIDTH};
 use reference::{Answer, Request};
@@ -144,5 +144,25 @@ impl Console {
 
     pub fn execute(&mut self, process: u8, path: &str) -> Outcome {
         self.on_path(process, 17, 0, path)
+    }
+
+    pub fn symlink(&mut self, process: u8, path: &str, text: &str) -> Outcome {
+        let request = request(process, 18);
+        outcome(&self.call(request, path.as_bytes(), text.as_bytes(), &mut []))
+    }
+
+    /// As much of the text as a buffer of this size gets.
+    pub fn read_symlink(
+        &mut self,
+        process: u8,
+        path: &str,
+        size: usize,
+    ) -> Result<Vec<u8>, (u32, u32)> {
+        let mut buffer = vec![170; size];
+        let answer = self.call(request(process, 19), path.as_bytes(), b"", &mut buffer);
+        outcome(&answer).map(|value| {
+            buffer.truncate(value as usize);
+            buffer
+        })
     }
 }

@@ -1,4 +1,4 @@
-//! Tables built by hand: an empty store, and names with the counts that go with them.
+//! Tables built by hand: an empty store, and names and texts with the counts that go with them.
 
 use mritvelja::layout::*;
 use mritvelja::Tables;
@@ -21,6 +21,13 @@ pub fn add_name(tables: &mut Tables, directory: usize, dirent: usize, name: &[u8
     tables.set_dirent(directory, dirent, name, slot);
     add_to_file(tables, directory, FILE_LENGTH, 1);
     add_to_file(tables, slot, FILE_LINKS, 1);
+}
+
+/// Gives a symbolic link another text, with the length that goes with it.
+pub fn set_text(tables: &mut Tables, slot: usize, text: &[u8]) {
+    tables.file_mut(slot)[FILE_LENGTH] = text.len() as u32;
+    tables.block_mut(slot).fill(0);
+    tables.block_mut(slot)[..text.len()].copy_from_slice(text);
 }
 
 pub fn has_name(tables: &Tables, directory: usize, name: &[u8]) -> bool {

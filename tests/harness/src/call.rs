@@ -1,8 +1,9 @@
 //! One call with all its parts.
 
+use mritvelja::calls::*;
 use std::fmt;
 
-pub const CALLS: usize = 17;
+pub const CALLS: usize = 19;
 
 const NAMES: [&str; CALLS + 1] = [
     "unknown",
@@ -23,6 +24,8 @@ const NAMES: [&str; CALLS + 1] = [
     "fork",
     "exit",
     "execute",
+    "symlink",
+    "readlink",
 ];
 
 #[derive(Clone, Debug)]
@@ -45,10 +48,25 @@ impl Call {
         }
     }
 
-    /// Whether the call, granted, gives or takes a name.
     pub fn changes_names(&self) -> bool {
-        (2..=6).contains(&self.call)
+        changes_names(self.call.into())
     }
+
+    /// What of a well-formed path, where the call uses one, is walked with every symbolic link followed: most
+    /// calls do not follow one at the last name.
+    pub fn followed(&self) -> Option<&[u8]> {
+        let last = self.path.iter().rposition(|&byte| byte == b'/');
+        match self.call {
+            OPEN | LIST | CHANGE_BITS | EXECUTE => Some(&self.path),
+            call if uses(call.into(), Field::Path) => Some(&self.path[..last?]),
+            _ => None,
+        }
+    }
+}
+
+/// Whether a call, granted, gives or takes a name.
+pub fn changes_names(call: u16) -> bool {
+    u8::try_from(call).is_ok_and(|call| matches!(call, CREATE..=LINK | SYMLINK))
 }
 
 pub fn name_of(row: usize) -> &'static str {

@@ -125,6 +125,7 @@ impl Comparison {
         let answer = store_call(&mut self.store, call, &mut ours);
         let other = store_form(reference_call(&mut self.reference, call, &mut theirs));
         self.tally.count(call.row(), answer.refusal);
+        self.tally.walks.count(&self.before, call, &answer);
         self.judge("", call, [(&answer, &ours), (&other, &theirs)])
             .then_some(answer)
     }
@@ -237,6 +238,7 @@ impl Comparison {
             return;
         };
         self.tally.pairs += 1;
+        self.tally.pairs_linked += u64::from(pair.has_links());
         for _ in 0..self.chance.between(10, 100) {
             self.tally.pair_calls += 1;
             if let Err((what, call)) = pair.step(&mut self.chance) {

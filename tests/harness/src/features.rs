@@ -1,12 +1,12 @@
 //! What the stores made by chance have: shows that the generator gets there.
 
-use crate::tree;
+use crate::tree::{self, Lost, Way};
 use mritvelja::layout::*;
 use mritvelja::Tables;
 
 type Test = fn(&Tables) -> bool;
 
-const FEATURES: [(&str, Test); 11] = [
+const FEATURES: [(&str, Test); 21] = [
     ("a directory 8 names deep", eight_deep),
     ("a directory with 16 names", full_directory),
     ("no free slot", no_free_slot),
@@ -18,6 +18,16 @@ const FEATURES: [(&str, Test); 11] = [
     ("a transition", has_transition),
     ("an owner with fewer rights than others", owner_below_others),
     ("a group with fewer rights than others", group_below_others),
+    ("a link to a plain file", |tables| link_to(tables, PLAIN)),
+    ("a link to a directory", |tables| link_to(tables, DIRECTORY)),
+    ("a link to the root", link_to_root),
+    ("a link to a directory 8 names deep", link_to_eight_deep),
+    ("a link to a link", link_to_link),
+    ("a link that takes 8 follows", takes_eight),
+    ("a link that takes more", takes_more),
+    ("links in a ring", ring),
+    ("a link that leads nowhere", leads_nowhere),
+    ("a link's text with a run of slashes", run_of_slashes),
 ];
 
 #[derive(Default)]
@@ -42,6 +52,77 @@ fn eight_deep(tables: &Tables) -> bool {
     tree::nodes(tables)
         .iter()
         .any(|node| node.depth == NAMES && tables.is_kind(node.slot, DIRECTORY))
+}
+
+/// So many follows are taken for a ring.
+const ENDLESS: usize = 200;
+
+/// Whether some link passes, by its text and by where that leads in so many follows.
+fn some_link(
+    tables: &Tables,
+    most: usize,
+    pass: impl Fn(&[u8], Result<Way, Lost>) -> bool,
+) -> bool {
+    (0..SLOTS).any(|slot| {
+        let text = || tables.bytes(slot);
+        tables.is_kind(slot, LINK) && pass(text(), tree::way(tables, text(), most))
+    })
+}
+
+fn link_to(tables: &Tables, kind: u32) -> bool {
+    some_link(tables, FOLLOWS, |_, way| {
+        way.is_ok_and(|way| tables.is_kind(way.slot, kind))
+    })
+}
+
+fn link_to_root(tables: &Tables) -> bool {
+    some_link(tables, FOLLOWS, |_, way| {
+        way.is_ok_and(|way| way.slot == ROOT)
+    })
+}
+
+fn link_to_eight_deep(tables: &Tables) -> bool {
+    let nodes = tree::nodes(tables);
+    let deep = |slot| {
+        let mut deep = nodes.iter().filter(|node| node.depth == NAMES);
+        deep.any(|node| node.slot == slot) && tables.is_kind(slot, DIRECTORY)
+    };
+    some_link(tables, FOLLOWS, |_, way| {
+        way.is_ok_and(|way| deep(way.slot))
+    })
+}
+
+fn link_to_link(tables: &Tables) -> bool {
+    some_link(tables, FOLLOWS, |_, way| {
+        way.is_ok_and(|way| way.follows > 0)
+    })
+}
+
+/// Following the link itself is one more than following its text.
+fn takes_eight(tables: &Tables) -> bool {
+    some_link(tables, FOLLOWS, |_, way| {
+        way.is_ok_and(|way| way.follows + 1 == FOLLOWS)
+    })
+}
+
+fn takes_more(tables: &Tables) -> bool {
+    some_link(tables, ENDLESS, |_, way| {
+        way.is_ok_and(|way| way.follows + 1 > FOLLOWS)
+    })
+}
+
+fn ring(tables: &Tables) -> bool {
+    some_link(tables, ENDLESS, |_, way| way == Err(Lost::TooManyFollows))
+}
+
+fn leads_nowhere(tables: &Tables) -> bool {
+    some_link(tables, ENDLESS, |_, way| way == Err(Lost::Missing))
+}
+
+fn run_of_slashes(tables: &Tables) -> bool {
+    some_link(tables, FOLLOWS, |text, _| {
+        text.windows(2).any(|pair| pair == b"//")
+    })
 }
 
 fn full_directory(tables: &Tables) -> bool {

@@ -16,3 +16,4 @@ pub mod secrecy;
 pub mod sizes;
 pub mod tally;
 pub mod tree;
+pub mod walks;

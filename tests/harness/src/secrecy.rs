@@ -41,6 +41,10 @@ impl Pair {
         })
     }
 
+    pub fn has_links(&self) -> bool {
+        (0..SLOTS).any(|slot| self.one.is_kind(slot, LINK))
+    }
+
     /// One call on both stores; an error says what told them apart.
     pub fn step(&mut self, chance: &mut Chance) -> Result<(), (&'static str, Call)> {
         let call = self.maker.call(chance, &self.one);

@@ -4,14 +4,16 @@ use crate::call::{name_of, CALLS};
 use crate::defects::Defect;
 use crate::features::Features;
 use crate::sizes;
+use crate::walks::Walks;
 
-const REFUSALS: usize = 15;
+const REFUSALS: usize = 16;
 
 pub struct Tally {
     /// By call (0 for an unknown one) and refusal (0 for granted).
     answers: [[u64; REFUSALS]; CALLS + 1],
     pub stores: u64,
     pub features: Features,
+    pub walks: Walks,
     pub acts: u64,
     /// Stores by their defect.
     pub defects: Vec<u64>,
@@ -21,6 +23,8 @@ pub struct Tally {
     pub altered: u64,
     pub altered_sound: u64,
     pub pairs: u64,
+    /// Pairs with symbolic links.
+    pub pairs_linked: u64,
     pub pair_calls: u64,
     pub pairs_freed: u64,
     pub differences: u64,
@@ -32,12 +36,14 @@ impl Tally {
             answers: [[0; REFUSALS]; CALLS + 1],
             stores: 0,
             features: Features::default(),
+            walks: Walks::default(),
             acts: 0,
             defects: vec![0; defects],
             sizes: [0; sizes::TABLES.len()],
             altered: 0,
             altered_sound: 0,
             pairs: 0,
+            pairs_linked: 0,
             pair_calls: 0,
             pairs_freed: 0,
             differences: 0,
@@ -59,6 +65,7 @@ impl Tally {
     pub fn print(&self, defects: &[Defect]) {
         self.print_answers();
         self.features.print();
+        self.walks.print();
         self.print_defects(defects);
         let (calls, granted) = (self.calls(), self.granted());
         println!(
@@ -69,8 +76,8 @@ impl Tally {
             self.acts
         );
         println!(
-            "secrecy: {} pairs of stores, {} calls on both, {} files freed on the way",
-            self.pairs, self.pair_calls, self.pairs_freed
+            "secrecy: {} pairs of stores, {} of them with symbolic links, {} calls on both, {} files freed on the way",
+            self.pairs, self.pairs_linked, self.pair_calls, self.pairs_freed
         );
         println!("differences in calls: {}", self.differences);
     }

@@ -1,4 +1,4 @@
-//! Every name in a store, with its path from the root.
+//! Every name in a store, with its path from the root, and where paths lead.
 
 use mritvelja::layout::*;
 use mritvelja::Tables;
@@ -12,6 +12,8 @@ pub struct Node {
     pub depth: usize,
     /// The path, with single slashes.
     pub path: Vec<u8>,
+    /// Where a symbolic link leads; of any other file, and of a link that leads nowhere, its own slot.
+    pub target: usize,
 }
 
 /// All names of a sound store and the root, each directory before what it holds.
@@ -21,6 +23,7 @@ pub fn nodes(tables: &Tables) -> Vec<Node> {
         parent: 0,
         depth: 0,
         path: Vec::new(),
+        target: 0,
     }];
     let mut next = 0;
     while next < nodes.len() {
@@ -43,10 +46,71 @@ fn below(tables: &Tables, node: &Node, dirent: usize) -> Node {
     let mut path = node.path.clone();
     path.push(b'/');
     path.extend(tables.dirent_name(node.slot, dirent));
+    let slot = tables.dirent_slot(node.slot, dirent);
+    let target = match tables.is_kind(slot, LINK) {
+        true => way(tables, &path, FOLLOWS).map_or(slot, |way| way.slot),
+        false => slot,
+    };
     Node {
-        slot: tables.dirent_slot(node.slot, dirent),
+        slot,
         parent: node.slot,
         depth: node.depth + 1,
         path,
+        target,
     }
+}
+
+/// Where a path leads, every symbolic link followed and no right asked.
+#[derive(Clone, Copy, Debug, PartialEq, Eq)]
+pub struct Way {
+    pub slot: usize,
+    /// How many links were followed.
+    pub follows: usize,
+}
+
+/// Why a path leads nowhere.
+#[derive(Clone, Copy, Debug, PartialEq, Eq)]
+pub enum Lost {
+    Missing,
+    TooManyFollows,
+}
+
+/// The way along a path in a sound store, through so many links at most.
+pub fn way(tables: &Tables, path: &[u8], most: usize) -> Result<Way, Lost> {
+    let mut left = most;
+    let slot = walk(tables, path, &mut left)?;
+    Ok(Way {
+        slot,
+        follows: most - left,
+    })
+}
+
+fn walk(tables: &Tables, path: &[u8], left: &mut usize) -> Result<usize, Lost> {
+    let mut at = ROOT;
+    for name in names(path) {
+        let slot = look_up(tables, at, name).ok_or(Lost::Missing)?;
+        at = if tables.is_kind(slot, LINK) {
+            *left = left.checked_sub(1).ok_or(Lost::TooManyFollows)?;
+            walk(tables, tables.bytes(slot), left)?
+        } else {
+            slot
+        };
+    }
+    Ok(at)
+}
+
+/// The names of a path that is well formed.
+pub fn names(path: &[u8]) -> impl Iterator<Item = &[u8]> {
+    path.split(|&byte| byte == b'/')
+        .filter(|name| !name.is_empty())
+}
+
+fn look_up(tables: &Tables, directory: usize, name: &[u8]) -> Option<usize> {
+    let fits = |&dirent: &usize| {
+        tables.dirent_slot(directory, dirent) != 0 && tables.dirent_name(directory, dirent) == name
+    };
+    let dirent = (0..DIRENTS)
+        .filter(|_| tables.is_kind(directory, DIRECTORY))
+        .find(fits)?;
+    Some(tables.dirent_slot(directory, dirent))
 }

@@ -1,10 +1,10 @@
-//! How the cost grows with the number of files and with the depth of a path.
+//! How the cost grows with the number of files, with the depth of a path and with the links that it follows.
 
 use super::mix::*;
 use super::stores::*;
-use super::timing::side_by_side;
+use super::timing::{print_head, print_row, side_by_side};
 use crate::programs::{reference_sound, store_sound};
-use mritvelja::layout::{NAMES, SLOTS};
+use mritvelja::layout::{FOLLOWS, NAMES, SLOTS};
 
 const TURNS: usize = 500;
 
@@ -45,5 +45,19 @@ pub fn print_by_depth() {
         ]);
         let [store, reference, opened, opened_reference] = times;
         println!("| {depth} | {store:.0} | {reference:.0} | {opened:.0} | {opened_reference:.0} |");
+    }
+}
+
+/// Stat of one file in one directory, through none of the store's links, one, a few and as many as a walk follows.
+pub fn print_by_follows() {
+    println!("\n## By the links that a stat follows, without the soundness test\n");
+    print_head("follows");
+    let start = linked();
+    assert!(store_sound(&start) && reference_sound(&start));
+    for follows in [0, 1, 4, FOLLOWS] {
+        let path = format!("{}/f", directory_by(follows));
+        let stats = [repeat(start.clone(), &[stat(path.as_bytes())], TURNS)];
+        let times = compare_sides(store_acts, reference_acts, &stats);
+        print_row(&follows.to_string(), times);
     }
 }

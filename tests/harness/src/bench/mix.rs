@@ -3,8 +3,11 @@
 use super::timing::{nanoseconds, side_by_side};
 use crate::call::Call;
 use crate::chance::Chance;
+use crate::generate::shape::Shape;
+use crate::generate::store::store_of;
 use crate::generate::{random_store, CallMaker};
 use crate::programs::*;
+use mritvelja::calls::{READLINK, SYMLINK};
 use mritvelja::Tables;
 use std::hint::black_box;
 
@@ -18,6 +21,23 @@ pub struct Scene {
 impl Scene {
     pub fn random(chance: &mut Chance, calls: usize) -> Scene {
         let start = random_store(chance);
+        Scene::on(start, chance, calls, |_| true)
+    }
+
+    /// With no symbolic link, and no call that makes or reads one.
+    pub fn without_links(chance: &mut Chance, calls: usize) -> Scene {
+        let shape = Shape {
+            symlinks: 0,
+            ..Shape::random(chance)
+        };
+        let start = store_of(chance, shape);
+        Scene::on(start, chance, calls, |call| {
+            !matches!(call.call, SYMLINK | READLINK)
+        })
+    }
+
+    /// So many calls that pass.
+    fn on(start: Tables, chance: &mut Chance, calls: usize, pass: fn(&Call) -> bool) -> Scene {
         let mut tables = start.clone();
         let mut maker = CallMaker::new(&tables);
         let mut scene = Scene {
@@ -25,8 +45,11 @@ impl Scene {
             calls: Vec::new(),
             granted: 0,
         };
-        for _ in 0..calls {
+        while scene.calls.len() < calls {
             let call = maker.call(chance, &tables);
+            if !pass(&call) {
+                continue;
+            }
             let mut buffer = call.buffer.clone();
             let answer = reference_act(&mut tables, &call, &mut buffer);
             if answer.refusal == 0 {

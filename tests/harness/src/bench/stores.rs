@@ -1,7 +1,7 @@
 //! Stores of a known size and depth for the benchmark, and calls on them.
 
 use super::mix::Scene;
-use crate::building::{add_name, blank};
+use crate::building::{add_name, blank, set_text};
 use crate::call::Call;
 use mritvelja::layout::*;
 use mritvelja::Tables;
@@ -85,6 +85,29 @@ pub fn chain(depth: usize) -> (Tables, Vec<u8>) {
     add_file(&mut tables, depth - 1, 0, b"f", depth);
     path.extend(b"/f");
     (tables, path)
+}
+
+/// The directory /d with the file f, and links /l1 to /l8: the first leads to /d, each other to the one before.
+pub fn linked() -> Tables {
+    let mut tables = open_store();
+    add_directory(&mut tables, 0, 0, b"d", 1);
+    add_file(&mut tables, 1, 0, b"f", 2);
+    for number in 1..=FOLLOWS {
+        let slot = 2 + number;
+        *tables.file_mut(slot) = [LINK, 0, 0, 0, 0, 0, 0, 0];
+        set_text(&mut tables, slot, directory_by(number - 1).as_bytes());
+        let name = &directory_by(number)[1..];
+        add_name(&mut tables, 0, number, name.as_bytes(), slot);
+    }
+    tables
+}
+
+/// The path of that directory through so many links.
+pub fn directory_by(follows: usize) -> String {
+    match follows {
+        0 => "/d".to_string(),
+        _ => format!("/l{follows}"),
+    }
 }
 
 fn call(number: u8, path: &[u8]) -> Call {

@@ -10,15 +10,20 @@ const SEED: u64 = 1;
 const STORES: usize = 20;
 const CALLS_IN_A_STORE: usize = 500;
 
+/// Lists of mixed calls, each on a store of its own.
+fn mixed(make: fn(&mut Chance, usize) -> Scene) -> Vec<Scene> {
+    let mut chance = Chance::new(SEED);
+    (0..STORES)
+        .map(|_| make(&mut chance, CALLS_IN_A_STORE))
+        .collect()
+}
+
 fn main() -> ExitCode {
     if std::env::args().len() > 1 {
         eprintln!("bench: it takes no arguments\nusage: bench");
         return ExitCode::from(2);
     }
-    let mut chance = Chance::new(SEED);
-    let scenes: Vec<Scene> = (0..STORES)
-        .map(|_| Scene::random(&mut chance, CALLS_IN_A_STORE))
-        .collect();
+    let scenes = mixed(Scene::random);
     let calls = STORES * CALLS_IN_A_STORE;
     let granted: usize = scenes.iter().map(|scene| scene.granted).sum();
     println!("Medians of {ROUNDS} rounds, nanoseconds for a call.\n");
@@ -32,10 +37,16 @@ fn main() -> ExitCode {
         "(2) calls without the test",
         compare_sides(store_acts, reference_acts, &scenes),
     );
+    let without_links = mixed(Scene::without_links);
+    print_row(
+        "(2) the same, where there are no symbolic links",
+        compare_sides(store_acts, reference_acts, &without_links),
+    );
     print_row("(3) the soundness test alone", compare_soundness(&scenes));
     system::print_system_calls();
     kinds::print_by_kind(&scenes);
     growth::print_by_size();
     growth::print_by_depth();
+    growth::print_by_follows();
     ExitCode::SUCCESS
 }

@@ -10,7 +10,7 @@ const RANGE: &str = "all fields in range";
 const FREE_ZERO: &str = "free ones are zero";
 
 pub const DEFECTS: &[(&str, &str, Break)] = &[
-    (RANGE, "kind over 2", kind),
+    (RANGE, "kind over 3", kind),
     (RANGE, "owner over 65,535", owner),
     (RANGE, "group over 65,535", file_group),
     (RANGE, "bits over 511", bits),
@@ -44,7 +44,7 @@ pub const DEFECTS: &[(&str, &str, Break)] = &[
 
 fn kind(tables: &mut Tables, chance: &mut Chance) -> Option<()> {
     let slot = chance.below(SLOTS);
-    let word = over(chance, DIRECTORY);
+    let word = over(chance, LINK);
     tables.file_mut(slot)[FILE_KIND] = word;
     Some(())
 }

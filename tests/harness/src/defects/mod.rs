@@ -4,6 +4,7 @@ mod fields;
 mod names;
 mod open_files;
 mod pick;
+mod symlinks;
 mod zeros;
 
 use crate::chance::Chance;
@@ -27,6 +28,7 @@ pub fn all() -> Vec<Defect> {
         names::DEFECTS,
         open_files::DEFECTS,
         zeros::DEFECTS,
+        symlinks::DEFECTS,
     ];
     groups
         .into_iter()

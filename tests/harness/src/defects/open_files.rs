@@ -14,6 +14,7 @@ pub const DEFECTS: &[(&str, &str, Break)] = &[
     (KEPT, "plain file neither named nor open", kept_by_nothing),
     (ON_PLAIN, "open directory", open_directory),
     (ON_PLAIN, "open free slot", open_free),
+    (ON_PLAIN, "open link", open_link),
     (REFERRED, "one reference too many", one_more),
     (REFERRED, "one reference too few", one_less),
     (REFERRED, "open file that nobody holds", nobody_holds),
@@ -26,16 +27,22 @@ fn kept_by_nothing(tables: &mut Tables, chance: &mut Chance) -> Option<()> {
     Some(())
 }
 
-fn open_directory(tables: &mut Tables, chance: &mut Chance) -> Option<()> {
-    let slot = slot_of(tables, chance, DIRECTORY)?;
+fn open_kind(tables: &mut Tables, chance: &mut Chance, kind: u32) -> Option<()> {
+    let slot = slot_of(tables, chance, kind)?;
     open_by_someone(tables, chance, slot)?;
     Some(())
 }
 
+fn open_directory(tables: &mut Tables, chance: &mut Chance) -> Option<()> {
+    open_kind(tables, chance, DIRECTORY)
+}
+
 fn open_free(tables: &mut Tables, chance: &mut Chance) -> Option<()> {
-    let slot = slot_of(tables, chance, FREE)?;
-    open_by_someone(tables, chance, slot)?;
-    Some(())
+    open_kind(tables, chance, FREE)
+}
+
+fn open_link(tables: &mut Tables, chance: &mut Chance) -> Option<()> {
+    open_kind(tables, chance, LINK)
 }
 
 fn one_more(tables: &mut Tables, chance: &mut Chance) -> Option<()> {

@@ -84,3 +84,12 @@ pub fn over(chance: &mut Chance, limit: u32) -> u32 {
         any.max(limit + 1),
     ])
 }
+
+/// Sets one of the bytes from `start` on to something else than 0.
+pub fn spoil(bytes: &mut [u8], start: usize, chance: &mut Chance) -> Option<()> {
+    let last = bytes.len().checked_sub(1).filter(|&last| start <= last)?;
+    let within = chance.between(start, last);
+    let at = chance.pick(&[start, last, within]);
+    bytes[at] = chance.pick(&[1, 47, 128, 255]);
+    Some(())
+}

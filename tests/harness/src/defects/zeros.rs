@@ -17,15 +17,6 @@ pub const DEFECTS: &[(&str, &str, Break)] = &[
     (ZERO, "byte in an empty directory entry", in_empty),
 ];
 
-/// Sets one of the bytes from `start` on to something else than 0.
-fn spoil(bytes: &mut [u8], start: usize, chance: &mut Chance) -> Option<()> {
-    let last = bytes.len().checked_sub(1).filter(|&last| start <= last)?;
-    let within = chance.between(start, last);
-    let at = chance.pick(&[start, last, within]);
-    bytes[at] = chance.pick(&[1, 47, 128, 255]);
-    Some(())
-}
-
 fn past_length(tables: &mut Tables, chance: &mut Chance) -> Option<()> {
     let slot = chance.pick_where(SLOTS, |slot| {
         tables.is_kind(slot, PLAIN) && tables.file(slot)[FILE_LENGTH] < BLOCK as u32

@@ -1,15 +1,18 @@
 //! Calls by chance that fit the store at hand, so that many are granted.
 
+use super::ways::Names;
 use super::{names, paths};
 use crate::building::has_name;
-use crate::call::Call;
+use crate::call::{Call, CALLS};
 use crate::chance::Chance;
-use crate::tree::{self, Node};
+use crate::tree::Node;
 use mritvelja::layout::*;
 use mritvelja::Tables;
 
 /// How often each call is made, the unknown ones at 0.
-const WEIGHTS: [usize; 18] = [1, 14, 8, 6, 5, 5, 5, 6, 5, 6, 9, 10, 10, 5, 4, 3, 2, 5];
+const WEIGHTS: [usize; CALLS + 1] = [
+    1, 14, 8, 6, 5, 5, 5, 6, 5, 6, 9, 10, 10, 5, 4, 3, 2, 5, 5, 4,
+];
 const MODES: [u16; 9] = [1, 1, 1, 2, 3, 4, 10, 11, 12];
 /// Mostly of a file that everyone may use; some shut its owner or its group out.
 const BITS: [u16; 12] = [
@@ -19,7 +22,7 @@ const ODD_NUMBERS: [u16; 13] = [0, 5, 8, 9, 13, 16, 17, 256, 257, 511, 512, 513,
 
 /// Makes calls for one store; it keeps the store's names at hand.
 pub struct CallMaker {
-    nodes: Vec<Node>,
+    names: Names,
     /// A slot that calls are to meet more often than others.
     pub favourite: Option<usize>,
 }
@@ -28,7 +31,7 @@ pub struct CallMaker {
 struct Scene<'a> {
     chance: &'a mut Chance,
     tables: &'a Tables,
-    nodes: &'a [Node],
+    names: &'a Names,
     favourite: Option<usize>,
     process: usize,
 }
@@ -36,14 +39,14 @@ struct Scene<'a> {
 impl CallMaker {
     pub fn new(tables: &Tables) -> CallMaker {
         CallMaker {
-            nodes: tree::nodes(tables),
+            names: Names::of(tables),
             favourite: None,
         }
     }
 
     /// To be called after names came or went.
     pub fn refresh(&mut self, tables: &Tables) {
-        self.nodes = tree::nodes(tables);
+        self.names = Names::of(tables);
     }
 
     pub fn call(&self, chance: &mut Chance, tables: &Tables) -> Call {
@@ -57,7 +60,7 @@ impl CallMaker {
         let mut scene = Scene {
             chance,
             tables,
-            nodes: &self.nodes,
+            names: &self.names,
             favourite: self.favourite,
             process: process.min(PROCESSES - 1),
         };
@@ -98,7 +101,7 @@ fn caller(chance: &mut Chance, tables: &Tables, call: u8) -> usize {
 impl Scene<'_> {
     fn unknown_call(&mut self, call: u8) -> u8 {
         match call {
-            0 => self.chance.pick(&[0, 18, 19, 20, 33, 128, 255]),
+            0 => self.chance.pick(&[0, 20, 21, 22, 33, 128, 255]),
             known => known,
         }
     }
@@ -140,20 +143,25 @@ impl Scene<'_> {
 
     fn path(&mut self, call: u8) -> Vec<u8> {
         match call {
-            2 | 3 => self.new_path(),
-            4 => self.existing(|tables, slot| tables.is_kind(slot, PLAIN), Some(WRITE)),
+            2 | 3 | 18 => self.new_path(),
+            4 => self.existing(
+                |tables, node| !tables.is_kind(node.slot, DIRECTORY),
+                Some(WRITE),
+            ),
             5 => {
                 let empty_too = self.chance.percent(20);
                 self.existing(
-                    |tables, slot| {
-                        tables.is_kind(slot, DIRECTORY)
-                            && (empty_too || tables.file(slot)[FILE_LENGTH] == 0)
+                    |tables, node| {
+                        tables.is_kind(node.slot, DIRECTORY)
+                            && (empty_too || tables.file(node.slot)[FILE_LENGTH] == 0)
                     },
                     Some(WRITE),
                 )
             }
-            1 | 6 | 17 => self.existing(|tables, slot| tables.is_kind(slot, PLAIN), None),
-            7 => self.existing(|tables, slot| tables.is_kind(slot, DIRECTORY), None),
+            1 | 17 => self.existing(|tables, node| tables.is_kind(node.target, PLAIN), None),
+            6 => self.existing(|tables, node| tables.is_kind(node.slot, PLAIN), None),
+            7 => self.existing(|tables, node| tables.is_kind(node.target, DIRECTORY), None),
+            19 => self.existing(|tables, node| tables.is_kind(node.slot, LINK), None),
             8 | 9 => self.existing(|_, _| true, None),
             // Not used by the call, and so of no matter.
             _ => self.unused(),
@@ -168,6 +176,8 @@ impl Scene<'_> {
     fn data(&mut self, call: u8, descriptor: usize) -> Vec<u8> {
         match call {
             6 => self.new_path(),
+            18 if self.chance.one_in(20) => self.missing_or_odd(),
+            18 => self.names.text(self.chance, self.tables),
             12 => {
                 let length = self.write_length(descriptor);
                 self.chance.bytes(length)
@@ -208,16 +218,35 @@ impl Scene<'_> {
     }
 
     /// The path of a name that passes; a right is asked of its directory.
-    fn existing(&mut self, pass: impl Fn(&Tables, usize) -> bool, asked: Option<u32>) -> Vec<u8> {
+    fn existing(&mut self, pass: impl Fn(&Tables, &Node) -> bool, asked: Option<u32>) -> Vec<u8> {
         if self.chance.one_in(25) {
             return self.missing_or_odd();
         }
+        if self.names.has_links && self.chance.one_in(20) {
+            return self.by_any_link();
+        }
         let node = self.node(|scene, node| {
-            pass(scene.tables, node.slot)
+            pass(scene.tables, node)
                 && asked.is_none_or(|right| scene.may(node.parent, right))
                 && scene.may(node.parent, EXECUTE)
         });
-        paths::written(self.chance, &node.path)
+        self.way_to(&node.path)
+    }
+
+    /// A link's path or one below it, wherever the link leads.
+    fn by_any_link(&mut self) -> Vec<u8> {
+        let node = self.node(|scene, node| scene.tables.is_kind(node.slot, LINK));
+        let path = self.way_to(&node.path);
+        if self.chance.one_in(2) {
+            return path;
+        }
+        paths::below(&path, &names::name(self.chance, true))
+    }
+
+    /// The path, at times through links.
+    fn way_to(&mut self, path: &[u8]) -> Vec<u8> {
+        let path = self.names.through(self.chance, path);
+        paths::written(self.chance, &path)
     }
 
     fn missing_or_odd(&mut self) -> Vec<u8> {
@@ -237,32 +266,47 @@ impl Scene<'_> {
             return self.missing_or_odd();
         }
         let full_too = self.chance.one_in(6);
-        let node = self.node(|scene, node| {
-            scene.tables.is_kind(node.slot, DIRECTORY)
-                && node.depth < NAMES
-                && (full_too || scene.tables.file(node.slot)[FILE_LENGTH] < DIRENTS as u32)
-                && scene.may(node.slot, WRITE | EXECUTE)
+        let deep = self.deep_directory().filter(|_| self.chance.one_in(5));
+        let node = deep.unwrap_or_else(|| {
+            self.node(|scene, node| {
+                scene.tables.is_kind(node.slot, DIRECTORY)
+                    && scene.names.reaches(&paths::below(&node.path, b"x"))
+                    && (full_too || scene.tables.file(node.slot)[FILE_LENGTH] < DIRENTS as u32)
+                    && scene.may(node.slot, WRITE | EXECUTE)
+            })
         });
         let short = self.chance.one_in(2);
         let mut name = names::name(self.chance, short);
         if has_name(self.tables, node.slot, &name) && self.chance.percent(80) {
             name = names::name(self.chance, false);
         }
-        let path = paths::below(&node.path, &name);
-        paths::written(self.chance, &path)
+        self.way_to(&paths::below(&node.path, &name))
+    }
+
+    /// A directory as deep as one may be, if links lead to such: there no other can be made.
+    fn deep_directory(&mut self) -> Option<Node> {
+        let nodes = &self.names.nodes;
+        let number = self.chance.pick_where(nodes.len(), |number| {
+            let node = &nodes[number];
+            node.depth == NAMES
+                && self.tables.is_kind(node.slot, DIRECTORY)
+                && self.names.reaches(&paths::below(&node.path, b"x"))
+        })?;
+        Some(nodes[number].clone())
     }
 
     /// A name that passes, tried for a few times; then any.
     fn node(&mut self, pass: impl Fn(&Self, &Node) -> bool) -> Node {
         let wanted = self.favourite.filter(|_| self.chance.one_in(4));
         let careless = self.chance.one_in(12);
-        let mut node = &self.nodes[self.chance.below(self.nodes.len())];
+        let nodes = &self.names.nodes;
+        let mut node = &nodes[self.chance.below(nodes.len())];
         for _ in 0..24 {
-            let favoured = wanted.is_none_or(|slot| node.slot == slot);
-            if careless || (favoured && node.path.len() <= PATH && pass(self, node)) {
+            let favoured = wanted.is_none_or(|slot| node.target == slot);
+            if careless || (favoured && self.names.reaches(&node.path) && pass(self, node)) {
                 break;
             }
-            node = &self.nodes[self.chance.below(self.nodes.len())];
+            node = &nodes[self.chance.below(nodes.len())];
         }
         node.clone()
     }

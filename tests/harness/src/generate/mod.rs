@@ -6,6 +6,7 @@ pub mod open_files;
 pub mod paths;
 pub mod shape;
 pub mod store;
+pub mod ways;
 
 pub use calls::CallMaker;
 pub use store::random_store;

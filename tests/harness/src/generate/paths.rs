@@ -30,13 +30,18 @@ fn filled(path: &[u8], length: usize) -> Vec<u8> {
     filled
 }
 
-/// The path with one more name at its end.
-pub fn below(path: &[u8], name: &[u8]) -> Vec<u8> {
-    let mut longer = if path == b"/" {
+/// The path, but of the root nothing: names can then be put after it.
+pub fn without_root(path: &[u8]) -> Vec<u8> {
+    if path == b"/" {
         Vec::new()
     } else {
         path.to_vec()
-    };
+    }
+}
+
+/// The path with one more name at its end.
+pub fn below(path: &[u8], name: &[u8]) -> Vec<u8> {
+    let mut longer = without_root(path);
     longer.push(b'/');
     longer.extend(name);
     longer

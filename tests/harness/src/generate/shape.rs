@@ -26,6 +26,8 @@ pub enum Strictness {
 pub struct Shape {
     /// Named files, the root not counted.
     pub files: usize,
+    /// How many of them are symbolic links, at most.
+    pub symlinks: usize,
     /// How many in a hundred of them are directories.
     pub directories: usize,
     pub spread: Spread,
@@ -55,8 +57,10 @@ impl Shape {
             1 => most_open,
             _ => chance.below(most_open + 1),
         };
+        let files = Shape::files(chance);
         Shape {
-            files: Shape::files(chance),
+            files,
+            symlinks: chance.pick(&[0, 0, 1, 3, 8, 12, 20]).min(files / 2),
             directories: chance.pick(&[10, 25, 40, 60]),
             spread: chance.pick(&[Spread::Deep, Spread::Wide, Spread::Even]),
             processes: processes.min(PROCESSES),

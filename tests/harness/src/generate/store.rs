@@ -3,8 +3,10 @@
 use super::names::name;
 use super::open_files::add_open_files;
 use super::shape::{Shape, Spread, Strictness};
-use crate::building::{add_name, has_name};
+use super::ways::{is_path, Names};
+use crate::building::{add_name, has_name, set_text};
 use crate::chance::Chance;
+use crate::tree;
 use mritvelja::layout::*;
 use mritvelja::Tables;
 
@@ -44,6 +46,7 @@ pub fn store_of(chance: &mut Chance, shape: Shape) -> Tables {
     maker.set_versions();
     maker.set_root();
     maker.grow();
+    maker.add_symlinks();
     maker.add_links();
     maker.add_processes();
     let Maker {
@@ -95,7 +98,7 @@ impl Maker<'_> {
     }
 
     fn grow(&mut self) {
-        for _ in 0..self.shape.files {
+        for _ in 0..self.shape.files - self.shape.symlinks {
             let Some((parent, depth)) = self.parent() else {
                 return;
             };
@@ -127,14 +130,64 @@ impl Maker<'_> {
     }
 
     fn set_file(&mut self, slot: usize, kind: u32) {
-        let (owner, group) = (self.user(), self.group());
-        let (bits, label) = (self.bits(), self.label());
-        let version = self.tables.file(slot)[FILE_VERSION];
         let length = if kind == PLAIN { self.length() } else { 0 };
-        let record = [kind, owner, group, bits, label, length as u32, 0, version];
-        *self.tables.file_mut(slot) = record;
         let bytes = self.chance.bytes(length);
-        self.tables.block_mut(slot)[..length].copy_from_slice(&bytes);
+        let bits = self.bits();
+        self.set_record(slot, kind, bits, &bytes);
+    }
+
+    fn set_record(&mut self, slot: usize, kind: u32, bits: u32, bytes: &[u8]) {
+        let (owner, group, label) = (self.user(), self.group(), self.label());
+        let (length, version) = (bytes.len() as u32, self.tables.file(slot)[FILE_VERSION]);
+        let record = [kind, owner, group, bits, label, length, 0, version];
+        *self.tables.file_mut(slot) = record;
+        self.tables.block_mut(slot)[..bytes.len()].copy_from_slice(bytes);
+    }
+
+    /// Symbolic links: to the deepest directory, chains that take up to ten follows and more, rings, and single ones.
+    fn add_symlinks(&mut self) {
+        let mut left = self.shape.symlinks;
+        let deepest = Names::of(&self.tables).deepest(&self.tables);
+        if left > 0 && is_path(&deepest) && self.chance.one_in(2) {
+            self.add_symlink(&deepest);
+            left -= 1;
+        }
+        while left > 0 {
+            let (count, ring) = match self.chance.below(5) {
+                0 | 1 => (self.chance.between(2, 10), false),
+                2 => (self.chance.between(1, 4), true),
+                _ => (1, false),
+            };
+            self.add_chain(count.min(left), ring);
+            left -= count.min(left);
+        }
+    }
+
+    /// Links of which each leads to the one before, and the first anywhere, or in a ring to the last.
+    fn add_chain(&mut self, count: usize, ring: bool) {
+        let mut text = Names::of(&self.tables).text(self.chance, &self.tables);
+        let mut first = None;
+        for _ in 0..count {
+            let Some((slot, path)) = self.add_symlink(&text) else {
+                break;
+            };
+            first = first.or(Some(slot));
+            text = path;
+        }
+        if let (true, Some(slot)) = (ring, first) {
+            set_text(&mut self.tables, slot, &text);
+        }
+    }
+
+    /// One more link, and its path, if that can be a text.
+    fn add_symlink(&mut self, text: &[u8]) -> Option<(usize, Vec<u8>)> {
+        let (parent, _) = self.parent()?;
+        let slot = self.free_slots.pop()?;
+        self.set_record(slot, LINK, 0, text);
+        self.name(parent, slot);
+        let nodes = tree::nodes(&self.tables);
+        let path = nodes.into_iter().find(|node| node.slot == slot)?.path;
+        is_path(&path).then_some((slot, path))
     }
 
     fn length(&mut self) -> usize {

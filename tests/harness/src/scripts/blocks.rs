@@ -5,7 +5,7 @@ use super::block::Block;
 use crate::call::CALLS;
 use crate::chance::Chance;
 use crate::generate::CallMaker;
-use mritvelja::calls::{self, reads, uses, Field};
+use mritvelja::calls::{parts, reads, uses, Field, Part};
 use mritvelja::Tables;
 
 /// Numbers about those that fit a byte, a read and a script.
@@ -52,13 +52,19 @@ fn vary(block: &mut Block, chance: &mut Chance) {
         4 if reads(call) => block.number = chance.pick(&READ_SIZES),
         4 if uses(call, Field::Number) => block.number = chance.pick(&EDGES),
         5 if uses(call, Field::Path) => block.path = long_path(&block.path, chance),
-        6 if call == calls::LINK.into() => block.data = long_path(&block.data, chance),
+        6 if data_is_path(call) => block.data = long_path(&block.data, chance),
         6 if uses(call, Field::Data) => {
             let length = chance.pick(&DATA_LENGTHS);
             block.data = chance.bytes(length);
         }
         _ => make_unknown(block, chance),
     }
+}
+
+/// Whether a call takes its data for a path.
+fn data_is_path(call: u16) -> bool {
+    let is_path = |part: &Part| matches!(part, Part::NewPath | Part::Target);
+    parts(call).is_some_and(|parts| parts.iter().any(is_path))
 }
 
 /// A number that would be the old one again if it were cut to a byte.
@@ -74,7 +80,7 @@ fn raise(block: &mut Block, chance: &mut Chance) {
 
 /// An unknown call, which may use every part.
 fn make_unknown(block: &mut Block, chance: &mut Chance) {
-    block.call = chance.pick(&[0, 18, 19, 20, 255, 256, 257, 267, 65_535]);
+    block.call = chance.pick(&[0, 20, 21, 22, 255, 256, 257, 267, 65_535]);
     block.descriptor = chance.pick(&EDGES);
     block.number = chance.pick(&EDGES);
     if chance.one_in(2) {

@@ -6,6 +6,7 @@ use super::breaks::WAYS;
 use super::given::Given;
 use super::lines::Lines;
 use super::run::run;
+use crate::call::changes_names;
 use crate::chance::Chance;
 use crate::defects::Defect;
 use crate::generate::{random_store, CallMaker};
@@ -84,7 +85,7 @@ impl Author<'_> {
     fn make(&mut self, block: &Block) {
         let done = run(reference_replay, &self.tables, &block.text(), Given::AMPLE);
         self.tables = done.tables;
-        if (2..=6).contains(&block.call) {
+        if changes_names(block.call) {
             self.maker.refresh(&self.tables);
         }
     }

@@ -35,7 +35,7 @@ use reference::Request;
 use stored::records::{self, BUFFER, ROOM};
 use stored::tables::{self, zero, SIZES};
 
-const SEED: u64 = 20_261;
+const SEED: u64 = 20_263;
 const STORES: usize = 60;
 const CALLS: usize = 89;
 /// How many bytes but 0 the contents of a short store have.

@@ -12,9 +12,9 @@ use stored::tables::{
 const LONGEST: usize = 512;
 
 /// Each call's name, in the order of their numbers.
-const NAMES: [&str; 17] = [
+const NAMES: [&str; 19] = [
     "open", "create", "mkdir", "unlink", "rmdir", "link", "list", "chmod", "stat", "close", "read",
-    "write", "seek", "dup", "fork", "exit", "exec",
+    "write", "seek", "dup", "fork", "exit", "exec", "symlink", "readlink",
 ];
 
 /// A line that is not understood.

@@ -142,11 +142,22 @@ returns-15 c buffer =
     let at-e13 = before-relabel-process .before in
     rw (at-e13 .e13 .given .1) (at-relabel-process .relabel-process .ensures _ _ _)
 
+returns-16 : tie.Need-returns-16
+unfolding carryOut
+returns-16 c buffer =
+    let before-c = c .before .before in
+    let at-make-symlink = before-c .before .before in
+    let before-make-symlink = at-make-symlink .before .before in
+    let at-e14 = before-make-symlink .before .before in
+    rw (at-e14 .e14 .given .1) (at-make-symlink .make-symlink .ensures _ _)
+
 pub carry-out-spec : {M : Type 1} → statement M
 carry-out-spec =
     tie.close
     (tie.spec
     (λ c. search needs)
+    (λ c. search needs)
+    (λ c κs. tt)
     (λ c. search needs)
     (λ c κs. tt)
     (λ c. search needs)
@@ -221,4 +232,7 @@ carry-out-spec =
     (λ c. search needs)
     returns-14
     (λ c. search needs)
-    returns-15)
+    returns-15
+    (λ c. search needs)
+    (λ c. search needs)
+    returns-16)

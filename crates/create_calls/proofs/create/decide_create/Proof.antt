@@ -10,6 +10,10 @@ decide-create-spec =
     (tie.spec
     (λ c. search needs)
     (λ c κs. tt)
+    (λ c κs. tt)
     (λ c. search needs)
-    (λ c. simp (← c .create-with .ensures, c .before .before .bits .given .1))
+    (λ c.
+    let at-new-file = c .before in
+    let at-bits = at-new-file .before .before in
+    simp (← c .create-new .ensures, ← at-new-file .new-file .ensures, at-bits .bits .given .1))
     (λ c. simp (c .enum-told .given .1)))

@@ -47,6 +47,10 @@ decide-own-spec =
     (λ c. search needs)
     (λ c κs. tt)
     (λ c. search needs)
+    (λ c κs. tt)
+    (λ c. search needs)
+    (λ c κs. tt)
+    (λ c. search needs)
     (λ c.
     let at-enum-told = c .before in
     let at-subject = at-enum-told .before .before in
@@ -94,4 +98,12 @@ decide-own-spec =
     let at-enum-told17 = c .before in
     let at-subject = at-enum-told17 .before .before in
     rw (at-enum-told17 .enum-told17 .given .1) (rw (at-subject .subject .ensures) at (c .formed-execute .ensures)))
-    (λ c. rw (c .enum-told18 .given .1)))
+    (λ c.
+    let at-enum-told18 = c .before in
+    let at-subject = at-enum-told18 .before .before in
+    rw (at-enum-told18 .enum-told18 .given .1) (rw (at-subject .subject .ensures) at (c .formed-symlink .ensures)))
+    (λ c.
+    let at-enum-told19 = c .before in
+    let at-subject = at-enum-told19 .before .before in
+    rw (at-enum-told19 .enum-told19 .given .1) (rw (at-subject .subject .ensures) at (c .formed-read-link .ensures)))
+    (λ c. rw (c .enum-told20 .given .1)))

@@ -17,9 +17,9 @@ decide-open-spec =
     (λ c.
     let at-new = c .before in
     let at-at = at-new .before .before in
-    let at-walk-path = at-at .before .before in
-    simp (← c .open-mode .ensures, ← at-new .new .ensures, at-at .at .given .1, ← at-walk-path .walk-path .ensures))
+    let at-follow-path = at-at .before .before in
+    simp (← c .open-mode .ensures, ← at-new .new .ensures, at-at .at .given .1, ← at-follow-path .follow-path .ensures))
     (λ c.
     let at-r = c .before in
-    let at-walk-path = at-r .before .before in
-    simp (at-r .r .given .1, ← at-walk-path .walk-path .ensures)))
+    let at-follow-path = at-r .before .before in
+    simp (at-r .r .given .1, ← at-follow-path .follow-path .ensures)))

@@ -15,4 +15,7 @@ kind-sound-spec =
     (λ c κs. tt)
     (λ c. search steps)
     (λ c κs. tt)
+    (λ c κs. tt)
+    (λ c. search steps)
+    (λ c κs. tt)
     (λ c. search steps))

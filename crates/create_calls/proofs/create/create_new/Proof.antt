@@ -1,0 +1,22 @@
+use Rattle.rules.specs.Checks.{after}
+use borrow.Author.Needs.{needs}
+use Rattle.create_calls.proofs.create.create_new.Statement.{statement}
+use Rattle.create_calls.proofs.create.create_new.Tie as tie
+
+pub create-new-spec : {M : Type 1} → statement M
+unfolding after
+create-new-spec =
+    tie.close
+    (tie.spec
+    (λ c κs. tt)
+    (λ c. search needs)
+    (λ c κs. tt)
+    (λ c. search needs)
+    (λ c.
+    let at-at = c .before .before in
+    let at-walk-new = at-at .before .before in
+    simp (← c .create-at .ensures, at-at .at .given .1, ← at-walk-new .walk-new .ensures))
+    (λ c.
+    let at-r = c .before in
+    let at-walk-new = at-r .before .before in
+    simp (at-r .r .given .1, ← at-walk-new .walk-new .ensures)))
