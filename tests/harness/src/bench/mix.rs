@@ -36,6 +36,12 @@ impl Scene {
         })
     }
 
+    /// Calls that a script's block can hold: byte 10 ends its path's line.
+    pub fn scriptable(chance: &mut Chance, calls: usize) -> Scene {
+        let start = random_store(chance);
+        Scene::on(start, chance, calls, |call| !call.path.contains(&b'\n'))
+    }
+
     /// So many calls that pass.
     fn on(start: Tables, chance: &mut Chance, calls: usize, pass: fn(&Call) -> bool) -> Scene {
         let mut tables = start.clone();

@@ -3,6 +3,7 @@
 pub mod growth;
 pub mod kinds;
 pub mod mix;
+pub mod scripts;
 pub mod stores;
 pub mod system;
 pub mod timing;
