@@ -165,7 +165,7 @@ fn to_words(bytes: &[u8]) -> Vec<u32> {
 }
 
 #[cfg(test)]
-mod tests {
+pub mod tests {
     use super::*;
     use mritvelja::test_console;
 
@@ -173,7 +173,8 @@ mod tests {
         decode(bytes, bytes.len() as u64)
     }
 
-    fn changed(bytes: &[u8], at: usize, byte: u8) -> Vec<u8> {
+    /// A file with one byte that is another.
+    pub fn changed(bytes: &[u8], at: usize, byte: u8) -> Vec<u8> {
         let mut changed = bytes.to_vec();
         changed[at] = byte;
         changed

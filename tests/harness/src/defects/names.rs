@@ -73,10 +73,7 @@ fn root_named(tables: &mut Tables, _: &mut Chance) -> Option<()> {
 
 fn named_twice(tables: &mut Tables, chance: &mut Chance) -> Option<()> {
     let slot = subdirectory(tables, chance)?;
-    let (directory, dirent) = dirent(tables, chance, false)?;
-    let name = fresh_name(tables, directory);
-    add_name(tables, directory, dirent, &name, slot);
-    Some(())
+    name_again(tables, chance, slot)
 }
 
 fn not_named(tables: &mut Tables, chance: &mut Chance) -> Option<()> {
@@ -194,10 +191,7 @@ fn names_root(tables: &mut Tables, chance: &mut Chance) -> Option<()> {
 }
 
 fn links_high(tables: &mut Tables, chance: &mut Chance) -> Option<()> {
-    let slot = slot_of(tables, chance, PLAIN)?;
-    let change = chance.pick(&[1, 2, 256, 65_536]);
-    add_to_file(tables, slot, FILE_LINKS, change);
-    Some(())
+    miscount(tables, chance, (PLAIN, FILE_LINKS), &[1, 2, 256, 65_536])
 }
 
 /// Of a file with at least two names, so that it still has one.
@@ -210,10 +204,7 @@ fn links_low(tables: &mut Tables, chance: &mut Chance) -> Option<()> {
 }
 
 fn plain_length(tables: &mut Tables, chance: &mut Chance) -> Option<()> {
-    let slot = slot_of(tables, chance, PLAIN)?;
-    let word = over(chance, BLOCK as u32);
-    tables.file_mut(slot)[FILE_LENGTH] = word;
-    Some(())
+    lengthen(tables, chance, PLAIN)
 }
 
 fn directory_length(tables: &mut Tables, chance: &mut Chance) -> Option<()> {

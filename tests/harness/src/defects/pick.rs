@@ -1,6 +1,6 @@
 //! Parts of a store by chance, where it has such a part.
 
-use crate::building::has_name;
+use crate::building::{add_name, add_to_file, has_name};
 use crate::chance::Chance;
 use mritvelja::layout::*;
 use mritvelja::Tables;
@@ -59,6 +59,34 @@ pub fn free_descriptor(tables: &Tables, chance: &mut Chance) -> Option<(usize, u
     let process = chance.pick_where(PROCESSES, fit)?;
     let descriptor = chance.pick_where(DESCRIPTORS, |descriptor| free(process, descriptor))?;
     Some((process, descriptor))
+}
+
+/// One name more for a slot, counts right.
+pub fn name_again(tables: &mut Tables, chance: &mut Chance, slot: usize) -> Option<()> {
+    let (directory, dirent) = dirent(tables, chance, false)?;
+    let name = fresh_name(tables, directory);
+    add_name(tables, directory, dirent, &name, slot);
+    Some(())
+}
+
+/// Adds one of the changes to a word of a file of this kind.
+pub fn miscount(
+    tables: &mut Tables,
+    chance: &mut Chance,
+    (kind, column): (u32, usize),
+    changes: &[i32],
+) -> Option<()> {
+    let slot = slot_of(tables, chance, kind)?;
+    let change = chance.pick(changes);
+    add_to_file(tables, slot, column, change);
+    Some(())
+}
+
+/// Gives a file of this kind a length over a block's.
+pub fn lengthen(tables: &mut Tables, chance: &mut Chance, kind: u32) -> Option<()> {
+    let slot = slot_of(tables, chance, kind)?;
+    tables.file_mut(slot)[FILE_LENGTH] = over(chance, BLOCK as u32);
+    Some(())
 }
 
 /// Opens a slot in an open file and descriptor that are free, counts right.

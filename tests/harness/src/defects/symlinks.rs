@@ -2,7 +2,7 @@
 
 use super::pick::*;
 use super::Break;
-use crate::building::{add_name, add_to_file, set_text};
+use crate::building::{add_to_file, set_text};
 use crate::chance::Chance;
 use mritvelja::layout::*;
 use mritvelja::Tables;
@@ -34,10 +34,7 @@ pub const DEFECTS: &[(&str, &str, Break)] = &[
 
 fn named_twice(tables: &mut Tables, chance: &mut Chance) -> Option<()> {
     let slot = slot_of(tables, chance, LINK)?;
-    let (directory, dirent) = dirent(tables, chance, false)?;
-    let name = fresh_name(tables, directory);
-    add_name(tables, directory, dirent, &name, slot);
-    Some(())
+    name_again(tables, chance, slot)
 }
 
 fn not_named(tables: &mut Tables, chance: &mut Chance) -> Option<()> {
@@ -48,10 +45,7 @@ fn not_named(tables: &mut Tables, chance: &mut Chance) -> Option<()> {
 }
 
 fn miscounted(tables: &mut Tables, chance: &mut Chance) -> Option<()> {
-    let slot = slot_of(tables, chance, LINK)?;
-    let change = chance.pick(&[-1, 1, 256, 65_536]);
-    add_to_file(tables, slot, FILE_LINKS, change);
-    Some(())
+    miscount(tables, chance, (LINK, FILE_LINKS), &[-1, 1, 256, 65_536])
 }
 
 fn with_bits(tables: &mut Tables, chance: &mut Chance) -> Option<()> {
@@ -118,17 +112,11 @@ fn one_less(tables: &mut Tables, chance: &mut Chance) -> Option<()> {
 }
 
 fn more(tables: &mut Tables, chance: &mut Chance) -> Option<()> {
-    let slot = slot_of(tables, chance, LINK)?;
-    let change = chance.pick(&[1, 2, 256, 65_536]);
-    add_to_file(tables, slot, FILE_LENGTH, change);
-    Some(())
+    miscount(tables, chance, (LINK, FILE_LENGTH), &[1, 2, 256, 65_536])
 }
 
 fn over_block(tables: &mut Tables, chance: &mut Chance) -> Option<()> {
-    let slot = slot_of(tables, chance, LINK)?;
-    let word = over(chance, BLOCK as u32);
-    tables.file_mut(slot)[FILE_LENGTH] = word;
-    Some(())
+    lengthen(tables, chance, LINK)
 }
 
 fn byte_after(tables: &mut Tables, chance: &mut Chance) -> Option<()> {
