@@ -140,9 +140,10 @@ pub fn sound(tables: &Tables) -> bool {
 }
 
 /// Runs a script, at most `allowance` calls of it, each as by [`call`], but that a
-/// read or a readlink of more than 512 bytes is malformed. The answers go to the
-/// output, three lines each, and its bytes past them stay. A run with the script
-/// from [`next`](Replayed::next) on goes on where this one stopped.
+/// read or a readlink of more than 512 bytes is malformed; soundness is tested once
+/// for all of them. The answers go to the output, three lines each, and its bytes
+/// past them stay. A run with the script from [`next`](Replayed::next) on goes on
+/// where this one stopped.
 #[inline]
 pub fn replay(tables: &mut Tables, script: &[u8], allowance: u32, output: &mut [u8]) -> Replayed {
     // SAFETY: as said above of every crossing.

@@ -1,5 +1,7 @@
 //! Running a script of calls.
 
+use crate::answer::Answer;
+use crate::refusal::Refusal;
 use crate::script::{Scripted, LARGEST_READ, LONGEST_ANSWER};
 
 /// Why a run stopped.
@@ -38,7 +40,8 @@ pub struct Replayed {
 ///
 /// The reasons to stop are asked before each call, in the order of [`Reason`].
 /// A call whose answer has no room is not made. Output bytes past the answers
-/// stay as they were.
+/// stay as they were. Soundness is tested once, at the start: no call makes
+/// sound tables unsound, or unsound ones sound.
 #[allow(clippy::too_many_arguments)] // the lent tables come one by one
 pub fn replay(
     files: &mut [u32],
@@ -51,6 +54,7 @@ pub fn replay(
     output: &mut [u8],
 ) -> Replayed {
     let mut lent = Lent {
+        sound: crate::sound(files, contents, open_files, processes, policy),
         files,
         contents,
         open_files,
@@ -62,6 +66,8 @@ pub fn replay(
 
 /// The tables as they are lent, of whatever size.
 struct Lent<'a> {
+    /// Whether they were sound at the start of the run, and so are now.
+    sound: bool,
     files: &'a mut [u32],
     contents: &'a mut [u8],
     open_files: &'a mut [u32],
@@ -111,6 +117,7 @@ impl Lent<'_> {
     /// The answer that a call would have, found on a copy of the tables.
     fn rehearse(&self, scripted: &Scripted) -> String {
         Lent {
+            sound: self.sound,
             files: &mut self.files.to_vec(),
             contents: &mut self.contents.to_vec(),
             open_files: &mut self.open_files.to_vec(),
@@ -124,7 +131,16 @@ impl Lent<'_> {
     fn make(&mut self, scripted: &Scripted) -> String {
         let mut buffer = [0; LARGEST_READ as usize];
         let buffer = &mut buffer[..scripted.read_size()];
-        let answer = crate::call(
+        let answer = if self.sound {
+            self.act(scripted, buffer)
+        } else {
+            Answer::from(Refusal::Unsound)
+        };
+        scripted.answer_lines(&answer, buffer)
+    }
+
+    fn act(&mut self, scripted: &Scripted, buffer: &mut [u8]) -> Answer {
+        crate::act(
             self.files,
             self.contents,
             self.open_files,
@@ -134,7 +150,6 @@ impl Lent<'_> {
             scripted.path,
             &scripted.data,
             buffer,
-        );
-        scripted.answer_lines(&answer, buffer)
+        )
     }
 }

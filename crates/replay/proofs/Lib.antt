@@ -1,2 +1,3 @@
 -- Laws of a run.
+pub mod OnceLaws
 pub mod RunLaws

@@ -12,15 +12,16 @@ use lib.Seq.{sets, length-sets, drop-drop, drop-length}
 use Rattle.rules.proofs.Lists.{sets-append}
 use Rattle.rules.specs.Store.{Store, Fixed}
 use Rattle.rules.specs.Calls.{Call}
-use Rattle.rules.specs.Step.{step}
+use Rattle.stages.specs.Judged.{actIf}
 use Rattle.script_rules.specs.Blocks.{keyOf, afterKey, textLength, afterLine, afterBlock, blockOk, fromCall, fromFd, fromArg, fromPath, fromData}
-use Rattle.script_rules.specs.Replay.{Run, stopped, took, run, nextCall, nextText}
+use Rattle.script_rules.specs.Replay.{Run, stopped, took, nextCall}
 use Rattle.script_rules.specs.declared.line.Line.{Line}
 use Rattle.script_rules.specs.declared.line.Line.the-variants as line
 use Rattle.script_rules.specs.declared.replayed.Reason.{Reason}
 use Rattle.script_rules.specs.declared.replayed.Reason.the-variants as reason
-use Rattle.script_turn.specs.Turns.{Turned, turned, turnOf}
+use Rattle.script_turn.specs.Turns.{Turned, turned, textIf, turnOf}
 use Rattle.replay.specs.Runs.{Left, left, leftBy}
+use Rattle.replay.specs.Once.{runIf}
 use Rattle.script_turn.specs.declared.turn.Turn.{Turn}
 use Rattle.script_turn.specs.declared.turn.Turn.the-variants as turn
 
@@ -66,26 +67,26 @@ part S T d = by (leb (d .by) (length S)) refl
 
 -- ---- a turn, and the run from there on
 
-module _ (K : Fixed) (R out : List ℕ) (w at : ℕ) (s : Store) where
+module _ (fit : Bool) (K : Fixed) (R out : List ℕ) (w at : ℕ) (s : Store) where
   abbrev text : List ℕ
-  text = nextText K R s
+  text = textIf fit K R s
 
   abbrev size : ℕ
   size = length R - length (afterBlock R)
 
   abbrev next : ℕ → Run
-  next k = run k K (afterBlock R) (at + size) (length out - w - length text) (step K s (nextCall R) .store)
+  next k = runIf fit k K (afterBlock R) (at + size) (length out - w - length text) (actIf fit K s (nextCall R) .store)
 
   -- what a turn is, and what the run is then
   data Goes : ℕ → Turned → Run → Type 0 where
     stops : (n : ℕ) (why : Reason) → Goes n (turned (turn.Stopped why) out s) (stopped why at s)
-    answers : (k : ℕ) → length text ≤ length out - w → Goes (suc k) (turned (turn.Answered size (length text)) (sets out w text) (step K s (nextCall R) .store)) (took (nextCall R) text (next k))
+    answers : (k : ℕ) → length text ≤ length out - w → Goes (suc k) (turned (turn.Answered size (length text)) (sets out w text) (actIf fit K s (nextCall R) .store)) (took (nextCall R) text (next k))
 
-  goes : (n : ℕ) → Goes n (turnOf n K R out w s) (run n K R at (length out - w) s)
-  unfolding turnOf run
+  goes : (n : ℕ) → Goes n (turnOf fit n K R out w s) (runIf fit n K R at (length out - w) s)
+  unfolding turnOf runIf
   goes zero = by (eqb (length R) 0) refl
     where
-      by : (t : Bool) → eqb (length R) 0 ≡ t → Goes zero (turnOf zero K R out w s) (run zero K R at (length out - w) s)
+      by : (t : Bool) → eqb (length R) 0 ≡ t → Goes zero (turnOf fit zero K R out w s) (runIf fit zero K R at (length out - w) s)
       by true e = rw e (stops zero reason.End)
       by false e = rw e (stops zero reason.Allowance)
   goes (suc k) = by (eqb (length R) 0) (blockOk R) (leb (length text) (length out - w)) refl refl refl
@@ -93,7 +94,7 @@ module _ (K : Fixed) (R out : List ℕ) (w at : ℕ) (s : Store) where
       z : eqb (suc k) 0 ≡ false
       z = ne-eqb (suc k) 0 (λ x. omega arith)
 
-      by : (t u v : Bool) → eqb (length R) 0 ≡ t → blockOk R ≡ u → leb (length text) (length out - w) ≡ v → Goes (suc k) (turnOf (suc k) K R out w s) (run (suc k) K R at (length out - w) s)
+      by : (t u v : Bool) → eqb (length R) 0 ≡ t → blockOk R ≡ u → leb (length text) (length out - w) ≡ v → Goes (suc k) (turnOf fit (suc k) K R out w s) (runIf fit (suc k) K R at (length out - w) s)
       by true u v e f g = rw e (stops (suc k) reason.End)
       by false false v e f g = rw (e, z, f) (stops (suc k) reason.Broken)
       by false true false e f g = rw (e, z, f, g, lt-ltb (length out - w) (length text) (leb-false (length text) (length out - w) g)) (stops (suc k) reason.Room)
@@ -132,12 +133,12 @@ abbrev kindOf : Turn → ℕ
 kindOf (turn.Stopped why) = 0
 kindOf (turn.Answered size n) = 1
 
-module _ (K : Fixed) (S : List ℕ) (allowance m w at : ℕ) (out : List ℕ) (s : Store) {z : Left} (inv : leftBy (allowance - m) w out (run m K (drop at S) at (length out - w) s) ≡ z) where
-  pub stop : (why : Reason) (after : List ℕ) (t : Store) → turned (turn.Stopped why) after t ≡ turnOf m K (drop at S) out w s
+module _ (fit : Bool) (K : Fixed) (S : List ℕ) (allowance m w at : ℕ) (out : List ℕ) (s : Store) {z : Left} (inv : leftBy (allowance - m) w out (runIf fit m K (drop at S) at (length out - w) s) ≡ z) where
+  pub stop : (why : Reason) (after : List ℕ) (t : Store) → turned (turn.Stopped why) after t ≡ turnOf fit m K (drop at S) out w s
       → left (record { calls = allowance - m; next = at; written = w; reason = why }) after t ≡ z
-  stop why after t e = by (goes K (drop at S) out w at s m) e inv
+  stop why after t e = by (goes fit K (drop at S) out w at s m) e inv
     where
-      by : {n : ℕ} {T : Turned} {r : Run} → Goes K (drop at S) out w at s n T r → turned (turn.Stopped why) after t ≡ T → leftBy (allowance - m) w out r ≡ z
+      by : {n : ℕ} {T : Turned} {r : Run} → Goes fit K (drop at S) out w at s n T r → turned (turn.Stopped why) after t ≡ T → leftBy (allowance - m) w out r ≡ z
           → left (record { calls = allowance - m; next = at; written = w; reason = why }) after t ≡ z
       by (stops n because) e v =
           let a : why ≡ because = ap (λ (x : Turned). reasonIn (x .turn)) e in
@@ -147,19 +148,19 @@ module _ (K : Fixed) (S : List ℕ) (allowance m w at : ℕ) (out : List ℕ) (s
       by (answers k h) e v = let z : _≡_ {A = ℕ} 0 1 = ap (λ (x : Turned). kindOf (x .turn)) e in absurd (omega arith)
 
 -- after a call is answered
-pub record Answered (K : Fixed) (S : List ℕ) (allowance m w at : ℕ) (out : List ℕ) (z : Left) (size n : ℕ) (after : List ℕ) (t : Store) : Type 0 where
+pub record Answered (fit : Bool) (K : Fixed) (S : List ℕ) (allowance m w at : ℕ) (out : List ℕ) (z : Left) (size n : ℕ) (after : List ℕ) (t : Store) : Type 0 where
   pub allowed : 1 ≤ m
   pub within : at + size ≤ length S
   pub fits : w + n ≤ length out
   pub output : length after ≡ length out
-  pub rest : leftBy (allowance - (m - 1)) (w + n) after (run (m - 1) K (drop (at + size) S) (at + size) (length after - (w + n)) t) ≡ z
+  pub rest : leftBy (allowance - (m - 1)) (w + n) after (runIf fit (m - 1) K (drop (at + size) S) (at + size) (length after - (w + n)) t) ≡ z
 
-module _ (K : Fixed) (S : List ℕ) (allowance w at : ℕ) (out : List ℕ) (s : Store) (in-script : at ≤ length S) (in-output : w ≤ length out) (k : ℕ) where
+module _ (fit : Bool) (K : Fixed) (S : List ℕ) (allowance w at : ℕ) (out : List ℕ) (s : Store) (in-script : at ≤ length S) (in-output : w ≤ length out) (k : ℕ) where
   abbrev R : List ℕ
   R = drop at S
 
   abbrev T : List ℕ
-  T = nextText K R s
+  T = textIf fit K R s
 
   abbrev bytes : ℕ
   bytes = length R - length (afterBlock R)
@@ -170,8 +171,8 @@ module _ (K : Fixed) (S : List ℕ) (allowance w at : ℕ) (out : List ℕ) (s :
   room : length (sets out w T) - (w + length T) ≡ length out - w - length T
   room = omega (arith, length-sets out w T)
 
-  after-answer : {z : Left} → leftBy (allowance - suc k) w out (took (nextCall R) T (next K R out w at s k)) ≡ z → suc k ≤ allowance → length T ≤ length out - w
-      → Answered K S allowance (suc k) w at out z bytes (length T) (sets out w T) (step K s (nextCall R) .store)
+  after-answer : {z : Left} → leftBy (allowance - suc k) w out (took (nextCall R) T (next fit K R out w at s k)) ≡ z → suc k ≤ allowance → length T ≤ length out - w
+      → Answered fit K S allowance (suc k) w at out z bytes (length T) (sets out w T) (actIf fit K s (nextCall R) .store)
   after-answer {z} v l h =
       let x : allowance - (suc k - 1) ≡ allowance - suc k + 1 = omega arith in
       let y : suc k - 1 ≡ k = omega arith in
@@ -180,29 +181,29 @@ module _ (K : Fixed) (S : List ℕ) (allowance w at : ℕ) (out : List ℕ) (s :
         within = omega (arith, length-drop at S);
         fits = omega arith;
         output = length-sets out w T;
-        rest = rw (x, y, drops, room) (sym (took-left (allowance - suc k) w out (nextCall R) T (next K R out w at s k)) ∙ v);
+        rest = rw (x, y, drops, room) (sym (took-left (allowance - suc k) w out (nextCall R) T (next fit K R out w at s k)) ∙ v);
       }
 
-module _ (K : Fixed) (S : List ℕ) (allowance m w at : ℕ) (out : List ℕ) (s : Store) {z : Left} (inv : leftBy (allowance - m) w out (run m K (drop at S) at (length out - w) s) ≡ z) (some : m ≤ allowance) (in-script : at ≤ length S) (in-output : w ≤ length out) where
-  pub answer : (size n : ℕ) (after : List ℕ) (t : Store) → turned (turn.Answered size n) after t ≡ turnOf m K (drop at S) out w s → Answered K S allowance m w at out z size n after t
-  answer size n after t e = by (goes K (drop at S) out w at s m) e inv some
+module _ (fit : Bool) (K : Fixed) (S : List ℕ) (allowance m w at : ℕ) (out : List ℕ) (s : Store) {z : Left} (inv : leftBy (allowance - m) w out (runIf fit m K (drop at S) at (length out - w) s) ≡ z) (some : m ≤ allowance) (in-script : at ≤ length S) (in-output : w ≤ length out) where
+  pub answer : (size n : ℕ) (after : List ℕ) (t : Store) → turned (turn.Answered size n) after t ≡ turnOf fit m K (drop at S) out w s → Answered fit K S allowance m w at out z size n after t
+  answer size n after t e = by (goes fit K (drop at S) out w at s m) e inv some
     where
-      by : {m : ℕ} {T : Turned} {r : Run} → Goes K (drop at S) out w at s m T r → turned (turn.Answered size n) after t ≡ T → leftBy (allowance - m) w out r ≡ z → m ≤ allowance
-          → Answered K S allowance m w at out z size n after t
+      by : {m : ℕ} {T : Turned} {r : Run} → Goes fit K (drop at S) out w at s m T r → turned (turn.Answered size n) after t ≡ T → leftBy (allowance - m) w out r ≡ z → m ≤ allowance
+          → Answered fit K S allowance m w at out z size n after t
       by (stops n because) e v l = let z : _≡_ {A = ℕ} 1 0 = ap (λ (x : Turned). kindOf (x .turn)) e in absurd (omega arith)
       by (answers k h) e v l =
           rw (ap (λ (x : Turned). sizeIn (x .turn)) e, ap (λ (x : Turned). lengthIn (x .turn)) e, ap (λ (x : Turned). x .output) e, ap (λ (x : Turned). x .store) e)
-          (after-answer K S allowance w at out s in-script in-output k v l h)
+          (after-answer fit K S allowance w at out s in-script in-output k v l h)
 
 -- where the loop begins
-pub starts : (K : Fixed) (S : List ℕ) (allowance : ℕ) (out : List ℕ) (s : Store) → leftBy (allowance - allowance) 0 out (run allowance K (drop 0 S) 0 (length out - 0) s) ≡ leftBy 0 0 out (run allowance K S 0 (length out) s)
-starts K S allowance out s = let a : allowance - allowance ≡ 0 = omega arith in rw (a, sub-zero)
+pub starts : (fit : Bool) (K : Fixed) (S : List ℕ) (allowance : ℕ) (out : List ℕ) (s : Store) → leftBy (allowance - allowance) 0 out (runIf fit allowance K (drop 0 S) 0 (length out - 0) s) ≡ leftBy 0 0 out (runIf fit allowance K S 0 (length out) s)
+starts fit K S allowance out s = let a : allowance - allowance ≡ 0 = omega arith in rw (a, sub-zero)
 
 -- ---- the same, of what the code has in hand
 
-module _ (K : Fixed) (S : List ℕ) (allowance m w at : ℕ) (out : List ℕ) (s : Store) (left-over : List ℕ) (p : left-over ≡ drop at S) (x : Turn) (after : List ℕ) (t : Store) (e : turned x after t ≡ turnOf m K left-over out w s) {z : Left} (inv : leftBy (allowance - m) w out (run m K (drop at S) at (length out - w) s) ≡ z) where
+module _ (fit : Bool) (K : Fixed) (S : List ℕ) (allowance m w at : ℕ) (out : List ℕ) (s : Store) (left-over : List ℕ) (p : left-over ≡ drop at S) (x : Turn) (after : List ℕ) (t : Store) (e : turned x after t ≡ turnOf fit m K left-over out w s) {z : Left} (inv : leftBy (allowance - m) w out (runIf fit m K (drop at S) at (length out - w) s) ≡ z) where
   pub stop-turn : (why : Reason) → x ≡ turn.Stopped why → left (record { calls = allowance - m; next = at; written = w; reason = why }) after t ≡ z
-  stop-turn why q = stop K S allowance m w at out s inv why after t (rw (q, p) at e)
+  stop-turn why q = stop fit K S allowance m w at out s inv why after t (rw (q, p) at e)
 
-  pub answer-turn : (size n : ℕ) → x ≡ turn.Answered size n → m ≤ allowance → at ≤ length S → w ≤ length out → Answered K S allowance m w at out z size n after t
-  answer-turn size n q a b c = answer K S allowance m w at out s inv a b c size n after t (rw (q, p) at e)
+  pub answer-turn : (size n : ℕ) → x ≡ turn.Answered size n → m ≤ allowance → at ≤ length S → w ≤ length out → Answered fit K S allowance m w at out z size n after t
+  answer-turn size n q a b c = answer fit K S allowance m w at out s inv a b c size n after t (rw (q, p) at e)

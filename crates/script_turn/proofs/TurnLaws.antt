@@ -15,12 +15,12 @@ use Rattle.rules.specs.Layout.{BLOCK}
 use Rattle.rules.specs.Store.{Store, Fixed, zeros}
 use Rattle.rules.specs.Written.{Written as Asked}
 use Rattle.rules.specs.Calls.{Call}
-use Rattle.rules.specs.Step.{storeAfter, outcomeOf, step, answerOf}
+use Rattle.rules.specs.Step.{storeAfter, outcomeOf, answerOf}
 use Rattle.rules.specs.declared.decision.Decision.{Decision}
 use Rattle.rules.specs.declared.answer.Answer.{Answer}
 use Rattle.reply.specs.Answers.{Said, said}
-use Rattle.stages.specs.Judged.{judged, answeredBy}
-use Rattle.stages.proofs.StageLaws.{step-judged, reply-answered}
+use Rattle.stages.specs.Judged.{judged, actIf, answeredBy}
+use Rattle.stages.proofs.StageLaws.{reply-answered}
 use Rattle.script_rules.specs.Answers.{answerText}
 use Rattle.script_rules.specs.Replay.{replyText, reads, roomFor}
 use Rattle.script_output.specs.Writes.{Written, writes, written}
@@ -40,18 +40,15 @@ use Rattle.script_turn.specs.Turns.{Served, served, servedBy, blockServe
 pub text-some : (a : Answer) (buffer : List ℕ) → 1 ≤ length (answerText a buffer)
 text-some a buffer = omega (arith, text-length a buffer)
 
-module _ (K : Fixed) (out : List ℕ) (at : ℕ) (s : Store) (c : Call) (d : Decision) (j : d ≡ judged K s c) where
-  stepped : step K s c ≡ outcomeOf s c d
-  stepped = step-judged K s c ∙ rw j
-
+module _ (fit : Bool) (K : Fixed) (out : List ℕ) (at : ℕ) (s : Store) (c : Call) (d : Decision) (j : d ≡ judged fit K s c) where
   module _ (a : Answer) (b : List ℕ) (said-so : said a b ≡ answeredBy s d (c .buffer)) where
     abbrev text : List ℕ
-    text = replyText (step K s c .reply)
+    text = replyText (actIf fit K s c .reply)
 
     same-text : answerText a b ≡ text
     same-text =
         let p : said a b ≡ said (answerOf (outcomeOf s c d .reply)) (outcomeOf s c d .reply .buffer) = said-so ∙ reply-answered s c d in
-        rw (stepped, ap (λ (r : Said). r .answer) p, ap (λ (r : Said). r .buffer) p)
+        rw (← j, ap (λ (r : Said). r .answer) p, ap (λ (r : Said). r .buffer) p)
 
     module _ (n : ℕ) (after : List ℕ) (w : writes n after ≡ written out at (answerText a b)) where
       wrote : writes n after ≡ cond (leb (length text) (length out - at)) (writes (length text) (sets out at text)) (writes 0 out)
@@ -62,12 +59,12 @@ module _ (K : Fixed) (out : List ℕ) (at : ℕ) (s : Store) (c : Call) (d : Dec
       some = rw same-text at (text-some a b)
 
       -- it has no room: nothing is done
-      pub unserved : eqb n 0 ≡ true → served 0 after s ≡ servedBy K out at s c
+      pub unserved : eqb n 0 ≡ true → served 0 after s ≡ servedBy fit K out at s c
       unfolding servedBy
       unserved e = by (leb (length text) (length out - at)) refl wrote
         where
           by : (t : Bool) → leb (length text) (length out - at) ≡ t → writes n after ≡ cond t (writes (length text) (sets out at text)) (writes 0 out)
-              → served 0 after s ≡ cond (leb (length text) (length out - at)) (served (length text) (sets out at text) (step K s c .store)) (served 0 out s)
+              → served 0 after s ≡ cond (leb (length text) (length out - at)) (served (length text) (sets out at text) (actIf fit K s c .store)) (served 0 out s)
           by true q v =
               let z : n ≡ 0 = eqb-true n 0 e in
               let x : n ≡ length text = ap (λ (r : Written). r .length) v in
@@ -77,15 +74,15 @@ module _ (K : Fixed) (out : List ℕ) (at : ℕ) (s : Store) (c : Call) (d : Dec
               not-both x z h = omega arith
           by false q v = rw (q, ap (λ (r : Written). r .output) v)
 
-      pub serves : eqb n 0 ≡ false → {t : Store} → t ≡ storeAfter s c d → served n after t ≡ servedBy K out at s c
+      pub serves : eqb n 0 ≡ false → {t : Store} → t ≡ storeAfter s c d → served n after t ≡ servedBy fit K out at s c
       unfolding servedBy outcomeOf
       serves e {t} u = by (leb (length text) (length out - at)) refl wrote
         where
-          done : step K s c .store ≡ t
-          done = rw (stepped, u)
+          done : actIf fit K s c .store ≡ t
+          done = rw (← j, u)
 
           by : (q : Bool) → leb (length text) (length out - at) ≡ q → writes n after ≡ cond q (writes (length text) (sets out at text)) (writes 0 out)
-              → served n after t ≡ cond (leb (length text) (length out - at)) (served (length text) (sets out at text) (step K s c .store)) (served 0 out s)
+              → served n after t ≡ cond (leb (length text) (length out - at)) (served (length text) (sets out at text) (actIf fit K s c .store)) (served 0 out s)
           by true q v = rw (q, ap (λ (r : Written). r .output) v, ap (λ (r : Written). r .length) v, done)
           by false q v = absurd (eqb-false n 0 e (ap (λ (r : Written). r .length) v))
 
@@ -135,7 +132,7 @@ module _ (n : Numbers) (D : List ℕ) where
   pub buffer-lent : {size : ℕ} → size ≡ roomFor (numbered n [] []) → take (size - 0) (replicate 512 0) ≡ zeros (roomFor (numbered n [] []))
   buffer-lent {size} e = rw (sub-zero, ← e) (take-zeros size 512 (room-few (numbered n [] []) size e))
 
-  pub block-serves : (K : Fixed) (out P : List ℕ) (at : ℕ) (s : Store) (x : Served) (c : Request) (path bytes buffer : List ℕ)
+  pub block-serves : (fit : Bool) (K : Fixed) (out P : List ℕ) (at : ℕ) (s : Store) (x : Served) (c : Request) (path bytes buffer : List ℕ)
       → c ≡ requestFor n → path ≡ textOf line.Path P → bytes ≡ take (BLOCK + 1) (bytesOf (textOf line.Data D)) → buffer ≡ zeros (roomFor (numbered n [] []))
-      → x ≡ servedBy K out at s (callOf c path bytes buffer) → x ≡ blockServed K n P D out at s
-  block-serves K out P at s x c path bytes buffer p q r t u = u ∙ rw (p, q, r, t)
+      → x ≡ servedBy fit K out at s (callOf c path bytes buffer) → x ≡ blockServed fit K n P D out at s
+  block-serves fit K out P at s x c path bytes buffer p q r t u = u ∙ rw (p, q, r, t)

@@ -1,6 +1,6 @@
--- One block of a script, as it leaves the output and the store.
+-- One block of a script, as it leaves the output and the store; `fit` says whether the store is sound.
 use Prim.Native.Nat.{ℕ, _+_, _-_}
-use mathlib.Core.Bool.{cond}
+use mathlib.Core.Bool.{Bool, cond}
 use mathlib.Core.List.{List, []}
 use lib.Dec.{eqb, leb}
 use lib.ListN.{length, take}
@@ -8,10 +8,10 @@ use lib.Seq.{sets}
 use Rattle.rules.specs.Layout.{BLOCK}
 use Rattle.rules.specs.Store.{Store, Fixed, zeros}
 use Rattle.rules.specs.Calls.{Call, callOf}
-use Rattle.rules.specs.Step.{step}
+use Rattle.stages.specs.Judged.{actIf}
 use Rattle.script_rules.specs.Text.{bytesOf}
 use Rattle.script_rules.specs.Blocks.{textOf, blockOk, afterLine, afterBlock}
-use Rattle.script_rules.specs.Replay.{roomFor, nextCall, replyText, nextText}
+use Rattle.script_rules.specs.Replay.{roomFor, nextCall, replyText}
 use Rattle.script_rules.specs.declared.line.Line.the-variants as line
 use Rattle.script_rules.specs.declared.replayed.Reason.the-variants as reason
 use Rattle.script_input.specs.Read.{numbered, readOk, requestFor}
@@ -29,18 +29,18 @@ pub record Served : Type 0 where
 abbrev pub served : ℕ → List ℕ → Store → Served
 served n out s = record { length = n; output = out; store = s }
 
-unfoldable pub servedBy : Fixed → (out : List ℕ) (at : ℕ) → Store → Call → Served
-servedBy K out at s c =
-    cond (leb (length (replyText (step K s c .reply))) (length out - at))
-    (served (length (replyText (step K s c .reply))) (sets out at (replyText (step K s c .reply))) (step K s c .store))
+unfoldable pub servedBy : (fit : Bool) → Fixed → (out : List ℕ) (at : ℕ) → Store → Call → Served
+servedBy fit K out at s c =
+    cond (leb (length (replyText (actIf fit K s c .reply))) (length out - at))
+    (served (length (replyText (actIf fit K s c .reply))) (sets out at (replyText (actIf fit K s c .reply))) (actIf fit K s c .store))
     (served 0 out s)
 
 -- the call with the numbers n, whose path's line P begins with and whose data's line D begins with
 abbrev pub callIn : Numbers → (P D : List ℕ) → Call
 callIn n P D = callOf (requestFor n) (textOf line.Path P) (take (BLOCK + 1) (bytesOf (textOf line.Data D))) (zeros (roomFor (numbered n [] [])))
 
-abbrev pub blockServed : Fixed → Numbers → (P D out : List ℕ) (at : ℕ) → Store → Served
-blockServed K n P D out at s = servedBy K out at s (callIn n P D)
+abbrev pub blockServed : (fit : Bool) → Fixed → Numbers → (P D out : List ℕ) (at : ℕ) → Store → Served
+blockServed fit K n P D out at s = servedBy fit K out at s (callIn n P D)
 
 -- ---- a turn: n calls are still allowed, S is left of the script, the output is written up to `at`
 
@@ -52,21 +52,25 @@ pub record Turned : Type 0 where
 abbrev pub turned : Turn → List ℕ → Store → Turned
 turned t out s = record { turn = t; output = out; store = s }
 
-unfoldable pub turnOf : (n : ℕ) → Fixed → (S out : List ℕ) (at : ℕ) → Store → Turned
-turnOf n K S out at s =
+-- what is written for the call that S begins with
+abbrev pub textIf : (fit : Bool) → Fixed → (S : List ℕ) → Store → List ℕ
+textIf fit K S s = replyText (actIf fit K s (nextCall S) .reply)
+
+unfoldable pub turnOf : (fit : Bool) (n : ℕ) → Fixed → (S out : List ℕ) (at : ℕ) → Store → Turned
+turnOf fit n K S out at s =
     cond (eqb (length S) 0) (turned (turn.Stopped reason.End) out s)
     (cond (eqb n 0) (turned (turn.Stopped reason.Allowance) out s)
     (cond (blockOk S)
-    (cond (leb (length (nextText K S s)) (length out - at))
-    (turned (turn.Answered (length S - length (afterBlock S)) (length (nextText K S s))) (sets out at (nextText K S s)) (step K s (nextCall S) .store))
+    (cond (leb (length (textIf fit K S s)) (length out - at))
+    (turned (turn.Answered (length S - length (afterBlock S)) (length (textIf fit K S s))) (sets out at (textIf fit K S s)) (actIf fit K s (nextCall S) .store))
     (turned (turn.Stopped reason.Room) out s))
     (turned (turn.Stopped reason.Broken) out s)))
 
 -- the turn of a block as it is read: its numbers, its path's line on, its data's line on
-unfoldable pub blockTurn : Fixed → (S : List ℕ) → Numbers → (P D out : List ℕ) (at : ℕ) → Store → Turned
-blockTurn K S n P D out at s =
+unfoldable pub blockTurn : (fit : Bool) → Fixed → (S : List ℕ) → Numbers → (P D out : List ℕ) (at : ℕ) → Store → Turned
+blockTurn fit K S n P D out at s =
     cond (readOk n P D)
-    (cond (eqb (blockServed K n P D out at s .length) 0)
-    (turned (turn.Stopped reason.Room) (blockServed K n P D out at s .output) (blockServed K n P D out at s .store))
-    (turned (turn.Answered (length S - length (afterLine line.Data D)) (blockServed K n P D out at s .length)) (blockServed K n P D out at s .output) (blockServed K n P D out at s .store)))
+    (cond (eqb (blockServed fit K n P D out at s .length) 0)
+    (turned (turn.Stopped reason.Room) (blockServed fit K n P D out at s .output) (blockServed fit K n P D out at s .store))
+    (turned (turn.Answered (length S - length (afterLine line.Data D)) (blockServed fit K n P D out at s .length)) (blockServed fit K n P D out at s .output) (blockServed fit K n P D out at s .store)))
     (turned (turn.Stopped reason.Broken) out s)

@@ -1,4 +1,4 @@
-// One block of a script: why the run stops before it, or its call made and its answer written.
+// One block of a script: why the run stops before it, or its call made and its answer written. `fit` is what the soundness test said.
 ghost use mathlib.Core.Path.{_≡_};
 ghost use Prim.Native.Nat.{_-_};
 ghost use lib.ListN.{length};
@@ -34,6 +34,7 @@ pub enum Turn {
 
 // A call is made if its answer has room. The answer's length, 0 where it has none.
 fn serve(
+    fit: bool,
     files: &mut [u32],
     contents: &mut [u8],
     open_files: &mut [u32],
@@ -46,9 +47,10 @@ fn serve(
     output: &mut [u8],
     at: usize,
 ) -> usize
-    ensures { λ r. ⌜ served r (now (output .exit)) (store (now (files .exit)) (now (contents .exit)) (now («open_files» .exit)) (now (processes .exit))) ≡ servedBy (fixed (now (policy .entry))) (now (output .entry)) at (store (now (files .entry)) (now (contents .entry)) (now («open_files» .entry)) (now (processes .entry))) (callOf c (now (path .entry)) (now («data» .entry)) (now (buffer .entry))) ⌝ }
+    ensures { λ r. ⌜ served r (now (output .exit)) (store (now (files .exit)) (now (contents .exit)) (now («open_files» .exit)) (now (processes .exit))) ≡ servedBy fit (fixed (now (policy .entry))) (now (output .entry)) at (store (now (files .entry)) (now (contents .entry)) (now («open_files» .entry)) (now (processes .entry))) (callOf c (now (path .entry)) (now («data» .entry)) (now (buffer .entry))) ⌝ }
 {
     let d = judge(
+        fit,
         files,
         contents,
         open_files,
@@ -71,6 +73,7 @@ fn serve(
 
 // The call of an unbroken block: of its numbers, its path's line on, its data's line on.
 fn serve_block(
+    fit: bool,
     files: &mut [u32],
     contents: &mut [u8],
     open_files: &mut [u32],
@@ -82,13 +85,14 @@ fn serve_block(
     output: &mut [u8],
     at: usize,
 ) -> usize
-    ensures { λ r. ⌜ served r (now (output .exit)) (store (now (files .exit)) (now (contents .exit)) (now («open_files» .exit)) (now (processes .exit))) ≡ blockServed (fixed (now (policy .entry))) n (now (p .entry)) (now (d .entry)) (now (output .entry)) at (store (now (files .entry)) (now (contents .entry)) (now («open_files» .entry)) (now (processes .entry))) ⌝ }
+    ensures { λ r. ⌜ served r (now (output .exit)) (store (now (files .exit)) (now (contents .exit)) (now («open_files» .exit)) (now (processes .exit))) ≡ blockServed fit (fixed (now (policy .entry))) n (now (p .entry)) (now (d .entry)) (now (output .entry)) at (store (now (files .entry)) (now (contents .entry)) (now («open_files» .entry)) (now (processes .entry))) ⌝ }
 {
     let mut data = [0u8; BLOCK + 1];
     let count = read_bytes(text(d, Line::Data), &mut data);
     let mut buffer = [0u8; BLOCK];
     let size = room_for(n);
     serve(
+        fit,
         files,
         contents,
         open_files,
@@ -121,6 +125,7 @@ fn block_size(s: &[u8], d: &[u8]) -> usize
 }
 
 fn take_block(
+    fit: bool,
     files: &mut [u32],
     contents: &mut [u8],
     open_files: &mut [u32],
@@ -133,13 +138,14 @@ fn take_block(
     output: &mut [u8],
     at: usize,
 ) -> Turn
-    ensures { λ r. ⌜ turned r (now (output .exit)) (store (now (files .exit)) (now (contents .exit)) (now («open_files» .exit)) (now (processes .exit))) ≡ blockTurn (fixed (now (policy .entry))) (now (s .entry)) n (now (p .entry)) (now (d .entry)) (now (output .entry)) at (store (now (files .entry)) (now (contents .entry)) (now («open_files» .entry)) (now (processes .entry))) ⌝ }
+    ensures { λ r. ⌜ turned r (now (output .exit)) (store (now (files .exit)) (now (contents .exit)) (now («open_files» .exit)) (now (processes .exit))) ≡ blockTurn fit (fixed (now (policy .entry))) (now (s .entry)) n (now (p .entry)) (now (d .entry)) (now (output .entry)) at (store (now (files .entry)) (now (contents .entry)) (now («open_files» .entry)) (now (processes .entry))) ⌝ }
 {
     if !block_ok(n, p, d) {
         return Turn::Stopped(Reason::Broken);
     }
     let size = block_size(s, d);
     let length = serve_block(
+        fit,
         files,
         contents,
         open_files,
@@ -160,6 +166,7 @@ fn take_block(
 
 // s is what is left of the script, and n how many calls are still allowed.
 pub fn take_turn(
+    fit: bool,
     files: &mut [u32],
     contents: &mut [u8],
     open_files: &mut [u32],
@@ -170,7 +177,7 @@ pub fn take_turn(
     output: &mut [u8],
     at: usize,
 ) -> Turn
-    ensures { λ r. ⌜ turned r (now (output .exit)) (store (now (files .exit)) (now (contents .exit)) (now («open_files» .exit)) (now (processes .exit))) ≡ turnOf n (fixed (now (policy .entry))) (now (s .entry)) (now (output .entry)) at (store (now (files .entry)) (now (contents .entry)) (now («open_files» .entry)) (now (processes .entry))) ⌝ }
+    ensures { λ r. ⌜ turned r (now (output .exit)) (store (now (files .exit)) (now (contents .exit)) (now («open_files» .exit)) (now (processes .exit))) ≡ turnOf fit n (fixed (now (policy .entry))) (now (s .entry)) (now (output .entry)) at (store (now (files .entry)) (now (contents .entry)) (now («open_files» .entry)) (now (processes .entry))) ⌝ }
 {
     let ended = s.len() == 0;
     if ended {
@@ -183,6 +190,7 @@ pub fn take_turn(
     let p = from_path(s);
     let d = after_line(p, Line::Path);
     take_block(
+        fit,
         files,
         contents,
         open_files,

@@ -1,4 +1,4 @@
-// "Sound": the test that runs before every call, of the store and of the policy apart.
+// "Sound": the test that runs before every call, or once before a script's, of the store and of the policy apart.
 mod bytes;
 mod directories;
 mod fields;

@@ -8,14 +8,14 @@ use Rattle.rules.specs.Step.{replyTo, storeAfter, outcomeOf, act, step, answerO
 use Rattle.rules.specs.declared.decision.Decision.{Decision}
 use Rattle.rules.specs.declared.decision.Decision.the-variants.{Refused, Granted}
 use Rattle.reply.specs.Answers.{said, saidOf}
-use Rattle.stages.specs.Judged.{judged, answeredBy}
+use Rattle.stages.specs.Judged.{judged, actIf, answeredBy}
 
--- a call is decided, answered and done
-pub step-judged : (K : Fixed) (s : Store) (c : Call) → step K s c ≡ outcomeOf s c (judged K s c)
+-- a call is tested, decided, answered and done
+pub step-judged : (K : Fixed) (s : Store) (c : Call) → step K s c ≡ actIf (sound K s) K s c
 unfolding step act judged outcomeOf replyTo storeAfter
 step-judged K s c = by (sound K s) refl
   where
-    by : (t : Bool) → sound K s ≡ t → step K s c ≡ outcomeOf s c (judged K s c)
+    by : (t : Bool) → sound K s ≡ t → step K s c ≡ actIf (sound K s) K s c
     by true e = rw e
     by false e = rw e
 

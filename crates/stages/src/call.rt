@@ -16,10 +16,10 @@ use rules::answer::Answer;
 use rules::decision::Decision;
 use rules::refusal::Refusal;
 use rules::request::Request;
-use soundness::store::sound;
 
-// What is decided: refused with 1 where the tables or the policy are not sound. Nothing is written.
+// What is decided, by what the soundness test said of tables and policy: refused with 1 where they are not sound. Nothing is written.
 pub fn judge(
+    fit: bool,
     files: &[u32],
     contents: &[u8],
     open_files: &[u32],
@@ -30,9 +30,9 @@ pub fn judge(
     data: &[u8],
     buffer: &[u8],
 ) -> Decision
-    ensures { λ r. ⌜ r ≡ judged (fixed (now (policy .entry))) (store (now (files .entry)) (now (contents .entry)) (now («open_files» .entry)) (now (processes .entry))) (callOf c (now (path .entry)) (now («data» .entry)) (now (buffer .entry))) ⌝ }
+    ensures { λ r. ⌜ r ≡ judged fit (fixed (now (policy .entry))) (store (now (files .entry)) (now (contents .entry)) (now («open_files» .entry)) (now (processes .entry))) (callOf c (now (path .entry)) (now («data» .entry)) (now (buffer .entry))) ⌝ }
 {
-    if !sound(files, contents, open_files, processes, policy) {
+    if !fit {
         return Decision::Refused(Refusal::Unsound, 0);
     }
     decide_call(

@@ -17,6 +17,7 @@ mod script;
 mod script_answers;
 mod script_blocks;
 mod script_numbers;
+mod script_soundness;
 mod script_stops;
 mod scripts_by_chance;
 mod soundness;

@@ -2,12 +2,12 @@
 
 use super::given::{places, Given, Place};
 use super::run::{run, run_cut, run_pieces, Program, Run};
-use super::script::Script;
+use super::script::{spoil, Script};
 use super::tally::Tally;
 use crate::chance::Chance;
 use crate::defects::{self, Defect};
 use crate::difference::first_difference;
-use crate::programs::{reference_replay, store_replay};
+use crate::programs::{reference_replay, reference_sound, store_replay, store_sound};
 
 const PROGRAMS: [(&str, Program); 2] = [("store", store_replay), ("reference", reference_replay)];
 /// Keeps the chances of scripts apart from those of calls.
@@ -32,13 +32,15 @@ impl Scripts {
         }
     }
 
-    /// One script on its store, at once and resumed.
+    /// One script on its store, at once and resumed, and on the store that it leaves
+    /// once that is damaged.
     pub fn compare_one(&mut self) {
         let script = Script::random(&mut self.chance, &self.defects);
         let places = places(&script);
         self.tally.count_script(&script);
         if self.compare_at_once(&script, &places) {
             self.compare_resumed(&script, &places);
+            self.compare_damaged(script);
         }
     }
 
@@ -71,7 +73,21 @@ impl Scripts {
         }
     }
 
-    /// Whether two runs left the same, and no byte past the answers changed.
+    /// The script once more, on the tables that it left and that were damaged since.
+    fn compare_damaged(&mut self, mut script: Script) {
+        let left = run(reference_replay, &script.start, &script.text, Given::AMPLE);
+        script.start = left.tables;
+        if script.spoilt || !spoil(&mut script.start, &mut self.chance, &self.defects) {
+            return;
+        }
+        script.spoilt = true;
+        self.tally.damaged += 1;
+        let [ours, theirs] =
+            PROGRAMS.map(|(_, program)| run(program, &script.start, &script.text, Given::AMPLE));
+        self.judge("after damage", &script, &ours, &theirs);
+    }
+
+    /// Whether two runs left the same, and what they must leave.
     fn judge(&mut self, how: &str, script: &Script, one: &Run, other: &Run) -> bool {
         let what = if one.replayed != other.replayed {
             "the runs came to different ends"
@@ -81,6 +97,8 @@ impl Scripts {
             "the outputs differ"
         } else if one.tables != other.tables {
             "the tables differ"
+        } else if !is_kept(script, one) {
+            "sound tables are no longer sound, or others were served"
         } else {
             return true;
         };
@@ -89,6 +107,16 @@ impl Scripts {
         println!("  seed {}, script {}", self.seed, self.tally.scripts);
         report(script, one, other);
         false
+    }
+}
+
+/// Whether sound tables are sound still, by both programs; on others, whether they
+/// are as they were and each call is refused with 1.
+fn is_kept(script: &Script, run: &Run) -> bool {
+    let sound = [store_sound(&run.tables), reference_sound(&run.tables)];
+    match script.spoilt {
+        true => sound == [false; 2] && run.tables == script.start && run.is_refused(),
+        false => sound == [true; 2],
     }
 }
 

@@ -12,6 +12,8 @@ const BEYOND: usize = 64;
 const MOST_PIECES: usize = 2_000;
 /// Two of the longest answers.
 const PIECE_ROOM: usize = 2_100;
+/// What is answered on tables that are not sound.
+const UNSOUND: &[u8] = b"answer=1\nvalue=0\ndata=\n";
 
 /// What a run leaves.
 #[derive(Clone, PartialEq, Eq)]
@@ -22,6 +24,14 @@ pub struct Run {
     /// Whether each byte past the answers is what it was.
     pub stayed: bool,
     pub tables: Tables,
+}
+
+impl Run {
+    /// Whether each call is refused with 1.
+    pub fn is_refused(&self) -> bool {
+        let answers = UNSOUND.repeat(self.replayed.calls as usize);
+        self.output[..self.replayed.written] == answers
+    }
 }
 
 /// The bytes of an output before a run: no two neighbours are alike.

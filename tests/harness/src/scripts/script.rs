@@ -93,7 +93,7 @@ impl Author<'_> {
 
 /// Gives the store a defect or one table another size; false where it has no
 /// place for the defect.
-fn spoil(tables: &mut Tables, chance: &mut Chance, defects: &[Defect]) -> bool {
+pub fn spoil(tables: &mut Tables, chance: &mut Chance, defects: &[Defect]) -> bool {
     if chance.one_in(3) {
         sizes::resize(tables, chance);
         return true;

@@ -23,6 +23,8 @@ pub struct Tally {
     ways: [u64; WAYS.len()],
     /// Scripts run again, cut at a place and in pieces.
     pub resumed: u64,
+    /// Scripts run once more on what they left, damaged since.
+    pub damaged: u64,
     pub differences: u64,
 }
 
@@ -36,6 +38,7 @@ impl Tally {
             stops: [0; REASONS.len()],
             ways: [0; WAYS.len()],
             resumed: 0,
+            damaged: 0,
             differences: 0,
         }
     }
@@ -66,8 +69,8 @@ impl Tally {
             println!("{count:>7}  {reason}");
         }
         println!(
-            "\n{} scripts, {} of them on stores that are not sound: {} blocks answered, {} granted; {} scripts also cut and resumed, and in pieces",
-            self.scripts, self.spoilt, self.blocks, self.granted, self.resumed
+            "\n{} scripts, {} of them on stores that are not sound: {} blocks answered, {} granted; {} scripts also cut and resumed, and in pieces, {} run again after damage",
+            self.scripts, self.spoilt, self.blocks, self.granted, self.resumed, self.damaged
         );
         println!("differences in scripts: {}", self.differences);
     }

@@ -26,7 +26,7 @@ serve-spec =
     let before-answer = at-answer .before .before in
     let before-answer-2 = before-answer .before .before in
     let at-judge = before-answer-2 .before .before in
-    unserved _ _ _ _ _ _ (at-judge .judge .ensures) _ _ (at-answer .answer .ensures) _ _ (at-write-answer .write-answer .ensures) (c .if1 .taken))
+    unserved _ _ _ _ _ _ _ (at-judge .judge .ensures) _ _ (at-answer .answer .ensures) _ _ (at-write-answer .write-answer .ensures) (c .if1 .taken))
     (λ c κs. tt)
     (λ c. search needs)
     (λ c. search needs)
@@ -58,4 +58,4 @@ serve-spec =
     let before-judge-6 = before-judge-5 .before .before in
     let before-judge-7 = before-judge-6 .before .before in
     let at-entry = before-judge-7 .before in
-    serves _ _ _ _ _ _ (at-judge .judge .ensures) _ _ (at-answer .answer .ensures) _ _ (at-write-answer .write-answer .ensures) (at-if1 .if1 .left) (at-carry .carry .ensures (at-entry .args .buffer .now))))
+    serves _ _ _ _ _ _ _ (at-judge .judge .ensures) _ _ (at-answer .answer .ensures) _ _ (at-write-answer .write-answer .ensures) (at-if1 .if1 .left) (at-carry .carry .ensures (at-entry .args .buffer .now))))

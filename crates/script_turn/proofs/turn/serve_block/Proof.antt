@@ -43,6 +43,7 @@ returns c =
     _
     _
     _
+    _
     (at-request-for .request-for .ensures)
     (at-text2 .text2 .ensures)
     (bytes-lent (at-entry .args .n) _ (at-upto .upto .ensures) (at-read-bytes .read-bytes .ensures .0) (at-read-bytes .read-bytes .ensures .1) (at-text .text .ensures))

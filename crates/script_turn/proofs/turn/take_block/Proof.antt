@@ -9,7 +9,7 @@ take-block-spec =
     tie.close
     (tie.spec
     (λ c κs. tt)
-    (λ c. broken _ _ _ _ _ _ _ _ _ (c .before .block-ok .ensures) (c .if1 .taken))
+    (λ c. broken _ _ _ _ _ _ _ _ _ _ (c .before .block-ok .ensures) (c .if1 .taken))
     (λ c κs. tt)
     (λ c κs. tt)
     (λ c. search needs)
@@ -29,7 +29,7 @@ take-block-spec =
     let before-serve-block-3 = before-serve-block-2 .before .before in
     let at-if1 = before-serve-block-3 .before in
     let at-block-ok = at-if1 .before in
-    full _ _ _ _ _ _ _ _ _ (at-block-ok .block-ok .ensures) (at-if1 .if1 .left) _ _ _ (at-serve-block .serve-block .ensures) (c .if2 .taken))
+    full _ _ _ _ _ _ _ _ _ _ (at-block-ok .block-ok .ensures) (at-if1 .if1 .left) _ _ _ (at-serve-block .serve-block .ensures) (c .if2 .taken))
     (λ c. search needs)
     (λ c. search needs)
     (λ c. search needs)
@@ -47,4 +47,4 @@ take-block-spec =
     let at-block-size = before-serve-block-2 .before .before in
     let at-if1 = at-block-size .before in
     let at-block-ok = at-if1 .before in
-    answered _ _ _ _ _ _ _ _ _ (at-block-ok .block-ok .ensures) (at-if1 .if1 .left) _ _ _ (at-serve-block .serve-block .ensures) (c .if2 .left) _ (at-block-size .block-size .ensures)))
+    answered _ _ _ _ _ _ _ _ _ _ (at-block-ok .block-ok .ensures) (at-if1 .if1 .left) _ _ _ (at-serve-block .serve-block .ensures) (c .if2 .left) _ (at-block-size .block-size .ensures)))

@@ -7,8 +7,8 @@ pub take-turn-spec : {M : Type 1} → statement M
 take-turn-spec =
     tie.close
     (tie.spec
-    (λ c. ended _ _ _ _ _ _ (c .if1 .taken))
-    (λ c. spent _ _ _ _ _ _ (c .before .if1 .left) (c .if2 .taken))
+    (λ c. ended _ _ _ _ _ _ _ (c .if1 .taken))
+    (λ c. spent _ _ _ _ _ _ _ (c .before .if1 .left) (c .if2 .taken))
     (λ c κs. tt)
     (λ c κs. tt)
     (λ c κs. tt)
@@ -31,4 +31,4 @@ take-turn-spec =
     let at-from-path = at-after-line .before in
     let at-if2 = at-from-path .before in
     let at-if1 = at-if2 .before in
-    goes _ _ _ _ _ _ (at-if1 .if1 .left) (at-if2 .if2 .left) _ _ _ _ (at-read-numbers .read-numbers .ensures) (at-from-path .from-path .ensures) (at-after-line .after-line .ensures) (at-take-block .take-block .ensures)))
+    goes _ _ _ _ _ _ _ (at-if1 .if1 .left) (at-if2 .if2 .left) _ _ _ _ (at-read-numbers .read-numbers .ensures) (at-from-path .from-path .ensures) (at-after-line .after-line .ensures) (at-take-block .take-block .ensures)))
