@@ -27,6 +27,9 @@ static void set_dirent(mritvelja_store *s, int directory, int entry, const char 
   dirent[MRITVELJA_NAME] = slot;
 }
 
+/* The factory part: one prompt, its length and its bytes. */
+static const uint8_t rom[] = {5, 0, 'h', 'e', 'l', 'l', 'o'};
+
 /* /fares, /fares/now and /key; processes 0, 1 and 2 with labels 0, 1 and 2. */
 static void make_console(mritvelja_store *s) {
   mritvelja_empty(s);
@@ -57,6 +60,34 @@ static void say(const char *what, mritvelja_answer answer) {
            answer.stop);
 }
 
+/* A link, read and followed. */
+static void follow_link(mritvelja_store *s) {
+  uint8_t buffer[16] = {0};
+  say("0 makes the link /today to /fares/now", mritvelja_symlink(s, 0, "/today", "/fares/now"));
+  mritvelja_answer answer = mritvelja_readlink(s, 2, "/today", buffer, sizeof buffer);
+  say("2 reads the link /today", answer);
+  printf("the text read: %.*s\n", (int)answer.value, (const char *)buffer);
+  answer = mritvelja_open(s, 2, "/today", MRITVELJA_MODE_READ);
+  say("2 opens /today, mode 1", answer);
+  answer = mritvelja_read(s, 2, (uint8_t)answer.value, buffer, sizeof buffer);
+  say("2 reads into 16 bytes", answer);
+  printf("the bytes read: %.*s", (int)answer.value, (const char *)buffer);
+}
+
+/* A prompt, read by two borrowing reads: the bytes of both are there at once, since nothing is copied. */
+static void speak_prompt(mritvelja_store *s) {
+  mritvelja_borrowed first, second;
+  printf("beside the factory part it is sound: %d\n", mritvelja_set_rom(s, rom, sizeof rom));
+  mritvelja_answer answer = mritvelja_open(s, 2, "/rom/00", MRITVELJA_MODE_READ);
+  say("2 opens /rom/00, mode 1", answer);
+  const uint8_t *begin = mritvelja_borrow(s, 2, (uint8_t)answer.value, 3, &first);
+  const uint8_t *rest = mritvelja_borrow(s, 2, (uint8_t)answer.value, 512, &second);
+  if (begin == NULL || rest == NULL) return;
+  printf("2 borrows %" PRIu32 " bytes, then %" PRIu32 ": %.*s, %.*s\n", first.value, second.value, (int)first.value,
+         (const char *)begin, (int)second.value, (const char *)rest);
+  say("0 unlinks /rom/00", mritvelja_unlink(s, 0, "/rom/00"));
+}
+
 int main(int count, char **words) {
   static mritvelja_store s;
   uint8_t buffer[16] = {0};
@@ -85,14 +116,7 @@ int main(int count, char **words) {
   say("2 lists name 1 of /", answer);
   printf("the name: %.*s\n", (int)answer.name_length, (const char *)answer.name);
 
-  say("0 makes the link /today to /fares/now", mritvelja_symlink(&s, 0, "/today", "/fares/now"));
-  answer = mritvelja_readlink(&s, 2, "/today", buffer, sizeof buffer);
-  say("2 reads the link /today", answer);
-  printf("the text read: %.*s\n", (int)answer.value, (const char *)buffer);
-  answer = mritvelja_open(&s, 2, "/today", MRITVELJA_MODE_READ);
-  say("2 opens /today, mode 1", answer);
-  answer = mritvelja_read(&s, 2, (uint8_t)answer.value, buffer, sizeof buffer);
-  say("2 reads into 16 bytes", answer);
-  printf("the bytes read: %.*s", (int)answer.value, (const char *)buffer);
+  follow_link(&s);
+  speak_prompt(&s);
   return 0;
 }

@@ -10,6 +10,8 @@ import sys
 HEADER = b"MRITVEL\x02" + struct.pack("<I", 128)
 # The tables in the order of the file and of the functions: the type of an element, and how many there are.
 TABLES = [(ctypes.c_uint32, 128 * 8), (ctypes.c_uint8, 128 * 512), (ctypes.c_uint32, 32 * 4), (ctypes.c_uint32, 8 * 12), (ctypes.c_uint8, 512)]
+# A slice of no bytes still has a pointer.
+NOTHING = ctypes.c_uint8()
 REPLAY_ALLOWANCE, REPLAY_ROOM = 2, 4
 
 
@@ -22,9 +24,9 @@ def load_library():
     beside = os.path.join(os.path.dirname(os.path.realpath(__file__)), "..", "target", "library", "libmritvelja.so")
     library = ctypes.CDLL(os.environ.get("MRITVELJA_LIBRARY", beside))
     slice_of = [ctypes.c_void_p, ctypes.c_size_t]
-    library.mritvelja_sound.argtypes = slice_of * 5
+    library.mritvelja_sound.argtypes = slice_of * 6
     library.mritvelja_sound.restype = ctypes.c_uint32
-    library.mritvelja_replay.argtypes = slice_of * 6 + [ctypes.c_uint32] + slice_of
+    library.mritvelja_replay.argtypes = slice_of * 7 + [ctypes.c_uint32] + slice_of
     library.mritvelja_replay.restype = Replayed
     return library
 
@@ -46,14 +48,17 @@ def lend(arrays):
     return [part for array in arrays for part in (ctypes.addressof(array), len(array))]
 
 
-def replay(library, tables, script):
-    """Runs a whole script on the tables, and gives its answers."""
+def lend_bytes(data):
+    """Bytes as a pointer and a number. The bytes are only read, and must outlive the call."""
+    return [ctypes.cast(ctypes.c_char_p(data), ctypes.c_void_p) if data else ctypes.addressof(NOTHING), len(data)]
+
+
+def replay(library, tables, script, rom=b""):
+    """Runs a whole script on the tables beside a factory part, and gives its answers."""
     output, answers, at = (ctypes.c_uint8 * 65536)(), b"", 0
     while True:
         rest = script[at:]
-        # A slice of no bytes still has a pointer.
-        lent = (ctypes.c_uint8 * max(1, len(rest))).from_buffer_copy(rest or b"\0")
-        part = library.mritvelja_replay(*lend(tables), ctypes.addressof(lent), len(rest), 1000, *lend([output]))
+        part = library.mritvelja_replay(*lend(tables), *lend_bytes(rom), *lend_bytes(rest), 1000, *lend([output]))
         answers += bytes(output[:part.written])
         at += part.next
         if part.reason not in (REPLAY_ALLOWANCE, REPLAY_ROOM):
@@ -77,7 +82,7 @@ def main():
         tables = decode(file.read())
     with open(sys.argv[2], "rb") as file:
         script = file.read()
-    if not library.mritvelja_sound(*lend(tables)):
+    if not library.mritvelja_sound(*lend(tables), *lend_bytes(b"")):
         sys.exit("the store is not sound")
     answers, at = replay(library, tables, script)
     if at != len(script):

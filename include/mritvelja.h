@@ -5,6 +5,12 @@
  * files, open files and processes, else bytes); any number is taken, and tables
  * of another size than the store's are refused with MRITVELJA_UNSOUND.
  *
+ * Beside them it lends the factory part, rom: the prompts in read-only memory,
+ * at most MRITVELJA_PROMPTS of them in turn, each a length of two bytes, little
+ * end first, of at most MRITVELJA_BLOCK, and its bytes. Calls see them as the
+ * plain files /rom/00, /rom/01 and so on. Rom of 0 bytes has no prompts; any
+ * other form is refused with MRITVELJA_UNSOUND.
+ *
  * The slices lent to one call must not overlap, and a pointer must be good for
  * its number of elements. A slice of 0 elements may have any pointer but NULL.
  * Nothing is kept after a call returns, and nothing but the lent slices is
@@ -17,7 +23,7 @@
 #include <stdint.h>
 
 /* The version of this header and of the library that it is of. */
-#define MRITVELJA_VERSION "1.1.0"
+#define MRITVELJA_VERSION "2.0.0"
 
 #ifdef __cplusplus
 extern "C" {
@@ -40,6 +46,8 @@ enum {
   MRITVELJA_PROCESS_WIDTH = 12,   /* words of a process, its descriptors last */
   MRITVELJA_DESCRIPTORS = 8,      /* descriptors of a process */
   MRITVELJA_LABELS = 16,
+  MRITVELJA_PROMPTS = 16,         /* prompts in rom, at most */
+  MRITVELJA_ROM_FIRST = 128,      /* the slot of prompt 0 in an open file; prompt i has i more */
   MRITVELJA_NO_TRANSITION = 255,
 
   /* Elements of each table. */
@@ -71,7 +79,7 @@ enum { MRITVELJA_FREE = 0, MRITVELJA_PLAIN = 1, MRITVELJA_DIRECTORY = 2, MRITVEL
 
 /* Columns of an open file. One with no references is free and all 0. */
 enum {
-  MRITVELJA_OPEN_SLOT = 0,
+  MRITVELJA_OPEN_SLOT = 0,       /* of prompt i MRITVELJA_ROM_FIRST + i */
   MRITVELJA_OPEN_MODE = 1,
   MRITVELJA_OPEN_OFFSET = 2,     /* 0 to 512 */
   MRITVELJA_OPEN_REFERENCES = 3  /* descriptors that hold it */
@@ -132,15 +140,15 @@ enum {
 /* Refusals. A refused call changes nothing that was lent. */
 enum {
   MRITVELJA_GRANTED = 0,
-  MRITVELJA_UNSOUND = 1,           /* store or policy not sound */
+  MRITVELJA_UNSOUND = 1,           /* store, policy or rom not sound */
   MRITVELJA_NO_PROCESS = 2,        /* process not in use */
-  MRITVELJA_MALFORMED = 3,         /* unknown call or mode, bad bits, path, target or position */
+  MRITVELJA_MALFORMED = 3,         /* unknown call or mode, bad bits, path, target, position or count */
   MRITVELJA_NOT_HELD = 4,          /* descriptor not held */
   MRITVELJA_WRONG_DIRECTION = 5,   /* not open for that direction */
   MRITVELJA_NAME_MISSING = 6,
   MRITVELJA_NOT_A_DIRECTORY = 7,
   MRITVELJA_WRONG_KIND = 8,        /* wrong kind of file */
-  MRITVELJA_BITS_FORBID = 9,       /* bits or ownership forbid */
+  MRITVELJA_BITS_FORBID = 9,       /* bits or ownership forbid; of /rom also to user 0 */
   MRITVELJA_LABEL_FORBIDS = 10,
   MRITVELJA_NAME_THERE = 11,       /* name already there */
   MRITVELJA_NOT_EMPTY = 12,        /* directory not empty */
@@ -158,13 +166,14 @@ typedef struct {
   uint32_t fields[8];    /* stat: the columns of the record; else all 0 */
 } mritvelja_answer;
 
-/* One call. Tables or a policy that are not sound are refused, at each call. */
+/* One call. Tables, a policy or rom that are not sound are refused, at each call. */
 mritvelja_answer mritvelja_call(
     uint32_t *files, size_t files_size,            /* MRITVELJA_FILES_SIZE words */
     uint8_t *contents, size_t contents_size,       /* MRITVELJA_CONTENTS_SIZE bytes */
     uint32_t *open_files, size_t open_files_size,  /* MRITVELJA_OPEN_FILES_SIZE words */
     uint32_t *processes, size_t processes_size,    /* MRITVELJA_PROCESSES_SIZE words */
     const uint8_t *policy, size_t policy_size,     /* MRITVELJA_POLICY_SIZE bytes */
+    const uint8_t *rom, size_t rom_size,           /* the prompts, or 0 bytes */
     uint8_t process,                               /* who calls */
     uint8_t call,                                  /* MRITVELJA_CALL_.. */
     uint8_t descriptor,                            /* for calls 10 to 14 */
@@ -174,16 +183,18 @@ mritvelja_answer mritvelja_call(
     uint8_t *buffer, size_t buffer_size);          /* where a read or a readlink puts its bytes */
 
 /* As mritvelja_call, without the test. On tables found sound and since then
- * changed by these functions alone, mritvelja_act answers what mritvelja_call
- * answers, for every list of calls (`tested-once`, docs/claims.md); on tables
- * nobody tested it answers what the rules' `act` says (it is safe, and its
- * contract holds), which the rules do not call an answer of the store. */
+ * changed by these functions alone, with the same policy and rom, mritvelja_act
+ * answers what mritvelja_call answers, for every list of calls (`tested-once`,
+ * docs/claims.md); on tables nobody tested it answers what the rules' `act` says
+ * (it is safe, and its contract holds), which the rules do not call an answer of
+ * the store. */
 mritvelja_answer mritvelja_act(
     uint32_t *files, size_t files_size,
     uint8_t *contents, size_t contents_size,
     uint32_t *open_files, size_t open_files_size,
     uint32_t *processes, size_t processes_size,
     const uint8_t *policy, size_t policy_size,
+    const uint8_t *rom, size_t rom_size,
     uint8_t process,
     uint8_t call,
     uint8_t descriptor,
@@ -192,13 +203,39 @@ mritvelja_answer mritvelja_act(
     const uint8_t *data, size_t data_size,
     uint8_t *buffer, size_t buffer_size);
 
-/* 1 where the tables and the policy are sound, else 0. Nothing is written. */
+/* 1 where the tables, the policy and rom are sound, else 0. Nothing is written. */
 uint32_t mritvelja_sound(
     const uint32_t *files, size_t files_size,
     const uint8_t *contents, size_t contents_size,
     const uint32_t *open_files, size_t open_files_size,
     const uint32_t *processes, size_t processes_size,
-    const uint8_t *policy, size_t policy_size);
+    const uint8_t *policy, size_t policy_size,
+    const uint8_t *rom, size_t rom_size);
+
+/* In which memory the bytes of a borrowing read lie. */
+enum { MRITVELJA_IN_CONTENTS = 0, MRITVELJA_IN_ROM = 1 };
+
+typedef struct {
+  uint32_t refusal;  /* 0 granted, else why not; then all else is 0 */
+  uint32_t value;    /* how many bytes there are */
+  uint32_t memory;   /* MRITVELJA_IN_.. */
+  uint32_t at;       /* where in that memory the first of them lies, if there are any */
+} mritvelja_borrowed;
+
+/* A read that copies nothing: where the bytes lie in the contents or in rom, at
+ * most count of them, and at most MRITVELJA_BLOCK (a larger count is malformed).
+ * Checks, value and offset are as in a read, with the test at each call. Bytes in
+ * the contents are good until that file is next written or truncated, or goes. */
+mritvelja_borrowed mritvelja_borrow_read(
+    const uint32_t *files, size_t files_size,
+    const uint8_t *contents, size_t contents_size,
+    uint32_t *open_files, size_t open_files_size,
+    const uint32_t *processes, size_t processes_size,
+    const uint8_t *policy, size_t policy_size,
+    const uint8_t *rom, size_t rom_size,
+    uint8_t process,
+    uint8_t descriptor,
+    uint32_t count);
 
 /* Why a run of a script stopped, tested before each call in this order. */
 enum {
@@ -227,6 +264,7 @@ mritvelja_replayed mritvelja_replay(
     uint32_t *open_files, size_t open_files_size,
     uint32_t *processes, size_t processes_size,
     const uint8_t *policy, size_t policy_size,
+    const uint8_t *rom, size_t rom_size,
     const uint8_t *script, size_t script_size,
     uint32_t allowance,                            /* calls to answer, at most */
     uint8_t *output, size_t output_size);          /* where the answers go */

@@ -20,9 +20,10 @@
 extern "C" {
 #endif
 
-/* Loads a store. 1 if that is done; else 0, and errno says why not: EINVAL where
- * the file is none of this version or its store is not sound. */
-static inline int mritvelja_load(mritvelja_store *store, const char *name) {
+/* Loads a store and lends it rom, which is not in the file; of 0 bytes it may be NULL.
+ * 1 if that is done; else 0, and errno says why not: EINVAL where the file is none of
+ * this version, or its store is not sound with rom. */
+static inline int mritvelja_load_with_rom(mritvelja_store *store, const char *name, const uint8_t *rom, size_t rom_size) {
   /* One byte more than a store has shows that a file is too long. */
   size_t room = MRITVELJA_STORE_FILE_SIZE + 1, size = 0;
   uint8_t *bytes = (uint8_t *)malloc(room);
@@ -31,7 +32,7 @@ static inline int mritvelja_load(mritvelja_store *store, const char *name) {
   if (bytes != NULL && file >= 0)
     while ((part = read(file, bytes + size, room - size)) > 0) size += (size_t)part;
   if (part == 0) {
-    is_loaded = mritvelja_decode(store, bytes, size);
+    is_loaded = mritvelja_decode_with_rom(store, bytes, size, rom, rom_size);
     if (!is_loaded) errno = EINVAL;
   }
   int why = errno;
@@ -39,6 +40,11 @@ static inline int mritvelja_load(mritvelja_store *store, const char *name) {
   free(bytes);
   errno = why;
   return is_loaded;
+}
+
+/* The same without prompts. */
+static inline int mritvelja_load(mritvelja_store *store, const char *name) {
+  return mritvelja_load_with_rom(store, name, NULL, 0);
 }
 
 /* Writes all bytes to the disk. */
@@ -55,7 +61,7 @@ static inline int mritvelja_write_file(int file, const uint8_t *bytes, size_t si
 /* Saves a store: beside the file first, which is then replaced, so that a crash
  * leaves the old store or the new one. A new file is its maker's alone; an old one
  * keeps its permissions. 1 if that is done; else 0, errno says why not, and the old
- * file is as it was. */
+ * file is as it was. Rom is not saved. */
 static inline int mritvelja_save(const mritvelja_store *store, const char *name) {
   static const char ending[] = ".XXXXXX";
   size_t length = strlen(name);

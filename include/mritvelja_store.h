@@ -21,12 +21,23 @@ typedef struct {
   uint32_t open_files[MRITVELJA_OPEN_FILES_SIZE];
   uint32_t processes[MRITVELJA_PROCESSES_SIZE];
   uint8_t policy[MRITVELJA_POLICY_SIZE];
+  const uint8_t *rom; /* the host's memory, which is only read */
+  size_t rom_size;
 } mritvelja_store;
 
+/* Lends a store rom; of 0 bytes it may be NULL. */
+static inline void mritvelja_lend_rom(mritvelja_store *store, const uint8_t *rom, size_t size) {
+  static const uint8_t nothing = 0;
+  store->rom = size != 0 ? rom : &nothing;
+  store->rom_size = size;
+}
+
 /* An empty store: a root directory of user 0 and group 0 without bits, no process, no rights,
- * no transitions. What no call makes the host sets with the three functions after. */
+ * no transitions, no prompts. What no call makes the host sets with the three functions after, and with
+ * mritvelja_set_rom. */
 static inline void mritvelja_empty(mritvelja_store *store) {
   memset(store, 0, sizeof *store);
+  mritvelja_lend_rom(store, NULL, 0);
   store->files[MRITVELJA_FILE_KIND] = MRITVELJA_DIRECTORY;
   memset(store->policy + MRITVELJA_RIGHTS_SIZE, MRITVELJA_NO_TRANSITION, MRITVELJA_RIGHTS_SIZE);
 }
@@ -67,7 +78,18 @@ static inline int mritvelja_set_transition(mritvelja_store *store, uint8_t proce
 static inline uint32_t mritvelja_is_sound(const mritvelja_store *store) {
   return mritvelja_sound(store->files, MRITVELJA_FILES_SIZE, store->contents, MRITVELJA_CONTENTS_SIZE, store->open_files,
                          MRITVELJA_OPEN_FILES_SIZE, store->processes, MRITVELJA_PROCESSES_SIZE, store->policy,
-                         MRITVELJA_POLICY_SIZE);
+                         MRITVELJA_POLICY_SIZE, store->rom, store->rom_size);
+}
+
+/* Lends a sound store the factory part, which is not copied: it must stay there and as it is. 1 where the
+ * store is sound with it; else 0, and it keeps the one that it had. */
+static inline int mritvelja_set_rom(mritvelja_store *store, const uint8_t *rom, size_t size) {
+  const uint8_t *old = store->rom;
+  size_t old_size = store->rom_size;
+  mritvelja_lend_rom(store, rom, size);
+  if (mritvelja_is_sound(store) == 1) return 1;
+  mritvelja_lend_rom(store, old, old_size);
+  return 0;
 }
 
 /* Runs a script, as mritvelja_replay does. */
@@ -75,7 +97,8 @@ static inline mritvelja_replayed mritvelja_run(mritvelja_store *store, const uin
                                                uint32_t allowance, uint8_t *output, size_t output_size) {
   return mritvelja_replay(store->files, MRITVELJA_FILES_SIZE, store->contents, MRITVELJA_CONTENTS_SIZE, store->open_files,
                           MRITVELJA_OPEN_FILES_SIZE, store->processes, MRITVELJA_PROCESSES_SIZE, store->policy,
-                          MRITVELJA_POLICY_SIZE, script, script_size, allowance, output, output_size);
+                          MRITVELJA_POLICY_SIZE, store->rom, store->rom_size, script, script_size, allowance, output,
+                          output_size);
 }
 
 /* Any call with all of its parts. A part of no bytes still has a pointer. */
@@ -85,8 +108,8 @@ static inline mritvelja_answer mritvelja_ask(mritvelja_store *store, uint8_t pro
   uint8_t nothing = 0;
   return mritvelja_call(store->files, MRITVELJA_FILES_SIZE, store->contents, MRITVELJA_CONTENTS_SIZE, store->open_files,
                         MRITVELJA_OPEN_FILES_SIZE, store->processes, MRITVELJA_PROCESSES_SIZE, store->policy,
-                        MRITVELJA_POLICY_SIZE, process, call, descriptor, number, (const uint8_t *)path, strlen(path),
-                        data_size != 0 ? (const uint8_t *)data : &nothing, data_size,
+                        MRITVELJA_POLICY_SIZE, store->rom, store->rom_size, process, call, descriptor, number,
+                        (const uint8_t *)path, strlen(path), data_size != 0 ? (const uint8_t *)data : &nothing, data_size,
                         buffer_size != 0 ? (uint8_t *)buffer : &nothing, buffer_size);
 }
 
@@ -182,10 +205,25 @@ static inline mritvelja_answer mritvelja_readlink(mritvelja_store *store, uint8_
   return mritvelja_ask(store, process, MRITVELJA_CALL_READLINK, 0, 0, path, NULL, 0, buffer, size);
 }
 
+/* A borrowing read: the bytes themselves, of which *borrowed says how many there are; NULL where it says a
+ * refusal. Those of a prompt are good as long as rom is, those of another file until that is next written or
+ * truncated, or goes. */
+static inline const uint8_t *mritvelja_borrow(mritvelja_store *store, uint8_t process, uint8_t descriptor, uint32_t count,
+                                              mritvelja_borrowed *borrowed) {
+  *borrowed = mritvelja_borrow_read(store->files, MRITVELJA_FILES_SIZE, store->contents, MRITVELJA_CONTENTS_SIZE,
+                                    store->open_files, MRITVELJA_OPEN_FILES_SIZE, store->processes,
+                                    MRITVELJA_PROCESSES_SIZE, store->policy, MRITVELJA_POLICY_SIZE, store->rom,
+                                    store->rom_size, process, descriptor, count);
+  if (borrowed->refusal != MRITVELJA_GRANTED) return NULL;
+  const uint8_t *memory = borrowed->memory == MRITVELJA_IN_ROM ? store->rom : store->contents;
+  /* An offset may lie past a file's end. */
+  return borrowed->value != 0 ? memory + borrowed->at : memory;
+}
+
 /* What a refusal means, in words. */
 static inline const char *mritvelja_refusal_text(uint32_t refusal) {
   static const char *const texts[] = {
-      "granted",          "store or policy not sound", "process not in use",        "malformed call",
+      "granted",          "store, policy or rom not sound", "process not in use",   "malformed call",
       "descriptor not held", "not open for that direction", "name missing",         "not a directory",
       "wrong kind of file", "bits or ownership forbid", "label forbids",            "name already there",
       "directory not empty", "a table has no free place", "file would pass 512 bytes",
@@ -194,7 +232,7 @@ static inline const char *mritvelja_refusal_text(uint32_t refusal) {
 }
 
 /* A store file: a header, the tables and the policy, words little end first
- * (docs/store-file.md). */
+ * (docs/store-file.md). Rom is not in it. */
 enum {
   MRITVELJA_STORE_FILE_HEADER = 12,
   MRITVELJA_STORE_FILE_SIZE = MRITVELJA_STORE_FILE_HEADER + 4 * MRITVELJA_FILES_SIZE + MRITVELJA_CONTENTS_SIZE +
@@ -229,9 +267,12 @@ static inline void mritvelja_encode(const mritvelja_store *store, uint8_t bytes[
   memcpy(bytes, store->policy, MRITVELJA_POLICY_SIZE);
 }
 
-/* Takes the store from the bytes of its file. 1 if they are one of this version
- * and of a sound store; else 0, and then the store is not to be used. */
-static inline int mritvelja_decode(mritvelja_store *store, const uint8_t *bytes, size_t size) {
+/* Takes the store from the bytes of its file, and lends it rom; of 0 bytes it may be
+ * NULL. 1 if the bytes are a file of this version, and the store sound with rom; else 0,
+ * and then the store is not to be used. A store in which a prompt is open is not sound
+ * without it. */
+static inline int mritvelja_decode_with_rom(mritvelja_store *store, const uint8_t *bytes, size_t size, const uint8_t *rom,
+                                            size_t rom_size) {
   if (size != MRITVELJA_STORE_FILE_SIZE || memcmp(bytes, mritvelja_store_file_header(), MRITVELJA_STORE_FILE_HEADER) != 0)
     return 0;
   bytes = mritvelja_get_words(store->files, bytes + MRITVELJA_STORE_FILE_HEADER, MRITVELJA_FILES_SIZE);
@@ -239,7 +280,13 @@ static inline int mritvelja_decode(mritvelja_store *store, const uint8_t *bytes,
   bytes = mritvelja_get_words(store->open_files, bytes + MRITVELJA_CONTENTS_SIZE, MRITVELJA_OPEN_FILES_SIZE);
   bytes = mritvelja_get_words(store->processes, bytes, MRITVELJA_PROCESSES_SIZE);
   memcpy(store->policy, bytes, MRITVELJA_POLICY_SIZE);
+  mritvelja_lend_rom(store, rom, rom_size);
   return mritvelja_is_sound(store) == 1;
+}
+
+/* The same without prompts. */
+static inline int mritvelja_decode(mritvelja_store *store, const uint8_t *bytes, size_t size) {
+  return mritvelja_decode_with_rom(store, bytes, size, NULL, 0);
 }
 
 #ifdef __cplusplus

@@ -1,6 +1,6 @@
 //! The C functions, and a safe one over each.
 
-use crate::{Answer, Replayed, Request, Tables};
+use crate::{memories, refusals, Answer, Replayed, Request, Tables};
 
 /// Declares functions that make one call: they take the same and answer the same.
 macro_rules! call_functions {
@@ -17,6 +17,8 @@ macro_rules! call_functions {
                 processes_size: usize,
                 policy: *const u8,
                 policy_size: usize,
+                rom: *const u8,
+                rom_size: usize,
                 process: u8,
                 call: u8,
                 descriptor: u8,
@@ -46,7 +48,27 @@ unsafe extern "C" {
         processes_size: usize,
         policy: *const u8,
         policy_size: usize,
+        rom: *const u8,
+        rom_size: usize,
     ) -> u32;
+
+    fn mritvelja_borrow_read(
+        files: *const u32,
+        files_size: usize,
+        contents: *const u8,
+        contents_size: usize,
+        open_files: *mut u32,
+        open_files_size: usize,
+        processes: *const u32,
+        processes_size: usize,
+        policy: *const u8,
+        policy_size: usize,
+        rom: *const u8,
+        rom_size: usize,
+        process: u8,
+        descriptor: u8,
+        count: u32,
+    ) -> Borrowed;
 
     fn mritvelja_replay(
         files: *mut u32,
@@ -59,12 +81,40 @@ unsafe extern "C" {
         processes_size: usize,
         policy: *const u8,
         policy_size: usize,
+        rom: *const u8,
+        rom_size: usize,
         script: *const u8,
         script_size: usize,
         allowance: u32,
         output: *mut u8,
         output_size: usize,
     ) -> Replayed;
+}
+
+/// Where the bytes of a borrowing read lie.
+#[repr(C)]
+struct Borrowed {
+    refusal: u32,
+    value: u32,
+    memory: u32,
+    at: u32,
+}
+
+impl Borrowed {
+    fn part<'a>(&self, contents: &'a [u8], rom: &'a [u8]) -> Result<&'a [u8], u32> {
+        if self.refusal != refusals::GRANTED {
+            return Err(self.refusal);
+        }
+        let memory = match self.memory {
+            memories::ROM => rom,
+            _ => contents,
+        };
+        Ok(match self.value as usize {
+            // An offset may lie past a file's end, and past all that is lent.
+            0 => &memory[..0],
+            count => &memory[self.at as usize..][..count],
+        })
+    }
 }
 
 // Every crossing is safe: the functions take slices of any length, each as its
@@ -87,7 +137,9 @@ macro_rules! lend {
             $tables.processes.$pointer(),
             $tables.processes.len(),
             $tables.policy.as_ptr(),
-            $tables.policy.len()
+            $tables.policy.len(),
+            $tables.rom.as_ptr(),
+            $tables.rom.len()
             $(, $more)*
         )
     };
@@ -113,9 +165,9 @@ macro_rules! ask {
     };
 }
 
-/// Makes one call. Tables or a policy that are not sound, or not of the store's
-/// sizes, are refused, at each call. A read or a readlink puts its bytes into the
-/// buffer.
+/// Makes one call. Tables, a policy or a factory part that are not sound, or not of
+/// the store's sizes, are refused, at each call. A read or a readlink puts its bytes
+/// into the buffer.
 #[inline]
 pub fn call(tables: &mut Tables, request: &Request, buffer: &mut [u8]) -> Answer {
     // SAFETY: as said above of every crossing.
@@ -123,15 +175,16 @@ pub fn call(tables: &mut Tables, request: &Request, buffer: &mut [u8]) -> Answer
 }
 
 /// As [`call`], without the test: for tables known to be sound, as those are that
-/// were found sound and since then changed by these functions alone. It is safe
-/// on other tables too, but what it answers and leaves is then of no use.
+/// were found sound and since then changed by these functions alone, with the same
+/// policy and factory part. It is safe on other tables too, but what it answers and
+/// leaves is then of no use.
 #[inline]
 pub fn act(tables: &mut Tables, request: &Request, buffer: &mut [u8]) -> Answer {
     // SAFETY: as said above of every crossing.
     unsafe { ask!(mritvelja_act, tables, request, buffer) }
 }
 
-/// Whether the tables and the policy are sound.
+/// Whether the tables, the policy and the factory part are sound.
 #[inline]
 pub fn sound(tables: &Tables) -> bool {
     // SAFETY: as said above of every crossing; nothing is written.
@@ -158,4 +211,45 @@ pub fn replay(tables: &mut Tables, script: &[u8], allowance: u32, output: &mut [
             output.len()
         )
     }
+}
+
+/// A read that copies nothing: at most `count` bytes of what the descriptor and its
+/// offset give, as they lie in the contents or in the factory part, or the number of a
+/// refusal. Checks and offset are as in a read; a count over 512 is malformed. It takes
+/// the tables one by one, since what it gives is borrowed from two of them alone: a part
+/// can be held across further reads, and until something is written to the contents.
+#[allow(clippy::too_many_arguments)] // the lent tables come one by one
+#[inline]
+pub fn borrow_read<'a>(
+    files: &[u32],
+    contents: &'a [u8],
+    open_files: &mut [u32],
+    processes: &[u32],
+    policy: &[u8],
+    rom: &'a [u8],
+    process: u8,
+    descriptor: u8,
+    count: u32,
+) -> Result<&'a [u8], u32> {
+    // SAFETY: as said above of every crossing.
+    let borrowed = unsafe {
+        mritvelja_borrow_read(
+            files.as_ptr(),
+            files.len(),
+            contents.as_ptr(),
+            contents.len(),
+            open_files.as_mut_ptr(),
+            open_files.len(),
+            processes.as_ptr(),
+            processes.len(),
+            policy.as_ptr(),
+            policy.len(),
+            rom.as_ptr(),
+            rom.len(),
+            process,
+            descriptor,
+            count,
+        )
+    };
+    borrowed.part(contents, rom)
 }

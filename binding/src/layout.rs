@@ -30,6 +30,10 @@ pub const PROCESS_WIDTH: usize = 12;
 pub const DESCRIPTORS: usize = 8;
 /// Labels, of files and of processes alike.
 pub const LABELS: usize = 16;
+/// Prompts in the factory part, at most.
+pub const PROMPTS: usize = 16;
+/// The slot of prompt 0 in an open file; prompt `i` has `i` more.
+pub const ROM_FIRST: usize = 128;
 
 /// Words of all files' records.
 pub const FILES_SIZE: usize = SLOTS * FILE_WIDTH;
@@ -79,7 +83,7 @@ pub const LINK: u32 = 3;
 
 // Columns of an open file. One with no references is free and all 0.
 
-/// The open file's slot.
+/// The open file's slot, of prompt `i` [`ROM_FIRST`]` + i`.
 pub const OPEN_SLOT: usize = 0;
 /// How it was opened: one of [`modes`](crate::modes), without truncating.
 pub const OPEN_MODE: usize = 1;

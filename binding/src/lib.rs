@@ -5,7 +5,9 @@
 //! - [`call`] makes one call, of tables and a policy that it first finds sound;
 //! - [`act`] makes the same call without that test;
 //! - [`sound`] is the test alone;
-//! - [`replay`] runs a script of calls.
+//! - [`replay`] runs a script of calls;
+//! - [`borrow_read`] reads without a copy: it gives a part of the contents or of the
+//!   factory part.
 //!
 //! They are the functions of `include/mritvelja.h`, which are proved to do what
 //! the rules say for all inputs. Here only the crossing is added: what C leaves
@@ -30,8 +32,8 @@ mod test_console;
 
 pub use answer::Answer;
 #[cfg(feature = "library")]
-pub use boundary::{act, call, replay, sound};
-pub use numbers::{modes, reasons, refusals};
+pub use boundary::{act, borrow_read, call, replay, sound};
+pub use numbers::{memories, modes, reasons, refusals};
 pub use replayed::Replayed;
 pub use request::Request;
 pub use tables::Tables;

@@ -1,4 +1,4 @@
-//! The numbers of modes, refusals and reasons, as `include/mritvelja.h` has them.
+//! The numbers of modes, refusals, reasons and memories, as `include/mritvelja.h` has them.
 
 /// Modes of an open. Truncating is added to any mode but reading.
 pub mod modes {
@@ -18,11 +18,11 @@ pub mod modes {
 pub mod refusals {
     /// Not refused.
     pub const GRANTED: u32 = 0;
-    /// Store or policy not sound.
+    /// Store, policy or rom not sound.
     pub const UNSOUND: u32 = 1;
     /// Process not in use.
     pub const NO_PROCESS: u32 = 2;
-    /// Unknown call or mode, bad bits, path, target or position.
+    /// Unknown call or mode, bad bits, path, target, position or count.
     pub const MALFORMED: u32 = 3;
     /// Descriptor not held.
     pub const NOT_HELD: u32 = 4;
@@ -34,7 +34,7 @@ pub mod refusals {
     pub const NOT_A_DIRECTORY: u32 = 7;
     /// Wrong kind of file.
     pub const WRONG_KIND: u32 = 8;
-    /// Bits or ownership forbid.
+    /// Bits or ownership forbid; of /rom also to user 0.
     pub const BITS_FORBID: u32 = 9;
     /// Label forbids.
     pub const LABEL_FORBIDS: u32 = 10;
@@ -53,7 +53,7 @@ pub mod refusals {
     pub fn text(refusal: u32) -> &'static str {
         match refusal {
             GRANTED => "granted",
-            UNSOUND => "store or policy not sound",
+            UNSOUND => "store, policy or rom not sound",
             NO_PROCESS => "process not in use",
             MALFORMED => "malformed call",
             NOT_HELD => "descriptor not held",
@@ -83,4 +83,12 @@ pub mod reasons {
     pub const BROKEN: u32 = 3;
     /// The next answer is too long for the output.
     pub const ROOM: u32 = 4;
+}
+
+/// In which memory the bytes of a borrowing read lie, as the C function says it.
+pub mod memories {
+    /// The contents of the store.
+    pub const CONTENTS: u32 = 0;
+    /// The factory part.
+    pub const ROM: u32 = 1;
 }

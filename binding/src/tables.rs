@@ -2,8 +2,8 @@
 
 use crate::layout::*;
 
-/// The four tables of a store and its policy, which calls are lent. They may hold
-/// anything and be of any size: what is not a store is refused.
+/// The four tables of a store, its policy and the factory part beside it, which calls
+/// are lent. They may hold anything and be of any size: what is not a store is refused.
 ///
 /// The methods panic where a table has no such record.
 #[derive(Debug, PartialEq, Eq)]
@@ -18,6 +18,9 @@ pub struct Tables {
     pub processes: Vec<u32>,
     /// The rights, then the transitions.
     pub policy: Vec<u8>,
+    /// The factory part: at most [`PROMPTS`] prompts in turn, each a length of two bytes,
+    /// little end first, of at most [`BLOCK`], and its bytes. No call changes it.
+    pub rom: Vec<u8>,
 }
 
 impl Clone for Tables {
@@ -28,6 +31,7 @@ impl Clone for Tables {
             open_files: self.open_files.clone(),
             processes: self.processes.clone(),
             policy: self.policy.clone(),
+            rom: self.rom.clone(),
         }
     }
 
@@ -38,12 +42,13 @@ impl Clone for Tables {
         self.open_files.clone_from(&other.open_files);
         self.processes.clone_from(&other.processes);
         self.policy.clone_from(&other.policy);
+        self.rom.clone_from(&other.rom);
     }
 }
 
 impl Tables {
     /// An empty store, which is sound: a root of user 0 and group 0 without bits,
-    /// no process, no rights, no transitions.
+    /// no process, no rights, no transitions, no prompts.
     pub fn empty() -> Tables {
         let mut tables = Tables {
             files: vec![0; FILES_SIZE],
@@ -51,6 +56,7 @@ impl Tables {
             open_files: vec![0; OPEN_FILES_SIZE],
             processes: vec![0; PROCESSES_SIZE],
             policy: vec![0; POLICY_SIZE],
+            rom: Vec::new(),
         };
         tables.file_mut(ROOT)[FILE_KIND] = DIRECTORY;
         tables.policy[RIGHTS_SIZE..].fill(NO_TRANSITION);

@@ -1,7 +1,7 @@
 //! The constants of this package are those of the C header, all of them.
 
 use mritvelja::calls::{self, Part};
-use mritvelja::{layout, modes, reasons, refusals};
+use mritvelja::{layout, memories, modes, reasons, refusals};
 use std::collections::BTreeMap;
 
 const HEADER: &str = include_str!("../../include/mritvelja.h");
@@ -48,8 +48,8 @@ macro_rules! constants {
 fn in_package() -> Values {
     constants! {
         "" layout: SLOTS FILE_WIDTH BLOCK DIRENTS DIRENT_WIDTH NAME PATH NAMES FOLLOWS OPEN_FILES
-            OPEN_FILE_WIDTH PROCESSES PROCESS_WIDTH DESCRIPTORS LABELS NO_TRANSITION FILES_SIZE
-            CONTENTS_SIZE OPEN_FILES_SIZE PROCESSES_SIZE RIGHTS_SIZE POLICY_SIZE
+            OPEN_FILE_WIDTH PROCESSES PROCESS_WIDTH DESCRIPTORS LABELS PROMPTS ROM_FIRST
+            NO_TRANSITION FILES_SIZE CONTENTS_SIZE OPEN_FILES_SIZE PROCESSES_SIZE RIGHTS_SIZE POLICY_SIZE
             FILE_KIND FILE_OWNER FILE_GROUP FILE_BITS FILE_LABEL FILE_LENGTH FILE_LINKS FILE_VERSION
             OPEN_SLOT OPEN_MODE OPEN_OFFSET OPEN_REFERENCES
             PROCESS_USED PROCESS_USER PROCESS_GROUP PROCESS_LABEL PROCESS_DESCRIPTOR
@@ -61,6 +61,7 @@ fn in_package() -> Values {
             NOT_A_DIRECTORY WRONG_KIND BITS_FORBID LABEL_FORBIDS NAME_THERE NOT_EMPTY TABLE_FULL
             TOO_LONG TOO_DEEP;
         "REPLAY_" reasons: END ALLOWANCE BROKEN ROOM;
+        "IN_" memories: CONTENTS ROM;
     }
 }
 

@@ -8,6 +8,7 @@ use crate::failure::Failure;
 use crate::held::{Held, Warning};
 use crate::input;
 use crate::output;
+use crate::rom;
 use crate::streams;
 use crate::text;
 use mritvelja::{calls, Answer, Request};
@@ -16,9 +17,10 @@ use mritvelja::{calls, Answer, Request};
 /// granted, and the store's name is on the disk.
 pub fn call(store: &Store, asked: &Asked, is_hex: bool) -> Result<bool, Failure> {
     streams::require_output()?;
+    let rom = rom::read(store.rom.as_deref())?;
     let given = read_data(asked)?;
     let held = Held::new(store)?;
-    let before = held.load()?;
+    let before = held.load(rom)?;
     check::require_sound(&store.path, &before)?;
     let mut after = before.clone();
     let mut buffer = vec![0; asked.number.into()];

@@ -6,6 +6,7 @@ use crate::failure::Failure;
 use crate::held;
 use crate::output;
 use crate::path;
+use crate::seen;
 use crate::text;
 use mritvelja::layout::DIRECTORY;
 use std::ffi::OsStr;
@@ -19,8 +20,8 @@ pub fn cat(store: &Store, file: &OsStr) -> Result<(), Failure> {
         return Err(refused("a path begins with a slash"));
     }
     let slot = path::followed(&tables, file.as_bytes()).map_err(|why| refused(&why))?;
-    if tables.is_kind(slot, DIRECTORY) {
+    if seen::is_kind(&tables, slot, DIRECTORY) {
         return Err(refused("is a directory"));
     }
-    output::print(tables.bytes(slot))
+    output::print(seen::bytes(&tables, slot))
 }

@@ -1,4 +1,5 @@
-//! The bytes of a store file (`docs/store-file.md`): a header, the tables, the policy.
+//! The bytes of a store file (`docs/store-file.md`): a header, the tables, the policy. The
+//! factory part is not in them.
 
 use crate::text;
 use mritvelja::layout::{
@@ -111,6 +112,7 @@ impl Shape {
             open_files: to_words(take(WORD * OPEN_FILES_SIZE)),
             processes: to_words(take(self.processes())),
             policy: take(POLICY_SIZE).to_vec(),
+            rom: Vec::new(),
         })
     }
 }
@@ -165,7 +167,7 @@ fn to_words(bytes: &[u8]) -> Vec<u32> {
 }
 
 #[cfg(test)]
-pub mod tests {
+mod tests {
     use super::*;
     use mritvelja::test_console;
 
@@ -173,8 +175,7 @@ pub mod tests {
         decode(bytes, bytes.len() as u64)
     }
 
-    /// A file with one byte that is another.
-    pub fn changed(bytes: &[u8], at: usize, byte: u8) -> Vec<u8> {
+    fn changed(bytes: &[u8], at: usize, byte: u8) -> Vec<u8> {
         let mut changed = bytes.to_vec();
         changed[at] = byte;
         changed
@@ -187,6 +188,13 @@ pub mod tests {
         assert_eq!(bytes.len(), 71_052);
         assert_eq!(&bytes[..12], b"MRITVEL\x02\x80\0\0\0");
         assert_eq!(decode_whole(&bytes), Ok(tables));
+    }
+
+    #[test]
+    fn the_factory_part_is_not_written() {
+        let mut tables = test_console();
+        tables.rom = b"\x05\0hello".to_vec();
+        assert_eq!(encode(&tables), encode(&test_console()));
     }
 
     #[test]

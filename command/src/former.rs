@@ -114,7 +114,7 @@ fn process(before: &[u32; PROCESS_WIDTH_BEFORE]) -> [u32; PROCESS_WIDTH] {
 mod tests {
     use super::*;
     use crate::diagnosis::first_defect;
-    use crate::format::{tests::changed, HEADER};
+    use crate::format::HEADER;
     use mritvelja::test_console;
 
     /// The file of version 1 of a store whose groups and bits are such as a conversion gives.
@@ -141,6 +141,12 @@ mod tests {
 
     fn decode_whole(bytes: &[u8]) -> Result<Tables, String> {
         decode(bytes, bytes.len() as u64)
+    }
+
+    fn changed(bytes: &[u8], at: usize, byte: u8) -> Vec<u8> {
+        let mut changed = bytes.to_vec();
+        changed[at] = byte;
+        changed
     }
 
     #[test]

@@ -5,6 +5,7 @@ use crate::failure::Failure;
 use crate::format::{self, Refused, FORMER_VERSION, VERSION};
 use crate::former;
 use crate::lock::{self, Kind};
+use crate::rom;
 use crate::save::{self, Trouble, CANNOT_BE_SAVED};
 use crate::temporary::{self, Temporary};
 use crate::text;
@@ -13,9 +14,11 @@ use std::fs::{self, File};
 use std::io::{self, ErrorKind, Read, Seek};
 use std::path::{Path, PathBuf};
 
-/// Reads a store, when no run changes it.
+/// Reads a store, when no run changes it, and first the factory part beside it.
 pub fn read(store: &Store) -> Result<Tables, Failure> {
-    decode(&store.path, &read_bytes(store)?)
+    let rom = rom::read(store.rom.as_deref())?;
+    let tables = decode(&store.path, &read_bytes(store)?)?;
+    Ok(Tables { rom, ..tables })
 }
 
 /// Reads a store from a file of version 1, and converts it.
@@ -86,8 +89,10 @@ impl Held {
         })
     }
 
-    pub fn load(&self) -> Result<Tables, Failure> {
-        decode(&self.named, &self.bytes)
+    /// The store, beside a factory part.
+    pub fn load(&self, rom: Vec<u8>) -> Result<Tables, Failure> {
+        let tables = decode(&self.named, &self.bytes)?;
+        Ok(Tables { rom, ..tables })
     }
 
     pub fn save(&self, tables: &Tables) -> Result<Warning, Failure> {

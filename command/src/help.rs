@@ -13,6 +13,11 @@ struct Page {
     text: &'static str,
 }
 
+const ROM: &str = "
+  --rom FILE      takes the factory part from FILE: its prompts are the files of
+                  /rom, where there are none without it. It is not saved
+";
+
 const WAIT: &str = "
   --wait SECONDS  waits so long for other runs to let go of the store, and not
                   without end; then nothing is changed, and the status is 1
@@ -45,7 +50,8 @@ same store again.
     },
     Page {
         command: "replay",
-        arguments: "STORE SCRIPT [--calls N] [--explain] [--wait SECONDS]",
+        arguments: "STORE SCRIPT [--calls N] [--explain] [--rom FILE]
+                        [--wait SECONDS]",
         summary: "runs a script of calls",
         text: "
 Runs a script on the store, saves the store, and prints the answers. SCRIPT may
@@ -57,7 +63,8 @@ be - for standard input. If a block of the script is broken nothing is changed.
     },
     Page {
         command: "call",
-        arguments: "STORE PROCESS CALL [PART..] [--hex] [--wait SECONDS]",
+        arguments: "STORE PROCESS CALL [PART..] [--hex] [--rom FILE]
+                      [--wait SECONDS]",
         summary: "makes one call",
         text: "
 Makes one call for a process of the store, saves the store, and prints the
@@ -85,7 +92,7 @@ read go to standard output, and so does the target that readlink gives.
     },
     Page {
         command: "show",
-        arguments: "STORE [--json] [--wait SECONDS]",
+        arguments: "STORE [--json] [--rom FILE] [--wait SECONDS]",
         summary: "prints what is in a store, for people",
         text: "
 Prints the files, open files, processes and policy, a line each.
@@ -95,7 +102,7 @@ Prints the files, open files, processes and policy, a line each.
     },
     Page {
         command: "cat",
-        arguments: "STORE PATH [--wait SECONDS]",
+        arguments: "STORE PATH [--rom FILE] [--wait SECONDS]",
         summary: "prints the bytes of a file",
         text: "
 Prints the bytes of a file of the store, whatever its bits and label say.
@@ -104,7 +111,7 @@ Symbolic links are followed, 8 at most.
     },
     Page {
         command: "check",
-        arguments: "STORE [--json] [--wait SECONDS]",
+        arguments: "STORE [--json] [--rom FILE] [--wait SECONDS]",
         summary: "says whether a store is sound",
         text: "
 Says whether the store is sound, or what is wrong and where; then the status
@@ -143,14 +150,15 @@ pub fn usage(command: &str) -> String {
 
 /// The page of a command, or the overview if there is no such command.
 pub fn help(command: &str) -> String {
-    let usage = usage(command);
-    match page(command) {
-        Some(page) if page.arguments.ends_with("[--wait SECONDS]") => {
-            format!("{usage}\n{}{WAIT}", page.text)
-        }
-        Some(page) => format!("{usage}\n{}", page.text),
-        None => overview(),
-    }
+    let Some(page) = page(command) else {
+        return overview();
+    };
+    let shared = [("[--rom FILE]", ROM), ("[--wait SECONDS]", WAIT)];
+    let shared = shared
+        .iter()
+        .filter(|(option, _)| page.arguments.contains(option));
+    let shared: String = shared.map(|&(_, text)| text).collect();
+    format!("{}\n{}{shared}", usage(command), page.text)
 }
 
 fn overview() -> String {

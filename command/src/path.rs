@@ -1,20 +1,23 @@
 //! Paths looked up from the root on, as the host sees them, and what form they have.
 
+use crate::seen;
 use crate::text;
 use mritvelja::layout::*;
 use mritvelja::Tables;
 
-/// The slot to which names lead, one after the other. No link is followed.
+/// The slot of the store to which names lead, one after the other. No link is followed.
 pub fn slot_at<'a>(tables: &Tables, mut names: impl Iterator<Item = &'a [u8]>) -> Option<usize> {
-    names.try_fold(ROOT, |directory, name| entry(tables, directory, name))
+    let slot = names.try_fold(ROOT, |directory, name| entry(tables, directory, name));
+    slot.filter(|&slot| slot < SLOTS)
 }
 
-/// The slot that a directory names so.
+/// The file that a directory names so.
 fn entry(tables: &Tables, directory: usize, name: &[u8]) -> Option<usize> {
-    let is_directory = tables.is_kind(directory, DIRECTORY);
-    let mut entries = tables.dirents_in_use(directory).filter(|_| is_directory);
-    let entry = entries.find(|&entry| tables.dirent_name(directory, entry) == name)?;
-    Some(tables.dirent_slot(directory, entry))
+    if !seen::is_kind(tables, directory, DIRECTORY) {
+        return None;
+    }
+    let mut names = seen::names(tables, directory).into_iter();
+    names.find_map(|(other, slot)| (other == name).then_some(slot))
 }
 
 /// The names of a path: slashes in a row count as one, as they do for calls.
@@ -23,7 +26,7 @@ fn names(path: &[u8]) -> impl Iterator<Item = &[u8]> {
     names.filter(|name| !name.is_empty())
 }
 
-/// The slot to which a path leads. Links are followed, at the last name too, as by an open; else why it leads nowhere.
+/// The file to which a path leads. Links are followed, at the last name too, as by an open; else why it leads nowhere.
 pub fn followed(tables: &Tables, path: &[u8]) -> Result<usize, String> {
     let mut follows = FOLLOWS;
     follow(tables, path, &mut follows)?.ok_or_else(|| "name missing".into())
@@ -37,7 +40,7 @@ fn follow(tables: &Tables, path: &[u8], follows: &mut usize) -> Result<Option<us
             return Ok(None);
         };
         at = found;
-        if tables.is_kind(at, LINK) {
+        if seen::is_kind(tables, at, LINK) {
             let left = follows.checked_sub(1);
             *follows = left.ok_or_else(|| format!("more than {FOLLOWS} links on the way"))?;
             let target = tables.bytes(at);
@@ -84,6 +87,7 @@ pub fn not_a_name(bytes: &[u8]) -> String {
 #[cfg(test)]
 mod tests {
     use super::*;
+    use crate::rom;
     use mritvelja::{calls, modes, refusals, test_console, Answer, Request};
     use std::collections::BTreeMap;
 
@@ -114,6 +118,28 @@ mod tests {
         }
         let today = [&b"today"[..]];
         assert_eq!(slot_at(&tables, today.into_iter()), Some(11));
+    }
+
+    #[test]
+    fn prompts_are_found_in_rom() {
+        let mut tables = test_console();
+        add_link(&mut tables, 10, "r", b"//rom");
+        add_link(&mut tables, 11, "hello", b"/r/00");
+        tables.rom = b"\x05\0hello\0\0".to_vec();
+        for (path, slot) in [
+            ("/rom", ROM_FIRST + PROMPTS),
+            ("/rom/00", ROM_FIRST),
+            ("/r///01", ROM_FIRST + 1),
+            ("/hello", ROM_FIRST),
+        ] {
+            assert_eq!(followed(&tables, path.as_bytes()), Ok(slot), "{path}");
+        }
+        for path in ["/rom/02", "/rom/0", "/rom/000", "/rom/00/x", "/fares/rom"] {
+            let why = followed(&tables, path.as_bytes());
+            assert_eq!(why, Err("name missing".into()), "{path}");
+        }
+        let rom = [rom::NAME].into_iter();
+        assert_eq!(slot_at(&tables, rom), None);
     }
 
     #[test]
@@ -160,7 +186,7 @@ mod tests {
 
     /// A path of one to four names by chance.
     fn some_path(chance: &mut u64) -> Vec<u8> {
-        const NAMES: [&[u8]; 6] = [b"fares", b"now", b"key", b"a", b"b", b"c"];
+        const NAMES: [&[u8]; 8] = [b"fares", b"now", b"key", b"a", b"b", b"c", b"rom", b"00"];
         let mut below = |limit: usize| {
             *chance ^= *chance << 13;
             *chance ^= *chance >> 7;
@@ -169,7 +195,7 @@ mod tests {
         };
         let names = 1 + below(4);
         (0..names)
-            .flat_map(|_| [b"/", NAMES[below(6)]].concat())
+            .flat_map(|_| [b"/", NAMES[below(8)]].concat())
             .collect()
     }
 
@@ -188,6 +214,7 @@ mod tests {
     /// The test console with links by chance, of which no label refuses process 0 anything.
     fn some_links(chance: &mut u64) -> Tables {
         let mut tables = test_console();
+        tables.rom = b"\x05\0hello".to_vec();
         tables.set_rights(0, 3, 7);
         for _ in 0..12 {
             let (path, target) = (some_path(chance), some_path(chance));
@@ -199,7 +226,7 @@ mod tests {
     #[test]
     fn a_path_leads_where_an_open_leads() {
         let mut chance = 0x9e37_79b9_7f4a_7c15;
-        let mut seen = BTreeMap::new();
+        let (mut counts, mut prompts) = (BTreeMap::new(), 0);
         for _ in 0..4_000 {
             let mut tables = some_links(&mut chance);
             let path = some_path(&mut chance);
@@ -208,12 +235,15 @@ mod tests {
             let opened = tables.open_file(0)[OPEN_SLOT] as usize;
             let is_agreed = match answer.refusal {
                 refusals::GRANTED => said == Ok(opened),
-                refusals::WRONG_KIND => said.is_ok_and(|slot| tables.is_kind(slot, DIRECTORY)),
+                refusals::WRONG_KIND => {
+                    said.is_ok_and(|slot| seen::is_kind(&tables, slot, DIRECTORY))
+                }
                 refusals::TOO_DEEP => said.is_err_and(|why| why.starts_with("more than 8")),
                 _ => said.is_err_and(|why| why.starts_with("name missing")),
             };
             assert!(is_agreed, "{}: {answer:?}", text::readable(&path));
-            *seen.entry(answer.refusal).or_insert(0) += 1;
+            prompts += u32::from(opened >= ROM_FIRST);
+            *counts.entry(answer.refusal).or_insert(0) += 1;
         }
         let all = [
             refusals::GRANTED,
@@ -222,7 +252,11 @@ mod tests {
             refusals::WRONG_KIND,
             refusals::TOO_DEEP,
         ];
-        assert!(all.iter().all(|refusal| seen[refusal] >= 20), "{seen:?}");
+        assert!(
+            all.iter().all(|refusal| counts[refusal] >= 20),
+            "{counts:?}"
+        );
+        assert!(prompts >= 20, "{prompts} prompts");
     }
 
     #[test]

@@ -11,6 +11,7 @@ use crate::input;
 use crate::memory;
 use crate::output;
 use crate::pieces::{self, Lost, Reason, Replayed};
+use crate::rom;
 use crate::streams;
 use crate::text;
 
@@ -25,9 +26,10 @@ pub fn replay(
 ) -> Result<Warning, Failure> {
     // Asked first: no call is made whose answer nobody can get.
     streams::require_output()?;
+    let rom = rom::read(store.rom.as_deref())?;
     let bytes = input::read(script)?;
     let held = Held::new(store)?;
-    let before = held.load()?;
+    let before = held.load(rom)?;
     check::require_sound(&store.path, &before)?;
 
     let mut after = before.clone();

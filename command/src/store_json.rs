@@ -3,6 +3,7 @@
 use crate::bits;
 use crate::json::Json;
 use crate::ranges::label_pairs;
+use crate::seen::{self, ROM};
 use crate::show::paths;
 use crate::text;
 use mritvelja::layout::*;
@@ -24,9 +25,10 @@ pub fn store(tables: &Tables, detail: Detail) -> Json {
         ("rights", rights(tables)),
         ("transitions", transitions(tables)),
     ];
-    if detail == Detail::Whole {
-        fields.push(("free", free(tables)));
-    }
+    fields.push(match detail {
+        Detail::Shown => ("prompts", prompts(tables)),
+        Detail::Whole => ("free", free(tables)),
+    });
     Json::Object(fields)
 }
 
@@ -164,6 +166,18 @@ fn transitions(tables: &Tables) -> Json {
         ])
     });
     transitions.collect()
+}
+
+/// The prompts of the factory part, which `describe` is not lent.
+fn prompts(tables: &Tables) -> Json {
+    let prompts = seen::names(tables, ROM).into_iter().map(|(name, slot)| {
+        Json::Object(vec![
+            ("slot", slot.into()),
+            ("path", format!("/rom/{}", text::readable(&name)).into()),
+            ("length", seen::bytes(tables, slot).len().into()),
+        ])
+    });
+    prompts.collect()
 }
 
 /// The slots not in use whose version is not 0.

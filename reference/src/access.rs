@@ -4,7 +4,7 @@ use crate::numbers::{Descriptor, OpenFileNumber, ProcessNumber, Slot};
 use crate::records::File;
 use crate::refusal::Refusal;
 use crate::rights::Rights;
-use crate::tables::Store;
+use crate::tables::{Store, Tables};
 
 const SUPERUSER: u32 = 0;
 
@@ -27,8 +27,8 @@ impl Caller {
         self.user == SUPERUSER
     }
 
-    /// The rights that the bits give to others than user 0. The first class
-    /// that fits decides alone, also where a later one would give more.
+    /// The rights that the bits give to one who does not pass them. The first
+    /// class that fits decides alone, also where a later one would give more.
     fn rights_by_bits(self, file: &File) -> Rights {
         if self.user == file.owner {
             file.bits.owner()
@@ -40,7 +40,7 @@ impl Caller {
     }
 }
 
-impl Store<'_> {
+impl Tables<'_, '_> {
     /// The calling process, if it is in use.
     pub fn caller(&self, number: u8) -> Option<Caller> {
         let number = ProcessNumber::new(number)?;
@@ -53,10 +53,28 @@ impl Store<'_> {
         })
     }
 
-    /// Refuses the wanted rights by the bits, then by the labels.
+    /// The descriptor of this number and the open file that it holds.
+    pub fn held(
+        &self,
+        caller: Caller,
+        number: u8,
+    ) -> Result<(Descriptor, OpenFileNumber), Refusal> {
+        let descriptor = Descriptor::new(number).ok_or(Refusal::NotHeld)?;
+        let words = self.process(caller.process).descriptors;
+        let open_file =
+            OpenFileNumber::from_word(words[descriptor.index()]).ok_or(Refusal::NotHeld)?;
+        Ok((descriptor, open_file))
+    }
+}
+
+impl Store<'_> {
+    /// Refuses the wanted rights by the bits, then by the labels. User 0 passes
+    /// the bits of the store's files and not those of ROM's, in whose bits
+    /// nobody has the right to write.
     pub fn check_rights(&self, caller: Caller, slot: Slot, wanted: Rights) -> Result<(), Refusal> {
         let file = self.file(slot);
-        if !caller.is_superuser() && !caller.rights_by_bits(&file).hold(wanted) {
+        let passes = caller.is_superuser() && !slot.is_in_rom();
+        if !passes && !caller.rights_by_bits(&file).hold(wanted) {
             return Err(Refusal::BitsForbid);
         }
         self.check_label(caller, &file, wanted)
@@ -78,18 +96,5 @@ impl Store<'_> {
         } else {
             Err(Refusal::LabelForbids)
         }
-    }
-
-    /// The descriptor of this number and the open file that it holds.
-    pub fn held(
-        &self,
-        caller: Caller,
-        number: u8,
-    ) -> Result<(Descriptor, OpenFileNumber), Refusal> {
-        let descriptor = Descriptor::new(number).ok_or(Refusal::NotHeld)?;
-        let words = self.process(caller.process).descriptors;
-        let open_file =
-            OpenFileNumber::from_word(words[descriptor.index()]).ok_or(Refusal::NotHeld)?;
-        Ok((descriptor, open_file))
     }
 }

@@ -10,7 +10,7 @@ use crate::tables::Store;
 impl Store<'_> {
     /// Call 10.
     pub fn close(&mut self, caller: Caller, descriptor: u8) -> Result<Answer, Refused> {
-        let (descriptor, number) = self.held(caller, descriptor)?;
+        let (descriptor, number) = self.tables().held(caller, descriptor)?;
         self.set_descriptor(caller.process, descriptor, None);
         self.drop_reference(number);
         Ok(Answer::done())
@@ -23,15 +23,9 @@ impl Store<'_> {
         descriptor: u8,
         buffer: &mut [u8],
     ) -> Result<Answer, Refused> {
-        let (_, number) = self.held(caller, descriptor)?;
-        let mut open_file = self.open_file(number);
-        if !open_file.mode.reads() {
-            return Err(Refusal::WrongDirection.into());
-        }
-        let bytes = self.bytes(open_file.slot);
-        let ahead = bytes.get(open_file.offset as usize..).unwrap_or(&[]);
-        let count = fill(buffer, ahead);
-        open_file.offset += count as u32;
+        let ahead = self.tables().ahead(caller, descriptor)?;
+        let count = fill(buffer, ahead.bytes);
+        let (number, open_file) = (ahead.number, ahead.after(count));
         self.set_open_file(number, open_file);
         Ok(Answer::value(count as u32))
     }
@@ -43,7 +37,7 @@ impl Store<'_> {
         descriptor: u8,
         data: &[u8],
     ) -> Result<Answer, Refused> {
-        let (_, number) = self.held(caller, descriptor)?;
+        let (_, number) = self.tables().held(caller, descriptor)?;
         let mut open_file = self.open_file(number);
         if !open_file.mode.writes() {
             return Err(Refusal::WrongDirection.into());
@@ -76,7 +70,7 @@ impl Store<'_> {
         descriptor: u8,
         position: u32,
     ) -> Result<Answer, Refused> {
-        let (_, number) = self.held(caller, descriptor)?;
+        let (_, number) = self.tables().held(caller, descriptor)?;
         let mut open_file = self.open_file(number);
         open_file.offset = position;
         self.set_open_file(number, open_file);
@@ -85,7 +79,7 @@ impl Store<'_> {
 
     /// Call 14.
     pub fn duplicate(&mut self, caller: Caller, descriptor: u8) -> Result<Answer, Refused> {
-        let (_, number) = self.held(caller, descriptor)?;
+        let (_, number) = self.tables().held(caller, descriptor)?;
         let copy = self
             .lowest_free_descriptor(caller.process)
             .ok_or(Refusal::TableFull)?;

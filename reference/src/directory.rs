@@ -76,12 +76,18 @@ pub fn clear(block: &mut Block, number: usize) {
     dirents_mut(block)[number] = [0; DIRENT_WIDTH];
 }
 
-/// The `index`-th name in byte order, from 0.
-pub fn name_in_order(block: &Block, index: usize) -> Option<&[u8]> {
-    let mut names: [&[u8]; DIRENTS] = [&[]; DIRENTS];
+/// The `index`-th name in byte order, from 0, of those in the block and one
+/// more that the directory may have beside them.
+pub fn name_in_order<'a>(
+    block: &'a Block,
+    beside: Option<&'a [u8]>,
+    index: usize,
+) -> Option<&'a [u8]> {
+    let dirents = dirents(block).iter().filter(|dirent| !is_empty(dirent));
+    let mut names: [&[u8]; DIRENTS + 1] = [&[]; DIRENTS + 1];
     let mut count = 0;
-    for dirent in dirents(block).iter().filter(|dirent| !is_empty(dirent)) {
-        names[count] = name(dirent);
+    for name in dirents.map(name).chain(beside) {
+        names[count] = name;
         count += 1;
     }
     let names = &mut names[..count];

@@ -11,7 +11,7 @@ use crate::records::{File, Kind};
 use crate::refusal::{Refusal, Refused};
 use crate::rights::Rights;
 use crate::tables::Store;
-use crate::walk::Reached;
+use crate::walk::{Found, Reached};
 
 impl Store<'_> {
     /// Calls 2 and 3: an empty plain file, or a directory.
@@ -50,7 +50,8 @@ impl Store<'_> {
         let Reached {
             slot: parent,
             depth,
-        } = self.check_new_name(caller, target)?;
+        } = self.walk_to_new_name(caller, target)?;
+        self.check_rights(caller, parent, Rights::WRITE)?;
         // Only the depth of directories is bound.
         if kind == Kind::DIRECTORY && depth >= NAMES {
             return Err(Refusal::TooDeep.into());
@@ -76,8 +77,8 @@ impl Store<'_> {
         if self.file(found.slot).kind == Kind::DIRECTORY {
             return Err(Refusal::WrongKind.into());
         }
-        self.check_rights(caller, found.parent, Rights::WRITE)?;
-        self.remove_name(&found);
+        let dirent = self.check_removal(caller, &found)?;
+        self.remove_name(found.parent, dirent, found.slot);
         self.free_if_unreachable(found.slot);
         Ok(Answer::done())
     }
@@ -86,11 +87,11 @@ impl Store<'_> {
     pub fn remove_directory(&mut self, caller: Caller, target: &Target) -> Result<Answer, Refused> {
         let found = self.walk_to_name(caller, target)?;
         self.check_kind(found.slot, Kind::DIRECTORY)?;
-        self.check_rights(caller, found.parent, Rights::WRITE)?;
+        let dirent = self.check_removal(caller, &found)?;
         if self.file(found.slot).length > 0 {
             return Err(Refusal::NotEmpty.into());
         }
-        self.remove_name(&found);
+        self.remove_name(found.parent, dirent, found.slot);
         self.free(found.slot);
         Ok(Answer::done())
     }
@@ -99,20 +100,32 @@ impl Store<'_> {
     pub fn link(&mut self, caller: Caller, old: &Path, new: &Target) -> Result<Answer, Refused> {
         let slot = self.walk_no_follow(caller, old)?;
         self.check_kind(slot, Kind::PLAIN)?;
-        let parent = self.check_new_name(caller, new)?.slot;
+        let parent = self.walk_to_new_name(caller, new)?.slot;
+        // Nobody can give another name to what is in ROM.
+        if slot.is_in_rom() {
+            return Err(Refusal::BitsForbid.into());
+        }
+        self.check_rights(caller, parent, Rights::WRITE)?;
         let dirent = self.check_dirent(parent)?;
         self.add_name(parent, dirent, new.name, slot);
         Ok(Answer::done())
     }
 
-    /// The parent in which a new name may be made.
-    fn check_new_name(&self, caller: Caller, target: &Target) -> Result<Reached, Refused> {
+    /// The parent of a path's last name, which must not be there yet.
+    fn walk_to_new_name(&self, caller: Caller, target: &Target) -> Result<Reached, Refused> {
         let parent = self.walk_to_parent(caller, target)?;
-        if directory::find(self.block(parent.slot), target.name).is_some() {
-            return Err(Refusal::NameThere.into());
+        match self.find(parent.slot, target.name) {
+            Some(_) => Err(Refusal::NameThere.into()),
+            None => Ok(parent),
         }
-        self.check_rights(caller, parent.slot, Rights::WRITE)?;
-        Ok(parent)
+    }
+
+    /// Refuses to take a name away, those of ROM to everyone; the entry that
+    /// holds it.
+    fn check_removal(&self, caller: Caller, found: &Found) -> Result<usize, Refusal> {
+        let dirent = found.dirent.ok_or(Refusal::BitsForbid)?;
+        self.check_rights(caller, found.parent, Rights::WRITE)?;
+        Ok(dirent)
     }
 
     fn check_dirent(&self, parent: Slot) -> Result<usize, Refusal> {

@@ -4,17 +4,23 @@
 //! what makes sure that they are in range.
 
 pub const SLOTS: usize = 128;
+/// The most prompts.
+pub const PROMPTS: usize = 16;
 pub const OPEN_FILES: usize = 32;
 pub const PROCESSES: usize = 8;
 pub const DESCRIPTORS: usize = 8;
 
-/// The number of a file.
+/// The number of a file: one of the store's 128, or after them one of ROM's.
 #[derive(Clone, Copy, Debug, PartialEq, Eq)]
 pub struct Slot(pub u32);
 
 impl Slot {
     pub const ROOT: Slot = Slot(0);
 
+    /// The prompts' directory. Its number stands in no table and no answer.
+    pub const ROM: Slot = Slot((SLOTS + PROMPTS) as u32);
+
+    /// The slot of the store with this number.
     pub fn new(number: u32) -> Option<Slot> {
         ((number as usize) < SLOTS).then_some(Slot(number))
     }
@@ -23,8 +29,26 @@ impl Slot {
         self.0 as usize
     }
 
+    /// All slots of the store.
     pub fn all() -> impl Iterator<Item = Slot> {
         (0..SLOTS as u32).map(Slot)
+    }
+
+    /// The number of a prompt, counted from 0 among them.
+    pub fn of_prompt(index: usize) -> Slot {
+        Slot((SLOTS + index) as u32)
+    }
+
+    /// Which prompt this is, if it is one's number.
+    pub fn prompt(self) -> Option<usize> {
+        self.index()
+            .checked_sub(SLOTS)
+            .filter(|&index| index < PROMPTS)
+    }
+
+    /// Whether this is a prompt or their directory, which nobody can change.
+    pub fn is_in_rom(self) -> bool {
+        self.index() >= SLOTS
     }
 }
 

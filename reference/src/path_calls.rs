@@ -11,6 +11,7 @@ use crate::path::Path;
 use crate::records::{Kind, OpenFile};
 use crate::refusal::{Refusal, Refused};
 use crate::rights::{Opening, Rights};
+use crate::rom;
 use crate::tables::Store;
 
 impl Store<'_> {
@@ -58,8 +59,18 @@ impl Store<'_> {
         let slot = self.walk(caller, path)?;
         self.check_kind(slot, Kind::DIRECTORY)?;
         self.check_rights(caller, slot, Rights::READ)?;
-        let name = directory::name_in_order(self.block(slot), index);
+        let name = self.name_in_order(slot, index);
         Ok(name.map_or_else(Answer::done, Answer::listed))
+    }
+
+    /// The `index`-th name of a directory. The root has one more than its
+    /// entries and its length tell.
+    fn name_in_order(&self, directory: Slot, index: usize) -> Option<&[u8]> {
+        if directory == Slot::ROM {
+            return self.rom().name_in_order(index);
+        }
+        let beside = (directory == Slot::ROOT).then_some(rom::NAME);
+        directory::name_in_order(self.block(directory), beside, index)
     }
 
     /// Call 8.
@@ -71,7 +82,7 @@ impl Store<'_> {
     ) -> Result<Answer, Refused> {
         let slot = self.walk(caller, path)?;
         let file = self.file(slot);
-        if !caller.is_master_of(&file) {
+        if slot.is_in_rom() || !caller.is_master_of(&file) {
             return Err(Refusal::BitsForbid.into());
         }
         self.check_label(caller, &file, Rights::WRITE)?;

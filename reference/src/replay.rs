@@ -49,17 +49,19 @@ pub fn replay(
     open_files: &mut [u32],
     processes: &mut [u32],
     policy: &[u8],
+    rom: &[u8],
     script: &[u8],
     allowance: u32,
     output: &mut [u8],
 ) -> Replayed {
     let mut lent = Lent {
-        sound: crate::sound(files, contents, open_files, processes, policy),
+        sound: crate::sound(files, contents, open_files, processes, policy, rom),
         files,
         contents,
         open_files,
         processes,
         policy,
+        rom,
     };
     lent.run(script, allowance, output)
 }
@@ -73,6 +75,7 @@ struct Lent<'a> {
     open_files: &'a mut [u32],
     processes: &'a mut [u32],
     policy: &'a [u8],
+    rom: &'a [u8],
 }
 
 impl Lent<'_> {
@@ -123,6 +126,7 @@ impl Lent<'_> {
             open_files: &mut self.open_files.to_vec(),
             processes: &mut self.processes.to_vec(),
             policy: self.policy,
+            rom: self.rom,
         }
         .make(scripted)
     }
@@ -146,6 +150,7 @@ impl Lent<'_> {
             self.open_files,
             self.processes,
             self.policy,
+            self.rom,
             scripted.request(),
             scripted.path,
             &scripted.data,

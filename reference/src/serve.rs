@@ -25,7 +25,10 @@ fn understand<'a>(
     path: &'a [u8],
     data: &'a [u8],
 ) -> Result<(Caller, Command<'a>), Refused> {
-    let caller = store.caller(request.process).ok_or(Refusal::NoProcess)?;
+    let caller = store
+        .tables()
+        .caller(request.process)
+        .ok_or(Refusal::NoProcess)?;
     let command = Command::parse(request, path, data).ok_or(Refusal::Malformed)?;
     Ok((caller, command))
 }

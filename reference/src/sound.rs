@@ -8,7 +8,8 @@ use crate::directory::{self, Block, Dirent, BLOCK};
 use crate::numbers::{OpenFileNumber, Slot, OPEN_FILES, SLOTS};
 use crate::path::{is_name, Path, NAMES};
 use crate::records::{File, Kind, OpenFile, Process};
-use crate::rights::Rights;
+use crate::rights::{OpenMode, Rights};
+use crate::rom;
 use crate::tables::{Policy, Tables, LABELS, NO_TRANSITION, RIGHTS_SIZE};
 
 const LAST_USER: u32 = 65_535;
@@ -16,9 +17,11 @@ const LAST_GROUP: u32 = 65_535;
 
 pub fn is_sound(tables: &Tables) -> bool {
     policy_is_sound(tables.policy)
+        && tables.rom.is_sound()
         && processes_are_sound(tables)
         && open_files_are_sound(tables)
         && files_are_sound(tables)
+        && rom_is_not_stored(tables)
         && Naming::count(tables).is_some_and(|naming| naming.is_sound(tables))
 }
 
@@ -49,7 +52,7 @@ fn process_is_in_range(process: &Process) -> bool {
 }
 
 /// Every open file is free and not held, or of a plain file and held.
-/// The processes must be sound.
+/// The processes and ROM must be sound.
 fn open_files_are_sound(tables: &Tables) -> bool {
     let held = count_references(tables);
     OpenFileNumber::all().all(|number| {
@@ -75,13 +78,16 @@ fn count_references(tables: &Tables) -> [u32; OPEN_FILES] {
 }
 
 fn open_file_is_in_range(tables: &Tables, open_file: &OpenFile) -> bool {
-    Slot::new(open_file.slot.0).is_some_and(|slot| file(tables, slot).kind == Kind::PLAIN)
-        && open_file.mode.in_range()
-        && open_file.offset <= LAST_OFFSET
+    let file_can_be_open = if open_file.slot.is_in_rom() {
+        tables.rom.prompt(open_file.slot).is_some() && open_file.mode == OpenMode::READ
+    } else {
+        stored(tables, open_file.slot).kind == Kind::PLAIN && open_file.mode.in_range()
+    };
+    file_can_be_open && open_file.offset <= LAST_OFFSET
 }
 
 fn files_are_sound(tables: &Tables) -> bool {
-    Slot::all().all(|slot| file_is_sound(&file(tables, slot), &tables.contents[slot.index()]))
+    Slot::all().all(|slot| file_is_sound(&stored(tables, slot), &tables.contents[slot.index()]))
 }
 
 /// What a record and its bytes must be, links and place in the tree aside.
@@ -139,6 +145,11 @@ fn names_differ(dirents: &[Dirent]) -> bool {
     })
 }
 
+/// Whether the root leaves its reserved name free.
+fn rom_is_not_stored(tables: &Tables) -> bool {
+    directory::find(&tables.contents[Slot::ROOT.index()], rom::NAME).is_none()
+}
+
 /// Which directory entries name which slots.
 struct Naming {
     links: [u32; SLOTS],
@@ -154,7 +165,7 @@ impl Naming {
             parent: [None; SLOTS],
         };
         for parent in Slot::all() {
-            if file(tables, parent).kind == Kind::DIRECTORY {
+            if stored(tables, parent).kind == Kind::DIRECTORY {
                 naming.count_dirents(tables, parent)?;
             }
         }
@@ -165,7 +176,7 @@ impl Naming {
         for dirent in directory::dirents(&tables.contents[parent.index()]) {
             if !directory::is_empty(dirent) {
                 let slot = Slot::new(directory::slot(dirent).0)?;
-                if slot == Slot::ROOT || file(tables, slot).kind == Kind::FREE {
+                if slot == Slot::ROOT || stored(tables, slot).kind == Kind::FREE {
                     return None;
                 }
                 self.links[slot.index()] += 1;
@@ -176,9 +187,9 @@ impl Naming {
     }
 
     fn is_sound(&self, tables: &Tables) -> bool {
-        file(tables, Slot::ROOT).kind == Kind::DIRECTORY
+        stored(tables, Slot::ROOT).kind == Kind::DIRECTORY
             && Slot::all().all(|slot| {
-                let file = file(tables, slot);
+                let file = stored(tables, slot);
                 file.links == self.links[slot.index()]
                     && match file.kind {
                         Kind::PLAIN => file.links > 0 || is_open(tables, slot),
@@ -212,7 +223,8 @@ fn is_open(tables: &Tables, slot: Slot) -> bool {
         .any(|&words| words != OpenFile::FREE_WORDS && OpenFile::from_words(words).slot == slot)
 }
 
-fn file(tables: &Tables, slot: Slot) -> File {
+/// The record of a slot of the store.
+fn stored(tables: &Tables, slot: Slot) -> File {
     File::from_words(tables.files[slot.index()])
 }
 

@@ -10,6 +10,7 @@ use crate::records::{
     PROCESS_WIDTH,
 };
 use crate::rights::Rights;
+use crate::rom::Rom;
 
 pub const LABELS: usize = 16;
 pub const RIGHTS_SIZE: usize = LABELS * LABELS;
@@ -21,42 +22,70 @@ pub type OpenFileTable = [[u32; OPEN_FILE_WIDTH]; OPEN_FILES];
 pub type ProcessTable = [[u32; PROCESS_WIDTH]; PROCESSES];
 pub type Policy = [u8; 2 * RIGHTS_SIZE];
 
-/// The tables, lent for reading.
+/// The tables and ROM, lent for reading; the files' bytes, in the contents or
+/// in ROM, may be lent for longer than the rest.
 #[derive(Clone, Copy)]
-pub struct Tables<'a> {
+pub struct Tables<'a, 'bytes> {
     pub files: &'a FileTable,
-    pub contents: &'a ContentsTable,
+    pub contents: &'bytes ContentsTable,
     pub open_files: &'a OpenFileTable,
     pub processes: &'a ProcessTable,
     pub policy: &'a Policy,
+    pub rom: Rom<'bytes>,
 }
 
-impl<'a> Tables<'a> {
+impl<'a, 'bytes> Tables<'a, 'bytes> {
     /// The tables, if each has its right size.
     pub fn lend(
         files: &'a [u32],
-        contents: &'a [u8],
+        contents: &'bytes [u8],
         open_files: &'a [u32],
         processes: &'a [u32],
         policy: &'a [u8],
-    ) -> Option<Tables<'a>> {
+        rom: &'bytes [u8],
+    ) -> Option<Tables<'a, 'bytes>> {
         Some(Tables {
             files: records(files)?,
             contents: records(contents)?,
             open_files: records(open_files)?,
             processes: records(processes)?,
             policy: policy.try_into().ok()?,
+            rom: Rom(rom),
         })
+    }
+
+    pub fn file(&self, slot: Slot) -> File {
+        match self.files.get(slot.index()) {
+            Some(&words) => File::from_words(words),
+            None => self.rom.file(slot),
+        }
+    }
+
+    /// The bytes of a plain file, or the text of a symbolic link.
+    pub fn bytes(&self, slot: Slot) -> &'bytes [u8] {
+        match self.contents.get(slot.index()) {
+            Some(block) => &block[..self.file(slot).length as usize],
+            None => self.rom.prompt(slot).unwrap_or(&[]),
+        }
+    }
+
+    pub fn open_file(&self, number: OpenFileNumber) -> OpenFile {
+        OpenFile::from_words(self.open_files[number.index()])
+    }
+
+    pub fn process(&self, number: ProcessNumber) -> Process {
+        Process::from_words(self.processes[number.index()])
     }
 }
 
-/// The tables, lent for a call.
+/// The tables and ROM, lent for a call.
 pub struct Store<'a> {
     files: &'a mut FileTable,
     contents: &'a mut ContentsTable,
     open_files: &'a mut OpenFileTable,
     processes: &'a mut ProcessTable,
     policy: &'a Policy,
+    rom: Rom<'a>,
 }
 
 impl<'a> Store<'a> {
@@ -67,6 +96,7 @@ impl<'a> Store<'a> {
         open_files: &'a mut [u32],
         processes: &'a mut [u32],
         policy: &'a [u8],
+        rom: &'a [u8],
     ) -> Option<Store<'a>> {
         Some(Store {
             files: records_mut(files)?,
@@ -74,27 +104,34 @@ impl<'a> Store<'a> {
             open_files: records_mut(open_files)?,
             processes: records_mut(processes)?,
             policy: policy.try_into().ok()?,
+            rom: Rom(rom),
         })
     }
 
-    pub fn tables(&self) -> Tables<'_> {
+    pub fn tables(&self) -> Tables<'_, '_> {
         Tables {
             files: self.files,
             contents: self.contents,
             open_files: self.open_files,
             processes: self.processes,
             policy: self.policy,
+            rom: self.rom,
         }
     }
 
+    pub fn rom(&self) -> Rom<'a> {
+        self.rom
+    }
+
     pub fn file(&self, slot: Slot) -> File {
-        File::from_words(self.files[slot.index()])
+        self.tables().file(slot)
     }
 
     pub fn set_file(&mut self, slot: Slot, file: File) {
         self.files[slot.index()] = file.words();
     }
 
+    /// The block of a file in the store; those of ROM have none.
     pub fn block(&self, slot: Slot) -> &Block {
         &self.contents[slot.index()]
     }
@@ -105,11 +142,11 @@ impl<'a> Store<'a> {
 
     /// The bytes of a plain file, or the text of a symbolic link.
     pub fn bytes(&self, slot: Slot) -> &[u8] {
-        &self.block(slot)[..self.file(slot).length as usize]
+        self.tables().bytes(slot)
     }
 
     pub fn open_file(&self, number: OpenFileNumber) -> OpenFile {
-        OpenFile::from_words(self.open_files[number.index()])
+        self.tables().open_file(number)
     }
 
     pub fn set_open_file(&mut self, number: OpenFileNumber, open_file: OpenFile) {
@@ -121,7 +158,7 @@ impl<'a> Store<'a> {
     }
 
     pub fn process(&self, number: ProcessNumber) -> Process {
-        Process::from_words(self.processes[number.index()])
+        self.tables().process(number)
     }
 
     pub fn copy_process(&mut self, from: ProcessNumber, to: ProcessNumber) {

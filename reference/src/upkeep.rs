@@ -4,7 +4,6 @@ use crate::directory::{self, BLOCK};
 use crate::numbers::{Descriptor, OpenFileNumber, ProcessNumber, Slot};
 use crate::records::{File, Kind};
 use crate::tables::Store;
-use crate::walk::Found;
 
 impl Store<'_> {
     pub fn lowest_free_slot(&self) -> Option<Slot> {
@@ -35,14 +34,14 @@ impl Store<'_> {
         self.change_file(slot, |file| file.links += 1);
     }
 
-    /// Takes a name out of its directory.
-    pub fn remove_name(&mut self, found: &Found) {
-        directory::clear(self.block_mut(found.parent), found.dirent);
-        self.change_file(found.parent, |directory| {
+    /// Takes the slot's name out of its entry of a directory.
+    pub fn remove_name(&mut self, parent: Slot, dirent: usize, slot: Slot) {
+        directory::clear(self.block_mut(parent), dirent);
+        self.change_file(parent, |directory| {
             directory.length -= 1;
             directory.raise_version();
         });
-        self.change_file(found.slot, |file| file.links -= 1);
+        self.change_file(slot, |file| file.links -= 1);
     }
 
     pub fn add_reference(&mut self, number: OpenFileNumber) {
@@ -63,7 +62,8 @@ impl Store<'_> {
         }
     }
 
-    /// Frees a file, no directory, that has neither links nor open files.
+    /// Frees a file, no directory, that has neither links nor open files. A
+    /// prompt always has its link.
     pub fn free_if_unreachable(&mut self, slot: Slot) {
         if self.file(slot).links == 0 && !self.is_open(slot) {
             self.free(slot);

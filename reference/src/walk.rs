@@ -8,6 +8,7 @@ use crate::path::{self, Path, Target};
 use crate::records::Kind;
 use crate::refusal::{Refusal, Refused};
 use crate::rights::Rights;
+use crate::rom;
 use crate::tables::Store;
 
 /// How many symbolic links one walk may follow.
@@ -28,10 +29,11 @@ impl Reached {
     };
 }
 
-/// A name found in a directory: the directory, its entry and what that names.
+/// A name found in a directory, and what it names.
 pub struct Found {
     pub parent: Slot,
-    pub dirent: usize,
+    /// The entry that holds the name. The names of ROM stand in none.
+    pub dirent: Option<usize>,
     pub slot: Slot,
 }
 
@@ -116,12 +118,30 @@ impl Store<'_> {
 
     fn look_up(&self, caller: Caller, parent: Slot, name: &[u8]) -> Result<Found, Refusal> {
         self.check_directory(caller, parent)?;
+        self.find(parent, name).ok_or(Refusal::NameMissing)
+    }
+
+    /// The name in a directory, if that holds it.
+    #[inline]
+    pub fn find(&self, parent: Slot, name: &[u8]) -> Option<Found> {
+        if parent == Slot::ROM {
+            return self.rom().find(name).map(|slot| Found {
+                parent,
+                dirent: None,
+                slot,
+            });
+        }
         let block = self.block(parent);
-        let dirent = directory::find(block, name).ok_or(Refusal::NameMissing)?;
-        Ok(Found {
+        let dirent = directory::find(block, name);
+        let slot = match dirent {
+            Some(dirent) => directory::slot_at(block, dirent),
+            None if parent == Slot::ROOT && name == rom::NAME => Slot::ROM,
+            None => return None,
+        };
+        Some(Found {
             parent,
             dirent,
-            slot: directory::slot_at(block, dirent),
+            slot,
         })
     }
 

@@ -80,6 +80,77 @@ int main(void) {
   return 0;
 }
 C
+cat >prompts.c <<'C'
+#define _POSIX_C_SOURCE 200809L
+#include "mritvelja_file.h"
+
+static mritvelja_store s;
+
+static const uint8_t *borrow(uint8_t process, uint8_t descriptor, uint32_t count) {
+  mritvelja_borrowed borrowed;
+  const uint8_t *bytes = mritvelja_borrow(&s, process, descriptor, count, &borrowed);
+  if (bytes == NULL)
+    printf("refused %u %u %u %u\n", (unsigned)borrowed.refusal, (unsigned)borrowed.value, (unsigned)borrowed.memory, (unsigned)borrowed.at);
+  else if (borrowed.value == 0)
+    printf("none\n");
+  else
+    printf("%u in %u: %.*s\n", (unsigned)borrowed.value, (unsigned)borrowed.memory, (int)(borrowed.value < 8 ? borrowed.value : 8), (const char *)bytes);
+  return bytes;
+}
+
+static void lent(int is_done) { printf("%d: %u bytes\n", is_done, (unsigned)s.rom_size); }
+
+int main(int count, char **words) {
+  static uint8_t part[523] = "\5\0hello\0\0\0\2";
+  static const uint8_t bad[] = {1};
+  memset(part + 11, 'x', 512);
+  if (count != 3) return 1;
+  lent(mritvelja_load(&s, words[1]) && s.rom != NULL);
+  lent(mritvelja_set_rom(&s, bad, sizeof bad));
+  lent(mritvelja_set_rom(&s, part, sizeof part));
+  mritvelja_open(&s, 2, "/rom/00", MRITVELJA_MODE_READ);
+  mritvelja_open(&s, 2, "/fares/now", MRITVELJA_MODE_READ);
+  mritvelja_open(&s, 2, "/rom/02", MRITVELJA_MODE_READ);
+  mritvelja_open(&s, 1, "/key", MRITVELJA_MODE_WRITE);
+  /* The first part is still held when the second is read, from either memory. */
+  const uint8_t *first = borrow(2, 0, 3), *second = borrow(2, 0, 512);
+  printf("%.3s%.2s %d\n", (const char *)first, (const char *)second, first == part + 2);
+  first = borrow(2, 1, 3), second = borrow(2, 1, 512);
+  printf("%.3s%.2s%d\n", (const char *)first, (const char *)second, first == s.contents + 2 * MRITVELJA_BLOCK);
+  borrow(2, 0, 512);
+  borrow(2, 1, 1);
+  borrow(2, 2, 0);
+  borrow(2, 2, 512);
+  borrow(2, 2, 512);
+  mritvelja_seek(&s, 2, 0, 512);
+  borrow(2, 0, 512);
+  borrow(7, 0, 513);
+  borrow(2, 0, 513);
+  borrow(2, 5, 513);
+  borrow(2, 5, 512);
+  borrow(1, 0, 512);
+  if (!mritvelja_save(&s, words[2])) return 1;
+  lent(mritvelja_load(&s, words[2]));
+  lent(mritvelja_load_with_rom(&s, words[2], part, sizeof part));
+  lent(mritvelja_set_rom(&s, NULL, 0));
+  mritvelja_exit(&s, 2);
+  lent(mritvelja_set_rom(&s, NULL, 0) && s.rom != NULL);
+  s.rom = bad, s.rom_size = sizeof bad;
+  borrow(1, 0, 513);
+  return 0;
+}
+C
+printf '%s\n' '1: 0 bytes' '0: 0 bytes' '1: 523 bytes' '3 in 1: hel' '2 in 1: lo' 'hello 1' '3 in 0: 2.4' '2 in 0: 0' '' 2.40 1 none none none '512 in 1: xxxxxxxx' none none \
+    'refused 2 0 0 0' 'refused 3 0 0 0' 'refused 3 0 0 0' 'refused 4 0 0 0' 'refused 5 0 0 0' '0: 0 bytes' '1: 523 bytes' '0: 523 bytes' '1: 0 bytes' 'refused 1 0 0 0' >c-prompts
+holds "C: prompts compile" gcc -std=c99 "${flags[@]}" -fsanitize=address,undefined -o prompts prompts.c "$root/target/library/libmritvelja.a"
+gives "C: prompts" 0 '' ./prompts console c-prompt-store
+holds "C: prompts: the part, and what is borrowed" cmp out c-prompts
+if command -v g++ >/dev/null; then
+    holds "C++: prompts compile" g++ -x c++ -std=c++11 "${flags[@]}" -o prompts-c++ prompts.c -x none "$root/target/library/libmritvelja.a"
+    gives "C++: prompts" 0 '' ./prompts-c++ console c-prompt-store
+    holds "C++: prompts: the same" cmp out c-prompts
+fi
+
 holds "C: numbers out of range compile" gcc -std=c99 "${flags[@]}" -fsanitize=address,undefined -o numbers numbers.c "$root/target/library/libmritvelja.a"
 gives "C: numbers out of range set nothing" 0 '0 1 4 1 unknown refusal' ./numbers
 

@@ -2,9 +2,9 @@
 # Installed under a prefix: the command, the library by pkg-config, the man page, the completion.
 
 gives "install without a prefix" 2 'usage: tools/install PREFIX' "$root/tools/install"
-gives "install" 0 'install: mritvelja 1.1.0 is installed under' "$root/tools/install" "$directory/the prefix"
+gives "install" 0 'install: mritvelja 2.0.0 is installed under' "$root/tools/install" "$directory/the prefix"
 prefix="$directory/the prefix"
-gives "the command that is installed" 0 'mritvelja 1.1.0' "$prefix/bin/mritvelja" --version
+gives "the command that is installed" 0 'mritvelja 2.0.0' "$prefix/bin/mritvelja" --version
 sed -n '/^```c$/,/^```$/p' "$root/README.md" | grep -v '^```' >readme.c
 holds "the headers and the archive that are installed" gcc -I"$prefix/include" -o readme-static readme.c "$prefix/lib/libmritvelja.a"
 gives "a program with the archive" 0 '4 bytes written' ./readme-static
@@ -13,12 +13,12 @@ if command -v pkg-config >/dev/null; then
     flags=$(PKG_CONFIG_PATH="$prefix/lib/pkgconfig" pkg-config --cflags --libs mritvelja)
     eval "gcc -o readme-shared readme.c $flags" || true
     gives "a program by pkg-config" 0 '4 bytes written' env LD_LIBRARY_PATH="$prefix/lib" ./readme-shared
-    holds "pkg-config knows the version" test "$(PKG_CONFIG_PATH="$prefix/lib/pkgconfig" pkg-config --modversion mritvelja)" = 1.1.0
+    holds "pkg-config knows the version" test "$(PKG_CONFIG_PATH="$prefix/lib/pkgconfig" pkg-config --modversion mritvelja)" = 2.0.0
 else
     gcc -I"$prefix/include" -o readme-shared readme.c -L"$prefix/lib" -lmritvelja
     gives "a program with the shared library" 0 '4 bytes written' env LD_LIBRARY_PATH="$prefix/lib" ./readme-shared
 fi
-holds "the shared library goes by its version" bash -c 'readelf -d readme-shared | grep -q "NEEDED.*libmritvelja.so.1"'
+holds "the shared library goes by its version" bash -c 'readelf -d readme-shared | grep -q "NEEDED.*libmritvelja.so.2"'
 holds "the pkg-config file names the prefix" grep -qxF "prefix=$prefix" "$prefix/lib/pkgconfig/mritvelja.pc"
 
 page="$prefix/share/man/man1/mritvelja.1"
@@ -47,4 +47,5 @@ completes 'make-directory' mritvelja call bus 2 mak
 completes 'remove-directory readlink read' mritvelja call bus 2 re
 completes 'symlink' mritvelja call bus 2 sy
 completes '--empty' mritvelja new --em
+completes '--rom' mritvelja check bus --r
 completes '' mritvelja show bu

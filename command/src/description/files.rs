@@ -6,6 +6,7 @@ use super::line::Line;
 use super::lowest_free;
 use crate::path;
 use crate::ranges::{LAST_GROUP, LAST_LABEL, LAST_USER};
+use crate::rom;
 use crate::text;
 use mritvelja::layout::*;
 use mritvelja::Tables;
@@ -72,6 +73,7 @@ pub fn free(building: &mut Building, line: &mut Line) -> Result<(), String> {
 
 /// The slot of the plain file that a path names.
 pub fn plain_file(tables: &Tables, path: &[u8]) -> Result<usize, String> {
+    require_stored(path)?;
     slot_at(tables, path)
         .filter(|&slot| tables.is_kind(slot, PLAIN))
         .ok_or_else(|| format!("{} is no file of a line before", text::readable(path)))
@@ -153,8 +155,18 @@ fn add_name(tables: &mut Tables, line: &mut Line, slot: usize) -> Result<(), Str
     Ok(())
 }
 
+/// Refuses /rom and what is in it, since no store has that name in its root.
+fn require_stored(path: &[u8]) -> Result<(), String> {
+    let names = path.strip_prefix(b"/").unwrap_or_default();
+    match names.split(|&byte| byte == b'/').next() == Some(rom::NAME) {
+        false => Ok(()),
+        true => Err("/rom is reserved for the factory part, which is in no description".into()),
+    }
+}
+
 /// The directory that is to have a path's last name, and that name.
 fn split<'a>(tables: &Tables, path: &'a [u8]) -> Result<(usize, &'a [u8]), String> {
+    require_stored(path)?;
     let slash = path.iter().rposition(|&byte| byte == b'/');
     let (parent, name) = path.split_at(slash.ok_or("a path begins with a slash")?);
     let name = &name[1..];

@@ -14,6 +14,8 @@ mod writing;
 
 #[cfg(test)]
 mod tests;
+#[cfg(test)]
+mod wrong_lines;
 
 pub use reading::read;
 pub use writing::write;

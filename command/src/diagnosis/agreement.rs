@@ -1,7 +1,7 @@
 //! The diagnosis beside the proved test, on spoilt stores.
 
 use super::first_defect;
-use super::tests::{console_with_link, console_with_open_file, dig};
+use super::tests::{console_with_link, console_with_open_file, console_with_prompts, dig};
 use mritvelja::layout::*;
 use mritvelja::Tables;
 
@@ -18,16 +18,16 @@ impl Chance {
 
     fn word(&mut self) -> u32 {
         [
-            0, 1, 2, 3, 4, 5, 7, 8, 15, 16, 31, 32, 33, 127, 128, 255, 511, 512, 513, 65_535,
-            65_536,
-        ][self.below(21)]
+            0, 1, 2, 3, 4, 5, 7, 8, 15, 16, 31, 32, 33, 127, 128, 130, 131, 143, 144, 255, 511,
+            512, 513, 65_535, 65_536,
+        ][self.below(25)]
     }
 }
 
 /// Sets one word or byte to something else, more often where a store has something.
 fn spoil(tables: &mut Tables, chance: &mut Chance) {
     let word = chance.word();
-    match chance.below(6) {
+    match chance.below(7) {
         0 => tables.files[chance.below(FILE_WIDTH * 20)] = word,
         1 => tables.open_files[chance.below(OPEN_FILE_WIDTH * 3)] = word,
         2 => tables.processes[chance.below(PROCESS_WIDTH * PROCESSES)] = word,
@@ -36,7 +36,21 @@ fn spoil(tables: &mut Tables, chance: &mut Chance) {
             tables.block_mut(chance.below(5))[chance.below(70)] =
                 [word as u8, b'/', b'.', b'x'][chance.below(4)]
         }
+        5 => spoil_rom(&mut tables.rom, word as u8, chance),
         _ => tables.contents[chance.below(SLOTS * BLOCK)] = word as u8,
+    }
+}
+
+fn spoil_rom(rom: &mut Vec<u8>, byte: u8, chance: &mut Chance) {
+    match chance.below(3) {
+        0 => rom.truncate(chance.below(20)),
+        1 => rom.extend(vec![byte; chance.below(30)]),
+        _ => {
+            let at = chance.below(20);
+            if let Some(there) = rom.get_mut(at) {
+                *there = byte;
+            }
+        }
     }
 }
 
@@ -45,10 +59,14 @@ fn the_diagnosis_agrees_with_the_proved_test() {
     let mut chance = Chance(0x9e37_79b9_7f4a_7c15);
     let mut sound = 0;
     for round in 0..20_000 {
-        let mut tables = match round % 3 {
+        let mut tables = match round % 5 {
             0 => console_with_open_file(),
-            _ => console_with_link(),
+            1 | 2 => console_with_link(),
+            _ => console_with_prompts(),
         };
+        if chance.below(20) == 0 {
+            tables.set_dirent(ROOT, chance.below(2), b"rom", 1 + 2 * chance.below(2));
+        }
         if round % 2 == 0 {
             dig(&mut tables, 8);
         }

@@ -7,6 +7,8 @@ use mritvelja::Tables;
 
 const FIRST_MODE: u32 = modes::READ as u32;
 const LAST_MODE: u32 = modes::APPEND as u32;
+/// Past the slots come the prompts, as many as there may be.
+const LAST_PROMPT: u32 = (ROM_FIRST + PROMPTS) as u32 - 1;
 
 pub fn out_of_range(tables: &Tables) -> Option<String> {
     (0..SLOTS)
@@ -45,7 +47,7 @@ fn file(tables: &Tables, slot: usize) -> Option<String> {
 fn open_file(tables: &Tables, number: usize) -> Option<String> {
     let record = tables.open_file(number);
     let ranges = [
-        (OPEN_SLOT, "slot", 0, SLOTS as u32 - 1),
+        (OPEN_SLOT, "slot", 0, LAST_PROMPT),
         (OPEN_MODE, "mode", FIRST_MODE, LAST_MODE),
         (OPEN_OFFSET, "offset", 0, BLOCK as u32),
     ];

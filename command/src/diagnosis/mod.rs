@@ -8,6 +8,7 @@ mod files;
 mod links;
 mod names;
 mod open_files;
+mod rom;
 mod tree;
 mod zeros;
 
@@ -23,7 +24,7 @@ use std::fmt;
 type Clause = fn(&Tables) -> Option<String>;
 
 /// The clauses of "Sound", in the papers' words and order.
-const CLAUSES: [(&str, Clause); 13] = [
+const CLAUSES: [(&str, Clause); 16] = [
     ("all fields in range", fields::out_of_range),
     ("root a directory with no name", tree::root),
     (
@@ -61,6 +62,15 @@ const CLAUSES: [(&str, Clause); 13] = [
         "a link named once, bits 0, a valid path as text, of the record's length, then 0",
         links::not_a_link,
     ),
+    (
+        "no short or overlong part, and no prompt over 512 bytes",
+        rom::not_a_part,
+    ),
+    (
+        "an open entry on a prompt in mode 1 and not past the last prompt",
+        rom::not_open_for_reading,
+    ),
+    ("rom in the root is reserved", rom::stored),
 ];
 
 /// A clause that fails, and where.

@@ -6,7 +6,8 @@ use mritvelja::Tables;
 pub fn not_on_a_plain_file(tables: &Tables) -> Option<String> {
     tables.open_files_in_use().find_map(|open_file| {
         let slot = tables.open_file(open_file)[OPEN_SLOT] as usize;
-        (!tables.is_kind(slot, PLAIN))
+        // Prompts, which are plain files, have a clause of their own.
+        (slot < SLOTS && !tables.is_kind(slot, PLAIN))
             .then(|| format!("open file {open_file}: slot {slot} is no plain file"))
     })
 }

@@ -24,6 +24,14 @@ pub fn console_with_link() -> Tables {
     tables
 }
 
+/// The test console beside three prompts, of which process 2 has prompt 1 open.
+pub fn console_with_prompts() -> Tables {
+    let mut tables = console_with_open_file();
+    tables.rom = b"\x05\0hello\0\0\x01\0x".to_vec();
+    tables.open_file_mut(0)[OPEN_SLOT] = ROM_FIRST as u32 + 1;
+    tables
+}
+
 fn set_text(tables: &mut Tables, text: &[u8]) {
     tables.block_mut(4).fill(0);
     tables.block_mut(4)[..text.len()].copy_from_slice(text);
@@ -51,6 +59,7 @@ fn sound_stores_have_no_defect() {
         test_console(),
         console_with_open_file(),
         console_with_link(),
+        console_with_prompts(),
     ];
     for tables in consoles.into_iter().chain([deep, root]) {
         assert!(mritvelja::sound(&tables));
@@ -89,8 +98,8 @@ fn fields_of_files_out_of_range() {
             t.file_mut(2)[FILE_BITS] = 512
         }),
         (1, "slot 3: label is 16", |t| t.file_mut(3)[FILE_LABEL] = 16),
-        (1, "open file 0: slot is 128", |t| {
-            t.open_file_mut(0)[OPEN_SLOT] = SLOTS as u32
+        (1, "open file 0: slot is 144, not 0 to 143", |t| {
+            t.open_file_mut(0)[OPEN_SLOT] = (ROM_FIRST + PROMPTS) as u32
         }),
         (1, "open file 0: mode is 5, not 1 to 4", |t| {
             t.open_file_mut(0)[OPEN_MODE] = 5
@@ -339,6 +348,46 @@ fn the_texts_of_links() {
             // A record that is longer than its text takes the zeros after it for text.
             (13, "\"now\\x00\" is no name", |t| {
                 t.file_mut(4)[FILE_LENGTH] = 11
+            }),
+        ],
+    );
+}
+
+#[test]
+fn the_factory_part() {
+    assert_defects_of(
+        console_with_prompts,
+        &[
+            (1, "open file 0: offset is 513", |t| {
+                t.open_file_mut(0)[OPEN_OFFSET] = 513
+            }),
+            (
+                14,
+                "prompt 3, which begins at byte 12: expected a length of 2 bytes",
+                |t| t.rom.push(0),
+            ),
+            (14, "prompt 15 ends at byte 38", |t| t.rom.extend([0; 28])),
+            (
+                15,
+                "open file 0: slot 131 is prompt 3, but the factory part has 3 prompts",
+                |t| t.open_file_mut(0)[OPEN_SLOT] = 131,
+            ),
+            (15, "slot 129 is prompt 1, in mode 3, not 1", |t| {
+                t.open_file_mut(0)[OPEN_MODE] = 3
+            }),
+            (
+                15,
+                "slot 129 is prompt 1, but no factory part is given, or an empty one",
+                |t| t.rom.clear(),
+            ),
+            (16, "directory in slot 0, entry 1: it has that name", |t| {
+                t.set_dirent(ROOT, 1, b"rom", 3)
+            }),
+            // An empty part reserves the name too.
+            (16, "directory in slot 0, entry 0: it has that name", |t| {
+                t.rom.clear();
+                t.open_file_mut(0)[OPEN_SLOT] = 2;
+                t.set_dirent(ROOT, 0, b"rom", 1)
             }),
         ],
     );

@@ -67,6 +67,28 @@ mod tests {
     }
 
     #[test]
+    fn prompts_are_shown_where_there_are_any() {
+        let mut tables = test_console();
+        tables.rom = b"\x05\0hello\0\0".to_vec();
+        *tables.open_file_mut(0) = [ROM_FIRST as u32, 1, 3, 1];
+        tables.process_mut(2)[PROCESS_DESCRIPTOR] = 1;
+        tables.set_dirent(ROOT, 1, b"zone", 3);
+        assert!(mritvelja::sound(&tables));
+        let lines = lines(&tables);
+        assert_eq!(lines[0], "Files, 4 of 128 slots in use, and 2 prompts:");
+        for (line, expected) in lines[4..].iter().zip([
+            "/rom: directory, no slot, owner 0, group 0, bits 365 (owner read execute, group read execute, others read execute), label 0, length 2, links 1, version 0",
+            "/rom/00: plain file, slot 128, owner 0, group 0, bits 292 (owner read, group read, others read), label 0, length 5, links 1, version 0",
+            "/rom/01: plain file, slot 129, owner 0, group 0, bits 292 (owner read, group read, others read), label 0, length 0, links 1, version 0",
+        ]) {
+            assert_eq!(line, expected);
+        }
+        assert!(lines[7].starts_with("/zone: plain file, slot 3, "));
+        let open = "Open file 0: slot 128, /rom/00; mode 1 (read), offset 3, references 1";
+        assert!(lines.iter().any(|line| line == open), "{lines:#?}");
+    }
+
+    #[test]
     fn what_is_open_and_what_has_no_name_is_shown() {
         let mut tables = test_console();
         *tables.file_mut(4) = [PLAIN, 20, 30, 0o061, 1, 2, 0, 9];

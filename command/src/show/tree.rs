@@ -2,11 +2,13 @@
 
 use super::part;
 use crate::bits;
+use crate::seen::{self, ROM};
 use crate::text;
 use mritvelja::layout::*;
 use mritvelja::Tables;
 
-/// Every path of the tree with its slot: a directory, then what it names in byte order.
+/// Every path of the tree with its slot: a directory, then what it names in byte order. /rom is
+/// among them where it has prompts.
 pub fn paths(tables: &Tables) -> Vec<(String, usize)> {
     let mut paths = vec![("/".into(), ROOT)];
     add_names(tables, ROOT, "", &mut paths);
@@ -14,16 +16,13 @@ pub fn paths(tables: &Tables) -> Vec<(String, usize)> {
 }
 
 fn add_names(tables: &Tables, directory: usize, prefix: &str, paths: &mut Vec<(String, usize)>) {
-    let mut entries: Vec<usize> = tables.dirents_in_use(directory).collect();
-    entries.sort_by_key(|&entry| tables.dirent_name(directory, entry));
-    for entry in entries {
-        let slot = tables.dirent_slot(directory, entry);
-        let path = format!(
-            "{prefix}/{}",
-            text::readable(tables.dirent_name(directory, entry))
-        );
+    for (name, slot) in seen::names(tables, directory) {
+        if slot == ROM && tables.rom.is_empty() {
+            continue;
+        }
+        let path = format!("{prefix}/{}", text::readable(&name));
         paths.push((path.clone(), slot));
-        if tables.is_kind(slot, DIRECTORY) {
+        if seen::is_kind(tables, slot, DIRECTORY) {
             add_names(tables, slot, &path, paths);
         }
     }
@@ -33,10 +32,18 @@ pub fn lines(tables: &Tables, paths: &[(String, usize)]) -> Vec<String> {
     let used = (0..SLOTS)
         .filter(|&slot| !tables.is_kind(slot, FREE))
         .count();
-    let heading = format!("Files, {used} of {SLOTS} slots in use");
-    let lines = paths.iter().map(|(path, slot)| {
-        let (what, fields) = (what(tables, *slot), fields(tables.file(*slot)));
-        format!("{path}: {what}, slot {slot}, {fields}")
+    let prompts = match seen::names(tables, ROM).len() {
+        0 => String::new(),
+        count => format!(", and {}", text::count(count as u64, "prompt", "prompts")),
+    };
+    let heading = format!("Files, {used} of {SLOTS} slots in use{prompts}");
+    let lines = paths.iter().map(|&(ref path, slot)| {
+        let number = match slot {
+            ROM => "no slot".into(),
+            _ => format!("slot {slot}"),
+        };
+        let (what, fields) = (what(tables, slot), fields(&seen::record(tables, slot)));
+        format!("{path}: {what}, {number}, {fields}")
     });
     part(&heading, lines.collect())
 }
@@ -51,8 +58,8 @@ pub fn unnamed_lines(tables: &Tables) -> Vec<String> {
 
 /// What a slot has in it: its kind, and of a link where it leads.
 fn what(tables: &Tables, slot: usize) -> String {
-    let kind = kind(tables.file(slot));
-    match tables.is_kind(slot, LINK) {
+    let kind = kind(&seen::record(tables, slot));
+    match seen::is_kind(tables, slot, LINK) {
         true => format!("{kind} to {}", text::readable(tables.bytes(slot))),
         false => kind.into(),
     }

@@ -18,6 +18,7 @@ pub extern "C" fn mritvelja_act(
     open_files: &mut [u32],
     processes: &mut [u32],
     policy: &[u8],
+    rom: &[u8],
     process: u8,
     call: u8,
     descriptor: u8,
@@ -26,7 +27,7 @@ pub extern "C" fn mritvelja_act(
     data: &[u8],
     buffer: &mut [u8],
 ) -> Answer
-    ensures { λ r. ⌜ lent r (now (buffer .exit)) (store (now (files .exit)) (now (contents .exit)) (now («open_files» .exit)) (now (processes .exit))) ≡ lentOf (act (fixed (now (policy .entry))) (store (now (files .entry)) (now (contents .entry)) (now («open_files» .entry)) (now (processes .entry))) (numbered process call descriptor number (now (path .entry)) (now («data» .entry)) (now (buffer .entry)))) ⌝ }
+    ensures { λ r. ⌜ lent r (now (buffer .exit)) (store (now (files .exit)) (now (contents .exit)) (now («open_files» .exit)) (now (processes .exit))) ≡ lentOf (act (fixed (now (policy .entry)) (now (rom .entry))) (store (now (files .entry)) (now (contents .entry)) (now («open_files» .entry)) (now (processes .entry))) (numbered process call descriptor number (now (path .entry)) (now («data» .entry)) (now (buffer .entry)))) ⌝ }
 {
     store::call::act(
         files,
@@ -34,6 +35,7 @@ pub extern "C" fn mritvelja_act(
         open_files,
         processes,
         policy,
+        rom,
         Request {
             process: Pid(process),
             call: call,

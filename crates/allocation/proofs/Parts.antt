@@ -1,5 +1,5 @@
 -- A scan for a free record finds the same in the part of the table that it looks at.
-use mathlib.Core.Path.{_≡_, refl, _∙_, ap}
+use mathlib.Core.Path.{_≡_, refl, sym, _∙_, ap}
 use mathlib.Core.Bool.{Bool, true, false, cond}
 use mathlib.Core.List.{List}
 use Prim.Native.Nat.{ℕ, suc, _+_, _*_, _<_, _≤_}
@@ -11,11 +11,13 @@ use lib.ListN.{getD, take}
 use lib.Seq.{getD-take}
 use Rattle.rules.specs.Layout.{FILE-WIDTH, FILE-KIND, FREE, SLOTS, OPEN-FILE-WIDTH, OPEN-REFERENCES, OPEN-FILES}
 use Rattle.rules.specs.Scan.{first}
-use Rattle.rules.proofs.Scans.{first-same}
 use Rattle.rules.specs.Store.{tab, slot, ofdOf}
+use Rattle.rules.specs.Rom.{filesIn}
 use Rattle.rules.specs.Checks.{slotFree, ofdFree, freeSlot, freeOfd}
 use Rattle.rules.specs.declared.ids.Slot.{Slot}
 use Rattle.rules.specs.declared.ids.Ofd.{Ofd}
+use Rattle.rules.proofs.Scans.{first-same}
+use Rattle.rules.proofs.Seen.{free-slot-seen}
 
 -- the first n records of w words, taken alone
 module _ (w n : ℕ) (T : List ℕ) where
@@ -35,9 +37,13 @@ module _ (w n : ℕ) (T : List ℕ) where
   part-first : (k : ℕ) (t : ℕ → Bool) → first (λ i. t (tab w part i k)) 0 n ≡ first (λ i. t (tab w T i k)) 0 n
   part-first k t = first-same (λ i. t (tab w part i k)) (λ i. t (tab w T i k)) n (λ i l. ap t (part-at i k l))
 
-pub slot-part : (F : List ℕ) (r : Slot) → r ≡ freeSlot (tab FILE-WIDTH (part FILE-WIDTH SLOTS F)) → r ≡ freeSlot (tab FILE-WIDTH F)
+-- and in what is stored the same as in what is seen
+pub slot-all : (F : List ℕ) (r : Slot) → r ≡ freeSlot (tab FILE-WIDTH F) → r ≡ freeSlot (filesIn F)
+slot-all F r e = e ∙ sym (free-slot-seen (tab FILE-WIDTH F))
+
+pub slot-part : (F : List ℕ) (r : Slot) → r ≡ freeSlot (tab FILE-WIDTH (part FILE-WIDTH SLOTS F)) → r ≡ freeSlot (filesIn F)
 unfolding slotFree
-slot-part F r e = e ∙ ap slot (part-first FILE-WIDTH SLOTS F FILE-KIND (λ v. eqb v FREE))
+slot-part F r e = slot-all F r (e ∙ ap slot (part-first FILE-WIDTH SLOTS F FILE-KIND (λ v. eqb v FREE)))
 
 pub ofd-part : (O : List ℕ) (r : Ofd) → r ≡ freeOfd (tab OPEN-FILE-WIDTH (part OPEN-FILE-WIDTH OPEN-FILES O)) → r ≡ freeOfd (tab OPEN-FILE-WIDTH O)
 unfolding ofdFree

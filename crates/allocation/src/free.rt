@@ -2,6 +2,7 @@
 ghost use mathlib.Core.Path.{_≡_};
 ghost use Rattle.rules.specs.Layout.{FILE-WIDTH, OPEN-FILE-WIDTH};
 ghost use Rattle.rules.specs.Store.{tab, procOf, descOf};
+ghost use Rattle.rules.specs.Rom.{filesIn};
 ghost use Rattle.rules.specs.Checks.{slotFree, ofdFree, pidFree, freeSlot, freeOfd, freeFd, freePid};
 use crate::used::used_descriptors;
 use rules::ids::Fd;
@@ -34,9 +35,10 @@ fn first_free_slot(files: &[u32]) -> Slot
     Slot(SLOTS)
 }
 
-// A table that is whole is handed on at its known length: no slot is then tested against its end.
+// A table that is whole is handed on at its known length: no slot is then tested against its end. Only what is stored is looked at: the factory part's
+// files have no slot.
 pub fn free_slot(files: &[u32]) -> Slot
-    ensures { λ r. ⌜ r ≡ freeSlot (tab FILE-WIDTH (now (files .entry))) ⌝ }
+    ensures { λ r. ⌜ r ≡ freeSlot (filesIn (now (files .entry))) ⌝ }
 {
     if FILES_SIZE <= files.len() {
         return first_free_slot(&files[0..FILES_SIZE]);

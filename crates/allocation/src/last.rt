@@ -1,8 +1,9 @@
 // Whether an open file is a slot's last, and the record of a slot that goes.
 ghost use mathlib.Core.Path.{_≡_};
 ghost use mathlib.Core.Bool.{not};
-ghost use Rattle.rules.specs.Layout.{FILE-WIDTH, OPEN-FILE-WIDTH};
+ghost use Rattle.rules.specs.Layout.{OPEN-FILE-WIDTH};
 ghost use Rattle.rules.specs.Store.{tab, openBut};
+ghost use Rattle.rules.specs.Rom.{filesIn};
 ghost use Rattle.rules.specs.Checks.{freed};
 use rules::decision::Record;
 use rules::ids::Ofd;
@@ -21,7 +22,7 @@ pub fn none_but(open_files: &[u32], x: Ofd, s: Slot) -> bool
 
 // The record of slot s once it is freed.
 pub fn freed_record(files: &[u32], s: Slot) -> Record
-    ensures { λ r. ⌜ r ≡ freed (tab FILE-WIDTH (now (files .entry))) s ⌝ }
+    ensures { λ r. ⌜ r ≡ freed (filesIn (now (files .entry))) s ⌝ }
 {
     Record {
         kind: FREE,
@@ -31,6 +32,6 @@ pub fn freed_record(files: &[u32], s: Slot) -> Record
         label: 0,
         length: 0,
         links: 0,
-        version: up_one(tables::files::version(files, s)),
+        version: up_one(rom::seen::version(files, s)),
     }
 }

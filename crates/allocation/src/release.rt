@@ -5,8 +5,9 @@ ghost use mathlib.Core.List.{[], _∷_};
 ghost use Prim.Native.Nat.{_-_};
 ghost use lib.Dec.{eqb, ltb};
 ghost use Rattle.rules.specs.Choice.{every};
-ghost use Rattle.rules.specs.Layout.{FILE-WIDTH, OPEN-FILE-WIDTH, FILE-LINKS, OPEN-SLOT, OPEN-REFERENCES};
-ghost use Rattle.rules.specs.Store.{tab, descOf, slot, openBut};
+ghost use Rattle.rules.specs.Layout.{OPEN-FILE-WIDTH, FILE-LINKS, OPEN-SLOT, OPEN-REFERENCES};
+ghost use Rattle.rules.specs.Store.{tab, descOf, slot, isSlot, openBut};
+ghost use Rattle.rules.specs.Rom.{filesIn};
 ghost use Rattle.rules.specs.Checks.{ofdHeld, freed, closing, dropping, releasing};
 ghost use Rattle.rules.specs.declared.decision.Release.the-variants as release;
 use crate::held::is_held;
@@ -18,20 +19,24 @@ use rules::ids::Fd;
 use rules::ids::Ofd;
 use rules::ids::Pid;
 use rules::ids::Slot;
+use tables::ids::is_slot;
 use tables::numbers::down_one;
 use tables::open_files::references;
 use tables::open_files::slot_of;
 
 fn has_no_links(files: &[u32], s: Slot) -> bool
-    ensures { λ r. ⌜ r ≡ eqb (tab FILE-WIDTH (now (files .entry)) (s .0) FILE-LINKS) 0 ⌝ }
+    ensures { λ r. ⌜ r ≡ eqb (filesIn (now (files .entry)) (s .0) FILE-LINKS) 0 ⌝ }
 {
-    tables::files::links(files, s) == 0
+    rom::seen::links(files, s) == 0
 }
 
-// The file goes with open file e: no name, and no other open file.
+// The file goes with open file e: it is of the store, and has no name and no other open file.
 fn file_goes(files: &[u32], open_files: &[u32], e: Ofd, s: Slot) -> bool
-    ensures { λ r. ⌜ r ≡ every (eqb (tab FILE-WIDTH (now (files .entry)) (s .0) FILE-LINKS) 0 ∷ not (openBut (tab OPEN-FILE-WIDTH (now («open_files» .entry))) e s) ∷ []) ⌝ }
+    ensures { λ r. ⌜ r ≡ every (isSlot s ∷ eqb (filesIn (now (files .entry)) (s .0) FILE-LINKS) 0 ∷ not (openBut (tab OPEN-FILE-WIDTH (now («open_files» .entry))) e s) ∷ []) ⌝ }
 {
+    if !is_slot(s) {
+        return false;
+    }
     if !has_no_links(files, s) {
         return false;
     }
@@ -39,14 +44,14 @@ fn file_goes(files: &[u32], open_files: &[u32], e: Ofd, s: Slot) -> bool
 }
 
 fn freed_with(files: &[u32], e: Ofd, s: Slot) -> Release
-    ensures { λ r. ⌜ r ≡ release.Freed e s (freed (tab FILE-WIDTH (now (files .entry))) s) ⌝ }
+    ensures { λ r. ⌜ r ≡ release.Freed e s (freed (filesIn (now (files .entry))) s) ⌝ }
 {
     Release::Freed(e, s, freed_record(files, s))
 }
 
 // Open file e on slot s goes.
 fn close_last(files: &[u32], open_files: &[u32], e: Ofd, s: Slot) -> Release
-    ensures { λ r. ⌜ r ≡ closing (tab FILE-WIDTH (now (files .entry))) (tab OPEN-FILE-WIDTH (now («open_files» .entry))) e s ⌝ }
+    ensures { λ r. ⌜ r ≡ closing (filesIn (now (files .entry))) (tab OPEN-FILE-WIDTH (now («open_files» .entry))) e s ⌝ }
 {
     if file_goes(files, open_files, e, s) {
         return freed_with(files, e, s);
@@ -55,7 +60,7 @@ fn close_last(files: &[u32], open_files: &[u32], e: Ofd, s: Slot) -> Release
 }
 
 fn close_last_of(files: &[u32], open_files: &[u32], e: Ofd) -> Release
-    ensures { λ r. ⌜ r ≡ closing (tab FILE-WIDTH (now (files .entry))) (tab OPEN-FILE-WIDTH (now («open_files» .entry))) e (slot (tab OPEN-FILE-WIDTH (now («open_files» .entry)) (e .0) OPEN-SLOT)) ⌝ }
+    ensures { λ r. ⌜ r ≡ closing (filesIn (now (files .entry))) (tab OPEN-FILE-WIDTH (now («open_files» .entry))) e (slot (tab OPEN-FILE-WIDTH (now («open_files» .entry)) (e .0) OPEN-SLOT)) ⌝ }
 {
     close_last(files, open_files, e, slot_of(open_files, e))
 }
@@ -74,7 +79,7 @@ fn kept_one_less(open_files: &[u32], e: Ofd) -> Release
 
 // Open file e loses a reference.
 fn drop_one(files: &[u32], open_files: &[u32], e: Ofd) -> Release
-    ensures { λ r. ⌜ r ≡ dropping (tab FILE-WIDTH (now (files .entry))) (tab OPEN-FILE-WIDTH (now («open_files» .entry))) e ⌝ }
+    ensures { λ r. ⌜ r ≡ dropping (filesIn (now (files .entry))) (tab OPEN-FILE-WIDTH (now («open_files» .entry))) e ⌝ }
 {
     if has_more(open_files, e) {
         return kept_one_less(open_files, e);
@@ -83,14 +88,14 @@ fn drop_one(files: &[u32], open_files: &[u32], e: Ofd) -> Release
 }
 
 fn drop_held(files: &[u32], open_files: &[u32], processes: &[u32], p: Pid, i: Fd) -> Release
-    ensures { λ r. ⌜ r ≡ dropping (tab FILE-WIDTH (now (files .entry))) (tab OPEN-FILE-WIDTH (now («open_files» .entry))) (ofdHeld (descOf (now (processes .entry))) p i) ⌝ }
+    ensures { λ r. ⌜ r ≡ dropping (filesIn (now (files .entry))) (tab OPEN-FILE-WIDTH (now («open_files» .entry))) (ofdHeld (descOf (now (processes .entry))) p i) ⌝ }
 {
     drop_one(files, open_files, ofd_held(processes, p, i))
 }
 
 // Descriptor i is emptied.
 pub fn release(files: &[u32], open_files: &[u32], processes: &[u32], p: Pid, i: Fd) -> Release
-    ensures { λ r. ⌜ r ≡ releasing (tab FILE-WIDTH (now (files .entry))) (tab OPEN-FILE-WIDTH (now («open_files» .entry))) (descOf (now (processes .entry))) p i ⌝ }
+    ensures { λ r. ⌜ r ≡ releasing (filesIn (now (files .entry))) (tab OPEN-FILE-WIDTH (now («open_files» .entry))) (descOf (now (processes .entry))) p i ⌝ }
 {
     if is_held(processes, p, i) {
         return drop_held(files, open_files, processes, p, i);

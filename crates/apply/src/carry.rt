@@ -48,7 +48,7 @@ fn holds_nothing(processes: &[u32], p: Pid, i: Fd) -> bool
         == 0
 }
 
-// One descriptor of a process that ends.
+// One descriptor of a process that ends. What it frees is of the store, so that it is decided alike on what is seen and on what is stored.
 fn release_held(
     files: &mut [u32],
     contents: &mut [u8],

@@ -7,7 +7,7 @@ use Rattle.rules.specs.Sound.{policySound}
 use Rattle.rules.specs.Console.{console, consoleFixed, consolePolicy}
 use Rattle.cases.specs.Rows.{Row, withAll, same, sameNumbers, sameOut, sameReply, sameSlots, sameStore, rowHolds, holds}
 use Rattle.cases.specs.Table.{AllCases, table, line-1, line-1-slashes, line-2, line-3, line-4, line-5, line-6, line-7, line-8, line-9}
-use Rattle.cases.proofs.Quick.{quick, quickSound, sound-of}
+use Rattle.cases.proofs.Quick.{quick, quickSound, no-prompts, sound-of}
 use Rattle.cases.proofs.Lines.{needed, onward, check, more}
 
 -- opens all that a row computes with
@@ -19,7 +19,7 @@ pub policy-sound : policySound consolePolicy ≡ true
 unfolding computed
 policy-sound = refl
 
-pub console-sound : quickSound console ≡ true
+pub console-sound : quickSound [] console ≡ true
 unfolding computed
 console-sound = refl
 
@@ -64,7 +64,7 @@ unfolding computed line-9
 line-9-checked = refl
 
 fresh : (l : List Row) (ls : List (List Row)) → check console l ≡ true → holds ls ≡ true → holds (l ∷ ls) ≡ true
-fresh l ls h rest = more policy-sound l ls (sound-of consoleFixed policy-sound console console-sound) h rest
+fresh l ls h rest = more policy-sound l ls (sound-of consoleFixed policy-sound no-prompts console console-sound) h rest
 
 -- the end of the table
 none : holds [] ≡ true

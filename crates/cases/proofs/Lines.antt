@@ -12,7 +12,7 @@ use Rattle.rules.specs.Step.{Outcome, act}
 use Rattle.rules.specs.Console.{console, consoleFixed, consolePolicy}
 use Rattle.rules.proofs.Tests.{test}
 use Rattle.cases.specs.Rows.{Now, Row, withAll, same, sameSlots, sameStore, rowHolds, lineHolds, holds}
-use Rattle.cases.proofs.Quick.{quickSound, both-pass, sound-of, step-act}
+use Rattle.cases.proofs.Quick.{quickSound, both-pass, no-prompts, sound-of, step-act}
 
 -- a test that is needed only if rows follow
 unfoldable pub needed : List Row → Bool → Bool
@@ -22,7 +22,7 @@ needed (r ∷ rs) b = b
 -- what follows a row: on the store before it if it leaves that as it is, else on the store after it, which is tested
 unfoldable pub onward : List Now → List Row → (before after : Store) → (Store → Bool) → Bool
 onward [] rs before after next = next before
-onward (n ∷ ns) rs before after next = every (needed rs (quickSound after) ∷ next after ∷ [])
+onward (n ∷ ns) rs before after next = every (needed rs (quickSound [] after) ∷ next after ∷ [])
 
 unfoldable pub check : Store → List Row → Bool
 check s [] = true
@@ -64,10 +64,10 @@ unfolding rowHolds withAll
 left-alone s x r e h = same-store (x .store) s (rw e at (test 1 _ h))
 
 module _ (policy : policySound consolePolicy ≡ true) where
-  needed-sound : (rs : List Row) (s : Store) → needed rs (quickSound s) ≡ true → needed rs (sound consoleFixed s) ≡ true
+  needed-sound : (rs : List Row) (s : Store) → needed rs (quickSound [] s) ≡ true → needed rs (sound consoleFixed s) ≡ true
   unfolding needed
   needed-sound [] s e = refl
-  needed-sound (r ∷ rs) s e = sound-of consoleFixed policy s e
+  needed-sound (r ∷ rs) s e = sound-of consoleFixed policy no-prompts s e
 
   -- after a row
   onward-holds :

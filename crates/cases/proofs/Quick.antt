@@ -15,11 +15,12 @@ use Rattle.rules.specs.Choice.{every}
 use Rattle.rules.specs.Scan.{turns, fold, all, count, total}
 use Rattle.rules.specs.Layout.{SLOTS, BLOCK, DIRENTS, OPEN-FILES, PROCESSES, FILE-WIDTH, FILE-LINKS, OPEN-FILE-WIDTH}
 use Rattle.rules.specs.Directories.{direntSlot}
+use Rattle.rules.specs.Rom.{romSound, promptsSound}
 use Rattle.rules.specs.Walk.{isDirectory}
 use Rattle.rules.specs.Store.{Store, Fixed, Tree, View, view, slot, block, tab, procOf, descOf, hidden, shownOf, Table}
 use Rattle.rules.specs.Calls.{Call}
 use Rattle.rules.specs.Step.{act, step}
-use Rattle.rules.specs.Sound.{sound, policySound, storeSound, slotsSized, sizesSound, treeSound, tablesSound, recordSound, linksAt, linksFrom, linksTo, linksSound, kindSound, slotSound, openSound, procSound}
+use Rattle.rules.specs.Sound.{sound, policySound, storeSound, slotsSized, sizesSound, treeSound, tablesSound, recordSound, linksAt, linksFrom, linksTo, linksSound, kindSound, slotSound, openSound, opensWithin, procSound, romAbsent}
 use Rattle.rules.proofs.Tests.{test}
 
 -- the contents cut into n blocks, each bound by a `let`, which is computed when it is asked for, and then once
@@ -32,7 +33,7 @@ quickShown F C = let bs = cut SLOTS C in λ s. drop (hidden F s) (getD bs s [])
 
 -- the view of a store, but for what it shows
 abbrev showing : Store → (ℕ → List ℕ) → View
-showing s shown = record { tree = record { file = tab FILE-WIDTH (s .files); shown = shown }; openFiles = tab OPEN-FILE-WIDTH (s .openFiles); proc = procOf (s .processes); desc = descOf (s .processes) }
+showing s shown = record { tree = record { file = tab FILE-WIDTH (s .files); shown = shown; dirents = shown }; openFiles = tab OPEN-FILE-WIDTH (s .openFiles); proc = procOf (s .processes); desc = descOf (s .processes) }
 
 abbrev quickView : Store → View
 quickView s = showing s (quickShown (s .files) (s .contents))
@@ -59,15 +60,15 @@ unfoldable pub quickSlot : Tree → (openFiles : Table) → List ℕ → ℕ →
 quickSlot t openFiles ns s = every (recordSound (t .file) s ∷ quickLinks t ns s ∷ kindSound t openFiles s ∷ [])
 
 unfoldable pub quickTree : Tree → (openFiles : Table) → Bool
-quickTree t openFiles = let ns = named t 0 SLOTS in every (isDirectory (t .file) (slot 0) ∷ all (quickSlot t openFiles ns) 0 SLOTS ∷ [])
+quickTree t openFiles = let ns = named t 0 SLOTS in every (isDirectory (t .file) (slot 0) ∷ romAbsent (t .shown 0) ∷ all (quickSlot t openFiles ns) 0 SLOTS ∷ [])
 
 unfoldable pub quickTables : View → Bool
 quickTables v =
     every (quickTree (v .tree) (v .openFiles)
     ∷ all (openSound (v .tree .file) (v .openFiles) (v .desc)) 0 OPEN-FILES ∷ all (procSound (v .proc) (v .desc)) 0 PROCESSES ∷ [])
 
-unfoldable pub quickSound : Store → Bool
-quickSound s = cond (sizesSound s) (quickTables (quickView s)) false
+unfoldable pub quickSound : (R : List ℕ) → Store → Bool
+quickSound R s = cond (sizesSound s) (every (quickTables (quickView s) ∷ opensWithin R (quickView s .openFiles) ∷ [])) false
 
 -- opens all of it, for proofs by computation
 unfoldable pub quick : Bool
@@ -156,23 +157,29 @@ contents-size : (s : Store) → sizesSound s ≡ true → length (s .contents) �
 unfolding sizesSound slotsSized
 contents-size s e = eqb-true _ _ (test 1 _ (test 0 _ e))
 
-pub quick-sound : (s : Store) → quickSound s ≡ storeSound s
+pub quick-sound : (R : List ℕ) (s : Store) → quickSound R s ≡ storeSound R s
 unfolding quickSound storeSound
-quick-sound s = by (sizesSound s) refl
+quick-sound R s = by (sizesSound s) refl
   where
-    by : (b : Bool) → sizesSound s ≡ b → cond b (quickTables (quickView s)) false ≡ cond b (tablesSound (view s)) false
-    by true e = tables-same (quickView s) ∙ ap tablesSound (view-same s (contents-size s e))
+    by :
+        (b : Bool) → sizesSound s ≡ b →
+        cond b (every (quickTables (quickView s) ∷ opensWithin R (quickView s .openFiles) ∷ [])) false ≡ cond b (every (tablesSound (view s) ∷ opensWithin R (view s .openFiles) ∷ [])) false
+    by true e = rw (tables-same (quickView s)) (ap (λ (v : View). every (tablesSound v ∷ opensWithin R (v .openFiles) ∷ [])) (view-same s (contents-size s e)))
     by false e = refl
 
--- ---- a store that passes is sound where the policy is, and a call on it needs no other test
+-- ---- a store that passes is sound where policy and factory part are, and a call on it needs no other test
 
 pub both-pass : {a b : Bool} → a ≡ true → b ≡ true → every (a ∷ b ∷ []) ≡ true
 unfolding every
 both-pass p q = rw (p, q)
 
-pub sound-of : (K : Fixed) → policySound (K .policy) ≡ true → (s : Store) → quickSound s ≡ true → sound K s ≡ true
-unfolding sound
-sound-of K policy s e = both-pass policy (sym (quick-sound s) ∙ e)
+pub no-prompts : romSound [] ≡ true
+unfolding promptsSound
+no-prompts = refl
+
+pub sound-of : (K : Fixed) → policySound (K .policy) ≡ true → romSound (K .rom) ≡ true → (s : Store) → quickSound (K .rom) s ≡ true → sound K s ≡ true
+unfolding sound every
+sound-of K policy rom s e = rw (policy, rom, ← quick-sound (K .rom) s, e)
 
 pub step-act : (K : Fixed) (s : Store) (c : Call) → sound K s ≡ true → step K s c ≡ act K s c
 unfolding step

@@ -11,7 +11,7 @@ use lib.ListN.{length, take, replicate, length-replicate}
 use lib.Seq.{sets}
 use Rattle.rules.specs.Choice.{every}
 use Rattle.rules.specs.Layout.{BLOCK}
-use Rattle.rules.specs.Store.{store}
+use Rattle.rules.specs.Store.{store, fixed}
 use Rattle.rules.specs.Calls.{Call, callOf}
 use Rattle.rules.specs.Step.{step}
 use Rattle.rules.specs.declared.answer.Answer.{Answer}
@@ -19,7 +19,7 @@ use Rattle.store.specs.Lent.{Lent, lent, lentOf}
 use Rattle.console.specs.Words.{isNot, past, wordOf, indexOf}
 use Rattle.console.specs.Numbers.{numberIn}
 use Rattle.console.specs.Texts.{textBytes, textLength}
-use Rattle.console.specs.Settings.{tables, withKnown}
+use Rattle.console.specs.Settings.{tables, partOf, withKnown}
 use Rattle.console.specs.declared.settings.Console.{Console}
 use Rattle.console.specs.declared.calls.Parsed.{Parsed}
 use Rattle.console.specs.Calls.{CALLS, PATH, DATA, callNumber, partsOf, partAt, placeOf, partLength, partBytes, partPlace, requestIn, bufferSize, fits, isCall, parsed, callIn, outcomeOn, calledTables, lineCalled}
@@ -109,11 +109,15 @@ module _ (l : List ℕ) (e : isCall l ≡ true) where
 
 -- ---- the tables after the line
 
-pub tables-after : (s : Console) (c : Call) {a : Answer} {b F C E P : List ℕ} → lent a b (store F C E P) ≡ lentOf (outcomeOn s c)
-    → (tables true F C E P (s .policy) ≡ calledTables s c) × (b ≡ outcomeOn s c .reply .buffer)
+pub tables-after : (s : Console) (c : Call) {R : List ℕ} → R ≡ partOf s → {a : Answer} {b F C E P : List ℕ}
+    → lent a b (store F C E P) ≡ lentOf (step (fixed (s .policy) R) (store (s .files) (s .contents) (s .«open_files») (s .processes)) c)
+    → (tables true F C E P (s .policy) (s .rom) (s .«rom_size») ≡ calledTables s c) × (b ≡ outcomeOn s c .reply .buffer)
 unfolding calledTables
-tables-after s c h =
-    (ap (λ (l : Lent). tables true (l .store .files) (l .store .contents) (l .store .openFiles) (l .store .processes) (s .policy)) h, ap (λ (l : Lent). l .buffer) h)
+tables-after s c {R} q {a} {b} {F} {C} {E} {P} h =
+    let k : lent a b (store F C E P) ≡ lentOf (outcomeOn s c) = rw q at h in (
+      ap (λ (l : Lent). tables true (l .store .files) (l .store .contents) (l .store .openFiles) (l .store .processes) (s .policy) (s .rom) (s .«rom_size»)) k,
+      ap (λ (l : Lent). l .buffer) k,
+    )
 
 module _ (l : List ℕ) (s : Console) {z : Parsed} (p : z ≡ parsed l) where
   known : {t : Bool} → z .known ≡ t → isCall l ≡ t

@@ -1,5 +1,5 @@
 -- Laws of the lines that set tables.
-use Prim.Native.Nat.{ℕ, suc, _+_, _-_, _≤_, _<_}
+use Prim.Native.Nat.{ℕ, suc, _+_, _-_, _*_, _≤_, _<_}
 use mathlib.Core.Path.{_≡_, refl, sym, _∙_}
 use mathlib.Core.Bool.{Bool, true, false, cond}
 use mathlib.Core.List.{List, []}
@@ -16,7 +16,7 @@ use Rattle.rules.proofs.Lists.{sets-out}
 use Rattle.console.specs.Words.{lineAt, nextLine, wordOf}
 use Rattle.console.specs.Numbers.{NO-NUMBER, numberIn}
 use Rattle.console.specs.Texts.{NO-TEXT, wholeIn, textBytes, textLength}
-use Rattle.console.specs.Settings.{withKnown, isNumberAt, withNumber, textFits, bytesSet, lineSet, headSet, emptyTables, freshTables}
+use Rattle.console.specs.Settings.{withKnown, numberAt, isNumberAt, withNumber, textFits, bytesSet, romPut, romSet, lineSet, headSet, emptyTables, freshTables}
 use Rattle.console.specs.declared.settings.Console.{Console}
 
 -- ---- the numbers of a line: those before word k are stored, the last at a - 1
@@ -61,15 +61,29 @@ module _ (l X : List ℕ) (at : ℕ) {w : List ℕ} (p : w ≡ wordOf l 4) {n : 
   unfolding textFits
   fits = rw (q, p)
 
-  pub text-set : {T : List ℕ} → T ≡ sets (replicate BLOCK 0) 0 (textBytes w) → leb n BLOCK ≡ true → {h : List ℕ} → h ≡ take n T → {Z : List ℕ} → Z ≡ sets X at h
-      → (leb n BLOCK ≡ textFits l) × (Z ≡ bytesSet l at X)
-  text-set t e f z =
+  text-read : {T : List ℕ} → T ≡ sets (replicate BLOCK 0) 0 (textBytes w) → leb n BLOCK ≡ true → {h : List ℕ} → h ≡ take n T → h ≡ textBytes (wordOf l 4)
+  text-read t e f =
       let k : textLength w ≤ BLOCK = rw q at (leb-true n BLOCK e) in
       let m : length (textBytes w) ≤ length {A = ℕ} (replicate BLOCK 0) = rw (length-replicate, ← shown w k) k in
-      (fits, rw (← fits, e) (z ∙ rw (f, t, q, shown w k, front (textBytes w) (replicate BLOCK 0) m, p)))
+      rw (f, t, q, shown w k, front (textBytes w) (replicate BLOCK 0) m, p)
+
+  pub text-set : {T : List ℕ} → T ≡ sets (replicate BLOCK 0) 0 (textBytes w) → leb n BLOCK ≡ true → {h : List ℕ} → h ≡ take n T → {Z : List ℕ} → Z ≡ sets X at h
+      → (leb n BLOCK ≡ textFits l) × (Z ≡ bytesSet l at X)
+  text-set t e f z = (fits, rw (← fits, e) (z ∙ rw (text-read t e f)))
 
   pub text-kept : leb n BLOCK ≡ false → (leb n BLOCK ≡ textFits l) × (X ≡ bytesSet l at X)
   text-kept e = (fits, rw (← fits, e))
+
+-- the same into the factory part
+module _ (l : List ℕ) (s : Console) {w : List ℕ} (p : w ≡ wordOf l 4) {n : ℕ} (q : n ≡ textLength w) {r : Console} where
+  pub rom-set : {T : List ℕ} → T ≡ sets (replicate BLOCK 0) 0 (textBytes w) → leb n BLOCK ≡ true → {h : List ℕ} → h ≡ take n T → {x y : ℕ} → x ≡ numberAt l 2 → y ≡ numberAt l 3 → r ≡ romPut (BLOCK * x + y) h s
+      → r ≡ romSet l s
+  unfolding romSet
+  rom-set t e f a b z = rw (← fits l [] 0 p q, e) (z ∙ rw (text-read l [] 0 p q t e f, a, b))
+
+  pub rom-kept : leb n BLOCK ≡ false → r ≡ withKnown false s → r ≡ romSet l s
+  unfolding romSet
+  rom-kept e z = rw (← fits l [] 0 p q, e) z
 
 -- ---- the lines of a head: n are set, and the next begins at `at`
 

@@ -13,7 +13,7 @@ use Rattle.rules.specs.declared.request.Request.{Request}
 use Rattle.console.specs.Words.{isNot, past, wordOf, indexOf}
 use Rattle.console.specs.Numbers.{numberIn}
 use Rattle.console.specs.Texts.{textBytes, textLength}
-use Rattle.console.specs.Settings.{tables, withKnown, numberAt}
+use Rattle.console.specs.Settings.{tables, partOf, withKnown, numberAt}
 use Rattle.console.specs.declared.settings.Console.{Console}
 use Rattle.console.specs.declared.calls.Parsed.{Parsed}
 
@@ -132,10 +132,10 @@ callIn l = callOf (requestIn l) (partBytes l (partPlace l PATH)) (partBytes l (p
 -- ---- the tables after a call
 
 abbrev pub outcomeOn : Console → Call → Outcome
-outcomeOn s c = step (fixed (s .policy)) (store (s .files) (s .contents) (s .«open_files») (s .processes)) c
+outcomeOn s c = step (fixed (s .policy) (partOf s)) (store (s .files) (s .contents) (s .«open_files») (s .processes)) c
 
 abbrev pub withStore : Console → Store → Console
-withStore s t = tables true (t .files) (t .contents) (t .openFiles) (t .processes) (s .policy)
+withStore s t = tables true (t .files) (t .contents) (t .openFiles) (t .processes) (s .policy) (s .rom) (s .«rom_size»)
 
 unfoldable pub calledTables : Console → Call → Console
 calledTables s c = withStore s (outcomeOn s c .store)

@@ -4,4 +4,5 @@ pub mod Numbers
 pub mod Texts
 pub mod Settings
 pub mod Calls
+pub mod Borrows
 pub mod Lines

@@ -1,11 +1,12 @@
 -- The console's tables, and what the lines that set them make of them.
-use Prim.Native.Nat.{ℕ, zero, suc, _+_, _*_}
+use Prim.Native.Nat.{ℕ, zero, suc, _+_, _*_, min}
 use mathlib.Core.Bool.{Bool, true, false, cond, not}
 use mathlib.Core.List.{List, [], _∷_, _++_}
 use lib.Dec.{eqb, ltb, leb}
-use lib.ListN.{length, replicate}
+use lib.ListN.{length, take, replicate}
 use lib.Seq.{sets}
 use Rattle.rules.specs.Layout.{SLOTS, FILE-WIDTH, BLOCK, OPEN-FILES, OPEN-FILE-WIDTH, PROCESSES, PROCESS-WIDTH, LABELS, RIGHTS-SIZE, NO-TRANSITION}
+use Rattle.rules.specs.Store.{zeros}
 use Rattle.rules.specs.Scan.{fold, first}
 use Rattle.console.specs.Words.{lineAt, nextLine, wordOf, indexOf}
 use Rattle.console.specs.Numbers.{NO-NUMBER, numberIn}
@@ -14,17 +15,27 @@ use Rattle.console.specs.declared.settings.Console.{Console}
 
 -- ---- the tables, with whether the last line was understood
 
-abbrev pub tables : (known : Bool) (files contents openFiles processes policy : List ℕ) → Console
-tables k f c e p q = record { known = k; files = f; contents = c; «open_files» = e; processes = p; policy = q }
+abbrev pub tables : (known : Bool) (files contents openFiles processes policy rom : List ℕ) (romSize : ℕ) → Console
+tables k f c e p q r n = record { known = k; files = f; contents = c; «open_files» = e; processes = p; policy = q; rom = r; «rom_size» = n }
 
--- no files, no processes, no rights and no transitions
+-- room for the factory part: more than 16 prompts take
+abbrev pub ROM-ROOM : ℕ
+ROM-ROOM = 9216
+
+-- the factory part
+abbrev pub partOf : Console → List ℕ
+partOf s = take (s .«rom_size») (s .rom)
+
+-- no files, no processes, no rights, no transitions and no prompts
 unfoldable pub emptyTables : Console
 emptyTables =
     tables true (replicate (SLOTS * FILE-WIDTH) 0) (replicate (SLOTS * BLOCK) 0) (replicate (OPEN-FILES * OPEN-FILE-WIDTH) 0) (replicate (PROCESSES * PROCESS-WIDTH) 0)
     (replicate RIGHTS-SIZE 0 ++ replicate RIGHTS-SIZE NO-TRANSITION)
+    (replicate ROM-ROOM 0)
+    0
 
 unfoldable pub withKnown : Bool → Console → Console
-withKnown k s = tables k (s .files) (s .contents) (s .«open_files») (s .processes) (s .policy)
+withKnown k s = tables k (s .files) (s .contents) (s .«open_files») (s .processes) (s .policy) (s .rom) (s .«rom_size»)
 
 -- ---- the parts of a line l: set TABLE RECORD FIELD VALUES
 
@@ -68,29 +79,38 @@ abbrev pub bytesSet : (l : List ℕ) (at : ℕ) (table : List ℕ) → List ℕ
 bytesSet l at table = cond (textFits l) (sets table at (textBytes (wordOf l 4))) table
 
 unfoldable pub filesSet : List ℕ → Console → Console
-filesSet l s = tables (endsWell l) (wordsSet l (placeIn FILE-WIDTH l) (s .files)) (s .contents) (s .«open_files») (s .processes) (s .policy)
+filesSet l s = tables (endsWell l) (wordsSet l (placeIn FILE-WIDTH l) (s .files)) (s .contents) (s .«open_files») (s .processes) (s .policy) (s .rom) (s .«rom_size»)
 
 unfoldable pub openFilesSet : List ℕ → Console → Console
-openFilesSet l s = tables (endsWell l) (s .files) (s .contents) (wordsSet l (placeIn OPEN-FILE-WIDTH l) (s .«open_files»)) (s .processes) (s .policy)
+openFilesSet l s = tables (endsWell l) (s .files) (s .contents) (wordsSet l (placeIn OPEN-FILE-WIDTH l) (s .«open_files»)) (s .processes) (s .policy) (s .rom) (s .«rom_size»)
 
 unfoldable pub processesSet : List ℕ → Console → Console
-processesSet l s = tables (endsWell l) (s .files) (s .contents) (s .«open_files») (wordsSet l (placeIn PROCESS-WIDTH l) (s .processes)) (s .policy)
+processesSet l s = tables (endsWell l) (s .files) (s .contents) (s .«open_files») (wordsSet l (placeIn PROCESS-WIDTH l) (s .processes)) (s .policy) (s .rom) (s .«rom_size»)
 
 unfoldable pub contentsSet : List ℕ → Console → Console
-contentsSet l s = tables (textFits l) (s .files) (bytesSet l (placeIn BLOCK l) (s .contents)) (s .«open_files») (s .processes) (s .policy)
+contentsSet l s = tables (textFits l) (s .files) (bytesSet l (placeIn BLOCK l) (s .contents)) (s .«open_files») (s .processes) (s .policy) (s .rom) (s .«rom_size»)
 
 unfoldable pub policySet : List ℕ → Console → Console
-policySet l s = tables (textFits l) (s .files) (s .contents) (s .«open_files») (s .processes) (bytesSet l (placeIn LABELS l) (s .policy))
+policySet l s = tables (textFits l) (s .files) (s .contents) (s .«open_files») (s .processes) (bytesSet l (placeIn LABELS l) (s .policy)) (s .rom) (s .«rom_size»)
 
--- "files opens processes contents policy"
+-- the text in the factory part from `at` on, which ends with it or with its room; where the part was shorter there is 0 before the text
+unfoldable pub romPut : (at : ℕ) (text : List ℕ) → Console → Console
+romPut at text s =
+    tables true (s .files) (s .contents) (s .«open_files») (s .processes) (s .policy) (sets (sets (s .rom) (min (s .«rom_size») at) (zeros ROM-ROOM)) at text)
+    (min (at + length text) ROM-ROOM)
+
+unfoldable pub romSet : List ℕ → Console → Console
+romSet l s = cond (textFits l) (romPut (placeIn BLOCK l) (textBytes (wordOf l 4)) s) (withKnown false s)
+
+-- "files opens processes contents policy rom"
 abbrev pub TABLES : List ℕ
 TABLES =
     102 ∷ 105 ∷ 108 ∷ 101 ∷ 115 ∷ 32 ∷ 111 ∷ 112 ∷ 101 ∷ 110 ∷ 115 ∷ 32 ∷ 112 ∷ 114 ∷ 111 ∷ 99 ∷ 101 ∷ 115 ∷ 115 ∷ 101 ∷ 115 ∷ 32 ∷ 99 ∷ 111 ∷ 110 ∷ 116 ∷ 101 ∷ 110 ∷ 116 ∷ 115 ∷ 32 ∷ 112 ∷ 111 ∷ 108
-    ∷ 105 ∷ 99 ∷ 121 ∷ []
+    ∷ 105 ∷ 99 ∷ 121 ∷ 32 ∷ 114 ∷ 111 ∷ 109 ∷ []
 
--- the table that a line names, if it names a record too; 5 for none
+-- the table that a line names, if it names a record too; 6 for none
 unfoldable pub tableOf : List ℕ → ℕ
-tableOf l = cond (isNumberAt l 2) (indexOf TABLES 5 (wordOf l 1)) 5
+tableOf l = cond (isNumberAt l 2) (indexOf TABLES 6 (wordOf l 1)) 6
 
 unfoldable pub tableSet : ℕ → List ℕ → Console → Console
 tableSet k l s =
@@ -99,7 +119,8 @@ tableSet k l s =
     (cond (eqb k 2) (processesSet l s)
     (cond (eqb k 3) (contentsSet l s)
     (cond (eqb k 4) (policySet l s)
-    (withKnown false s)))))
+    (cond (eqb k 5) (romSet l s)
+    (withKnown false s))))))
 
 unfoldable pub lineSet : List ℕ → Console → Console
 lineSet l s = cond (isNumberAt l 3) (tableSet (tableOf l) l s) (withKnown false s)

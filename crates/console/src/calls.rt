@@ -109,7 +109,7 @@ fn are_bytes(process: u64, call: u64, fd: u64) -> bool
     fd < 256
 }
 
-fn in_range(process: u64, call: u64, fd: u64, n: u64) -> bool
+pub(crate) fn in_range(process: u64, call: u64, fd: u64, n: u64) -> bool
     ensures { λ r. ⌜ r ≡ inRange process call fd n ⌝ }
 {
     if !are_bytes(process, call, fd) {
@@ -118,7 +118,7 @@ fn in_range(process: u64, call: u64, fd: u64, n: u64) -> bool
     n < 65536
 }
 
-fn request(process: u64, call: u64, fd: u64, n: u64) -> Request
+pub(crate) fn request(process: u64, call: u64, fd: u64, n: u64) -> Request
     ensures { λ r. ⌜ r ≡ requestOf process call fd n ⌝ }
 {
     Request {
@@ -200,7 +200,7 @@ fn first(buffer: &mut [u8], n: usize) -> &mut [u8]
     buffer
 }
 
-fn print_named(k: usize, value: u32) {
+pub(crate) fn print_named(k: usize, value: u64) {
     io::write_all(1, b" ");
     io::write_all(
         1,
@@ -209,13 +209,13 @@ fn print_named(k: usize, value: u32) {
             k,
         ),
     );
-    io::print_decimal(1, value as u64);
+    io::print_decimal(1, value);
 }
 
 fn print_fields(f: [u32; 8]) {
     let mut k = 0;
     while k < 8 {
-        print_named(k + 3, f[k]);
+        print_named(k + 3, f[k] as u64);
         k += 1;
     }
 }
@@ -223,9 +223,9 @@ fn print_fields(f: [u32; 8]) {
 // The answer, with the listed name or the bytes read, or a file's fields: kind 0 is no file's.
 fn print_answer(a: Answer, buffer: &[u8]) {
     io::write_all(1, b":");
-    print_named(0, a.refusal);
-    print_named(1, a.stop);
-    print_named(2, a.value);
+    print_named(0, a.refusal as u64);
+    print_named(1, a.stop as u64);
+    print_named(2, a.value as u64);
     io::write_all(1, b" bytes=");
     let name = a.name;
     print_text(upto(&name, a.name_length as usize));
@@ -246,12 +246,15 @@ fn serve(s: Console, c: Request, path: &[u8], data: &[u8], buffer: &mut [u8]) ->
     let mut open_files = s.open_files;
     let mut processes = s.processes;
     let policy = s.policy;
+    let rom = s.rom;
+    let size = s.rom_size;
     let a = store::call::call(
         &mut files,
         &mut contents,
         &mut open_files,
         &mut processes,
         &policy,
+        upto(&rom, size),
         c,
         path,
         data,
@@ -265,6 +268,8 @@ fn serve(s: Console, c: Request, path: &[u8], data: &[u8], buffer: &mut [u8]) ->
         open_files: open_files,
         processes: processes,
         policy: policy,
+        rom: rom,
+        rom_size: size,
     }
 }
 

@@ -1,4 +1,5 @@
 // Runs a script of calls on the test console, and writes each line with its answer. docs/console.md has the lines.
+mod borrows;
 mod calls;
 mod numbers;
 mod printing;
@@ -8,7 +9,7 @@ mod words;
 
 ghost use mathlib.Core.Path.{_≡_};
 ghost use Rattle.console.specs.Lines.{isSilent, kindTaken, lineTaken};
-use calls::call_line;
+use borrows::asked_line;
 use settings::Console;
 use settings::empty;
 use settings::fresh;
@@ -31,7 +32,7 @@ fn is_silent(line: &[u8]) -> bool
     is_at(line, 0, b'#')
 }
 
-// A line that says something: fresh, set, show, or a call.
+// A line that says something: fresh, set, show, or a call or a borrowing read.
 fn take_kind(s: Console, kind: usize, script: &[u8], line: &[u8]) -> Console
     ensures { λ r. ⌜ r ≡ kindTaken kind (now (script .entry)) (now (line .entry)) s ⌝ }
 {
@@ -39,7 +40,7 @@ fn take_kind(s: Console, kind: usize, script: &[u8], line: &[u8]) -> Console
         0 => fresh(script),
         1 => set_line(s, line),
         2 => show_line(s, line),
-        _ => call_line(s, line),
+        _ => asked_line(s, line),
     }
 }
 

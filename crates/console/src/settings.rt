@@ -1,9 +1,9 @@
 // The console's tables, and the lines that set or show them.
 ghost use mathlib.Core.Path.{_≡_};
-ghost use Prim.Native.Nat.{_≤_};
+ghost use Prim.Native.Nat.{_+_, _≤_, min};
 ghost use lib.Dec.{ltb};
 ghost use lib.Seq.{sets};
-ghost use Rattle.console.specs.Settings.{emptyTables, withKnown, numberAt, isNumberAt, numbersOf, noNumberAt, numbersEnd, endsWell, textFits, wordsSet, bytesSet, filesSet, openFilesSet, processesSet, contentsSet, policySet, tableOf, tableSet, lineSet, freshTables};
+ghost use Rattle.console.specs.Settings.{emptyTables, withKnown, numberAt, isNumberAt, numbersOf, noNumberAt, numbersEnd, endsWell, textFits, wordsSet, bytesSet, ROM-ROOM, romPut, filesSet, openFilesSet, processesSet, contentsSet, policySet, romSet, tableOf, tableSet, lineSet, freshTables};
 use crate::numbers::NO_NUMBER;
 use crate::numbers::number;
 use crate::printing::print_record;
@@ -27,7 +27,10 @@ use tables::layout::RIGHTS_SIZE;
 use tables::words::copy_bytes;
 use tables::words::zero_bytes;
 
-// The tables, and whether the last line was understood.
+// Room for the factory part: more than 16 prompts of 512 bytes take, so that parts of too many can be set too.
+const ROM_ROOM: usize = 9216;
+
+// The tables, and whether the last line was understood. The factory part is the first `rom_size` bytes of its room.
 pub(crate) struct Console {
     pub(crate) known: bool,
     pub(crate) files: [u32; FILES_SIZE],
@@ -35,9 +38,11 @@ pub(crate) struct Console {
     pub(crate) open_files: [u32; OPEN_FILES_SIZE],
     pub(crate) processes: [u32; PROCESSES_SIZE],
     pub(crate) policy: [u8; POLICY_SIZE],
+    pub(crate) rom: [u8; ROM_ROOM],
+    pub(crate) rom_size: usize,
 }
 
-// No files, no processes, no rights and no transitions.
+// No files, no processes, no rights, no transitions and no prompts.
 pub(crate) fn empty() -> Console
     ensures { λ r. ⌜ r ≡ emptyTables ⌝ }
 {
@@ -50,6 +55,8 @@ pub(crate) fn empty() -> Console
         open_files: [0u32; OPEN_FILES_SIZE],
         processes: [0u32; PROCESSES_SIZE],
         policy: policy,
+        rom: [0u8; ROM_ROOM],
+        rom_size: 0,
     }
 }
 
@@ -217,14 +224,62 @@ fn set_policy(s: Console, line: &[u8]) -> Console
     t
 }
 
-// The table that the line names, if it names a record too; 5 for none.
+fn least(a: usize, b: usize) -> usize
+    ensures { λ r. ⌜ r ≡ min a b ⌝ }
+{
+    if a < b { a } else { b }
+}
+
+// Where n bytes end that are stored from `at` on in the factory part's room.
+fn rom_end(at: usize, n: usize) -> usize
+    ensures { λ r. ⌜ r ≡ min (at + n) ROM-ROOM ⌝ }
+{
+    let from = least(at, ROM_ROOM);
+    from + least(n, ROM_ROOM - from)
+}
+
+// The factory part from `at` on becomes the text, and ends with it. What stood past its end, or past `at`, is made 0
+// first, so that a part that was shorter has 0 before the text.
+fn put_rom(s: Console, at: usize, text: &[u8]) -> Console
+    ensures { λ r. ⌜ r ≡ romPut at (now (text .entry)) s ⌝ }
+{
+    let mut bytes = s.rom;
+    zero_bytes(&mut bytes, least(s.rom_size, at), ROM_ROOM);
+    copy_bytes(&mut bytes, at, text);
+    let mut t = with_known(s, true);
+    t.rom = bytes;
+    t.rom_size = rom_end(at, text.len());
+    t
+}
+
+fn set_rom(s: Console, line: &[u8]) -> Console
+    ensures { λ r. ⌜ r ≡ romSet (now (line .entry)) s ⌝ }
+{
+    let mut text = [0u8; 512];
+    let n = unescape(word(line, 4), &mut text);
+    let known = n <= 512;
+    if known {
+        return put_rom(
+            s,
+            BLOCK * number_at(line, 2) + number_at(line, 3),
+            head(&text, n),
+        );
+    }
+    with_known(s, false)
+}
+
+// The table that the line names, if it names a record too; 6 for none.
 fn table_of(line: &[u8]) -> usize
     ensures { λ r. ⌜ r ≡ tableOf (now (line .entry)) ⌝ }
 {
     if is_number_at(line, 2) {
-        return index_of(b"files opens processes contents policy", 5, word(line, 1));
+        return index_of(
+            b"files opens processes contents policy rom",
+            6,
+            word(line, 1),
+        );
     }
-    5
+    6
 }
 
 fn set_table(s: Console, table: usize, line: &[u8]) -> Console
@@ -236,6 +291,7 @@ fn set_table(s: Console, table: usize, line: &[u8]) -> Console
         2 => set_processes(s, line),
         3 => set_contents(s, line),
         4 => set_policy(s, line),
+        5 => set_rom(s, line),
         _ => with_known(s, false),
     }
 }

@@ -100,7 +100,7 @@ fn same(a: &[u8], b: &[u8]) -> bool
     begins_with(a, b)
 }
 
-fn is_word(list: &[u8], name: &[u8], k: usize) -> bool
+pub(crate) fn is_word(list: &[u8], name: &[u8], k: usize) -> bool
     ensures { λ r. ⌜ r ≡ isWord (now (list .entry)) (now (name .entry)) k ⌝ }
 {
     same(word(list, k), name)

@@ -1,7 +1,7 @@
 // 2. Create, 3. Make directory.
 ghost use mathlib.Core.Path.{_≡_};
-ghost use Rattle.rules.specs.Layout.{FILE-WIDTH};
-ghost use Rattle.rules.specs.Store.{tab, tree, shownOf};
+ghost use Rattle.rules.specs.Store.{shownOf};
+ghost use Rattle.rules.specs.Rom.{filesIn, treeIn};
 ghost use Rattle.rules.specs.Directories.{freeDirent};
 ghost use Rattle.rules.specs.Checks.{need, freeSlot};
 ghost use Rattle.rules.specs.DecidePaths.{newFile, newRecord, making, created, createRoom, depthOk, createAt, createNew, decideCreate};
@@ -47,7 +47,7 @@ fn new_file(kind: u32, bits: Bits) -> NewFile
 
 // A new file in slot s, named in directory d.
 fn new_record(files: &[u32], who: Subject, new: NewFile, d: Slot, s: Slot) -> Record
-    ensures { λ r. ⌜ r ≡ newRecord (tab FILE-WIDTH (now (files .entry))) who new d s ⌝ }
+    ensures { λ r. ⌜ r ≡ newRecord (filesIn (now (files .entry))) who new d s ⌝ }
 {
     let bits = new.bits;
     Record {
@@ -55,10 +55,10 @@ fn new_record(files: &[u32], who: Subject, new: NewFile, d: Slot, s: Slot) -> Re
         owner: who.user,
         group: who.group,
         bits: bits,
-        label: tables::files::label(files, d),
+        label: rom::seen::label(files, d),
         length: new.length,
         links: 1,
-        version: tables::files::version(files, s),
+        version: rom::seen::version(files, s),
     }
 }
 
@@ -74,7 +74,7 @@ fn make(kind: u32, d: DirChange, s: Slot, r: Record) -> Effect
 }
 
 fn created_at(files: &[u32], who: Subject, new: NewFile, d: Slot, s: Slot, i: Dirent) -> Decision
-    ensures { λ r. ⌜ r ≡ created (tab FILE-WIDTH (now (files .entry))) who new d s i ⌝ }
+    ensures { λ r. ⌜ r ≡ created (filesIn (now (files .entry))) who new d s i ⌝ }
 {
     let kind = new.kind;
     Decision::Granted(
@@ -90,7 +90,7 @@ fn created_at(files: &[u32], who: Subject, new: NewFile, d: Slot, s: Slot, i: Di
 }
 
 fn create_room(files: &[u32], who: Subject, new: NewFile, d: Slot, s: Slot, i: Dirent) -> Decision
-    ensures { λ r. ⌜ r ≡ createRoom (tab FILE-WIDTH (now (files .entry))) who new d s i ⌝ }
+    ensures { λ r. ⌜ r ≡ createRoom (filesIn (now (files .entry))) who new d s i ⌝ }
 {
     if !is_slot(s) {
         return Decision::Refused(Refusal::TableFull, 0);
@@ -102,7 +102,7 @@ fn create_room(files: &[u32], who: Subject, new: NewFile, d: Slot, s: Slot, i: D
 }
 
 fn create_free(files: &[u32], contents: &[u8], who: Subject, new: NewFile, d: Slot) -> Decision
-    ensures { λ r. ⌜ r ≡ createRoom (tab FILE-WIDTH (now (files .entry))) who new d (freeSlot (tab FILE-WIDTH (now (files .entry)))) (freeDirent (shownOf (now (files .entry)) (now (contents .entry)) (d .0))) ⌝ }
+    ensures { λ r. ⌜ r ≡ createRoom (filesIn (now (files .entry))) who new d (freeSlot (filesIn (now (files .entry)))) (freeDirent (shownOf (now (files .entry)) (now (contents .entry)) (d .0))) ⌝ }
 {
     create_room(
         files,
@@ -132,7 +132,7 @@ fn create_within(
     new: NewFile,
     at: Location,
 ) -> Decision
-    ensures { λ r. ⌜ r ≡ need (depthOk (new .kind) at) TooDeep (createRoom (tab FILE-WIDTH (now (files .entry))) who new (at .dir) (freeSlot (tab FILE-WIDTH (now (files .entry)))) (freeDirent (shownOf (now (files .entry)) (now (contents .entry)) (at .dir .0)))) ⌝ }
+    ensures { λ r. ⌜ r ≡ need (depthOk (new .kind) at) TooDeep (createRoom (filesIn (now (files .entry))) who new (at .dir) (freeSlot (filesIn (now (files .entry)))) (freeDirent (shownOf (now (files .entry)) (now (contents .entry)) (at .dir .0)))) ⌝ }
 {
     let d = at.dir;
     let kind = new.kind;
@@ -151,7 +151,7 @@ fn create_at(
     new: NewFile,
     at: Location,
 ) -> Decision
-    ensures { λ r. ⌜ r ≡ createAt (now (policy .entry)) (tree (now (files .entry)) (now (contents .entry))) who new at ⌝ }
+    ensures { λ r. ⌜ r ≡ createAt (now (policy .entry)) (filesIn (now (files .entry))) (shownOf (now (files .entry)) (now (contents .entry))) who new at ⌝ }
 {
     let d = at.dir;
     if !is_absent(at) {
@@ -168,13 +168,14 @@ pub fn create_new(
     files: &[u32],
     contents: &[u8],
     policy: &[u8],
+    rom: &[u8],
     who: Subject,
     new: NewFile,
     path: &[u8],
 ) -> Decision
-    ensures { λ r. ⌜ r ≡ createNew (now (policy .entry)) (tree (now (files .entry)) (now (contents .entry))) who new (now (path .entry)) ⌝ }
+    ensures { λ r. ⌜ r ≡ createNew (now (policy .entry)) (treeIn (now (rom .entry)) (now (files .entry)) (now (contents .entry))) who new (now (path .entry)) ⌝ }
 {
-    match walk_new(files, contents, policy, who, path) {
+    match walk_new(files, contents, policy, rom, who, path) {
         Walk::Reached(at) => create_at(files, contents, policy, who, new, at),
         Walk::Stopped(r, k) => Decision::Refused(r, k),
     }
@@ -184,15 +185,24 @@ pub fn decide_create(
     files: &[u32],
     contents: &[u8],
     policy: &[u8],
+    rom: &[u8],
     who: Subject,
     kind: u32,
     bits: BitsNumber,
     path: &[u8],
 ) -> Decision
-    ensures { λ r. ⌜ r ≡ decideCreate (now (policy .entry)) (tree (now (files .entry)) (now (contents .entry))) who kind bits (now (path .entry)) ⌝ }
+    ensures { λ r. ⌜ r ≡ decideCreate (now (policy .entry)) (treeIn (now (rom .entry)) (now (files .entry)) (now (contents .entry))) who kind bits (now (path .entry)) ⌝ }
 {
     match bits {
-        BitsNumber::Valid(b) => create_new(files, contents, policy, who, new_file(kind, b), path),
+        BitsNumber::Valid(b) => create_new(
+            files,
+            contents,
+            policy,
+            rom,
+            who,
+            new_file(kind, b),
+            path,
+        ),
         BitsNumber::OutOfRange => Decision::Refused(Refusal::Malformed, 0),
     }
 }

@@ -1,7 +1,7 @@
 // 6. Link.
 ghost use mathlib.Core.Path.{_≡_};
-ghost use Rattle.rules.specs.Layout.{FILE-WIDTH};
-ghost use Rattle.rules.specs.Store.{tab, tree, shownOf};
+ghost use Rattle.rules.specs.Store.{shownOf};
+ghost use Rattle.rules.specs.Rom.{filesIn, treeIn};
 ghost use Rattle.rules.specs.Directories.{freeDirent};
 ghost use Rattle.rules.specs.DecidePaths.{linked, linkRoom, linkAt, linkNew, linkTo, decideLink};
 use directories::changes::free_in;
@@ -10,7 +10,8 @@ use directories::changes::is_absent;
 use resolution::walk::walk_new;
 use resolution::walk::walk_path;
 use rights::rights::Permission;
-use rights::rights::permission_over;
+use rights::rights::permission_to_name;
+use rom::seen::is_plain;
 use rules::decision::Decision;
 use rules::decision::Effect;
 use rules::decision::Location;
@@ -20,13 +21,11 @@ use rules::ids::Dirent;
 use rules::ids::Slot;
 use rules::refusal::Refusal;
 use rules::request::Subject;
-use rules::rights::Rights;
-use tables::files::is_plain;
 use tables::ids::is_dirent;
 use tables::numbers::up_one;
 
 fn linked_at(files: &[u32], old: Slot, d: Slot, i: Dirent) -> Decision
-    ensures { λ r. ⌜ r ≡ linked (tab FILE-WIDTH (now (files .entry))) old d i ⌝ }
+    ensures { λ r. ⌜ r ≡ linked (filesIn (now (files .entry))) old d i ⌝ }
 {
     Decision::Granted(
         0,
@@ -34,13 +33,13 @@ fn linked_at(files: &[u32], old: Slot, d: Slot, i: Dirent) -> Decision
         Effect::Linked(
             gaining(files, d, i),
             old,
-            up_one(tables::files::links(files, old)),
+            up_one(rom::seen::links(files, old)),
         ),
     )
 }
 
 fn link_room(files: &[u32], old: Slot, d: Slot, i: Dirent) -> Decision
-    ensures { λ r. ⌜ r ≡ linkRoom (tab FILE-WIDTH (now (files .entry))) old d i ⌝ }
+    ensures { λ r. ⌜ r ≡ linkRoom (filesIn (now (files .entry))) old d i ⌝ }
 {
     if !is_dirent(i) {
         return Decision::Refused(Refusal::TableFull, 0);
@@ -49,7 +48,7 @@ fn link_room(files: &[u32], old: Slot, d: Slot, i: Dirent) -> Decision
 }
 
 fn link_free(files: &[u32], contents: &[u8], old: Slot, d: Slot) -> Decision
-    ensures { λ r. ⌜ r ≡ linkRoom (tab FILE-WIDTH (now (files .entry))) old d (freeDirent (shownOf (now (files .entry)) (now (contents .entry)) (d .0))) ⌝ }
+    ensures { λ r. ⌜ r ≡ linkRoom (filesIn (now (files .entry))) old d (freeDirent (shownOf (now (files .entry)) (now (contents .entry)) (d .0))) ⌝ }
 {
     link_room(files, old, d, free_in(files, contents, d))
 }
@@ -63,13 +62,13 @@ fn link_at(
     old: Slot,
     at: Location,
 ) -> Decision
-    ensures { λ r. ⌜ r ≡ linkAt (now (policy .entry)) (tree (now (files .entry)) (now (contents .entry))) who old at ⌝ }
+    ensures { λ r. ⌜ r ≡ linkAt (now (policy .entry)) (filesIn (now (files .entry))) (shownOf (now (files .entry)) (now (contents .entry))) who old at ⌝ }
 {
     let d = at.dir;
     if !is_absent(at) {
         return Decision::Refused(Refusal::NameThere, 0);
     }
-    match permission_over(files, policy, who, d, Rights::WRITE) {
+    match permission_to_name(files, policy, who, d, old) {
         Permission::Allowed => link_free(files, contents, old, d),
         Permission::Forbidden(r) => Decision::Refused(r, 0),
     }
@@ -80,13 +79,14 @@ fn link_new(
     files: &[u32],
     contents: &[u8],
     policy: &[u8],
+    rom: &[u8],
     who: Subject,
     new: &[u8],
     old: Slot,
 ) -> Decision
-    ensures { λ r. ⌜ r ≡ linkNew (now (policy .entry)) (tree (now (files .entry)) (now (contents .entry))) who (now (new .entry)) old ⌝ }
+    ensures { λ r. ⌜ r ≡ linkNew (now (policy .entry)) (treeIn (now (rom .entry)) (now (files .entry)) (now (contents .entry))) who (now (new .entry)) old ⌝ }
 {
-    match walk_new(files, contents, policy, who, new) {
+    match walk_new(files, contents, policy, rom, who, new) {
         Walk::Reached(at) => link_at(files, contents, policy, who, old, at),
         Walk::Stopped(r, k) => Decision::Refused(r, k),
     }
@@ -96,30 +96,32 @@ fn link_to(
     files: &[u32],
     contents: &[u8],
     policy: &[u8],
+    rom: &[u8],
     who: Subject,
     new: &[u8],
     old: Slot,
 ) -> Decision
-    ensures { λ r. ⌜ r ≡ linkTo (now (policy .entry)) (tree (now (files .entry)) (now (contents .entry))) who (now (new .entry)) old ⌝ }
+    ensures { λ r. ⌜ r ≡ linkTo (now (policy .entry)) (treeIn (now (rom .entry)) (now (files .entry)) (now (contents .entry))) who (now (new .entry)) old ⌝ }
 {
     if !is_plain(files, old) {
         return Decision::Refused(Refusal::WrongKind, 0);
     }
-    link_new(files, contents, policy, who, new, old)
+    link_new(files, contents, policy, rom, who, new, old)
 }
 
 pub fn decide_link(
     files: &[u32],
     contents: &[u8],
     policy: &[u8],
+    rom: &[u8],
     who: Subject,
     old: &[u8],
     new: &[u8],
 ) -> Decision
-    ensures { λ r. ⌜ r ≡ decideLink (now (policy .entry)) (tree (now (files .entry)) (now (contents .entry))) who (now (old .entry)) (now (new .entry)) ⌝ }
+    ensures { λ r. ⌜ r ≡ decideLink (now (policy .entry)) (treeIn (now (rom .entry)) (now (files .entry)) (now (contents .entry))) who (now (old .entry)) (now (new .entry)) ⌝ }
 {
-    match walk_path(files, contents, policy, who, old) {
-        Walk::Reached(at) => link_to(files, contents, policy, who, new, at.slot),
+    match walk_path(files, contents, policy, rom, who, old) {
+        Walk::Reached(at) => link_to(files, contents, policy, rom, who, new, at.slot),
         Walk::Stopped(r, k) => Decision::Refused(r, k),
     }
 }

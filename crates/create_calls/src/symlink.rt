@@ -1,6 +1,6 @@
 // 18. Make link.
 ghost use mathlib.Core.Path.{_≡_};
-ghost use Rattle.rules.specs.Store.{tree};
+ghost use Rattle.rules.specs.Rom.{treeIn};
 ghost use Rattle.rules.specs.DecidePaths.{newLink, decideSymlink};
 use crate::create::create_new;
 use rules::decision::Decision;
@@ -24,11 +24,12 @@ pub fn decide_symlink(
     files: &[u32],
     contents: &[u8],
     policy: &[u8],
+    rom: &[u8],
     who: Subject,
     n: u32,
     path: &[u8],
 ) -> Decision
-    ensures { λ r. ⌜ r ≡ decideSymlink (now (policy .entry)) (tree (now (files .entry)) (now (contents .entry))) who n (now (path .entry)) ⌝ }
+    ensures { λ r. ⌜ r ≡ decideSymlink (now (policy .entry)) (treeIn (now (rom .entry)) (now (files .entry)) (now (contents .entry))) who n (now (path .entry)) ⌝ }
 {
-    create_new(files, contents, policy, who, new_link(n), path)
+    create_new(files, contents, policy, rom, who, new_link(n), path)
 }

@@ -15,7 +15,7 @@ unfolding zeros
 nothing-open = refl
 
 module _ (script output F C P Q : List ℕ) {l : Left} (f : F ≡ consoleFiles) (c : C ≡ consoleContents (1 ∷ 2 ∷ 3 ∷ 4 ∷ [])) (p : P ≡ consoleProcesses) (q : Q ≡ consolePolicy)
-    (e : l ≡ leftBy 0 0 output (replay ALLOWANCE (fixed Q) script (length output) (store F C (replicate (OPEN-FILES * OPEN-FILE-WIDTH) 0) P))) where
+    (e : l ≡ leftBy 0 0 output (replay ALLOWANCE (fixed Q []) script (length output) (store F C (replicate (OPEN-FILES * OPEN-FILE-WIDTH) 0) P))) where
   same : l ≡ day script output
   unfolding day console consoleWith
   same = rw (f, c, p, q, nothing-open) at e

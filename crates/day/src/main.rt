@@ -11,7 +11,7 @@ use tables::parts::upto;
 // As many calls as can be allowed.
 const ALLOWANCE: u32 = 4294967295;
 
-// The script on the test console, of which nothing is open; the answers go to the output.
+// The script on the test console, of which nothing is open and which has no prompts; the answers go to the output.
 fn replayed(script: &[u8], output: &mut [u8]) -> Replayed
     ensures result { λ r. ⌜ r ≡ day (now (script .entry)) (now (output .entry)) .replayed ⌝ }
     ensures output { λ _. ⌜ now (output .exit) ≡ day (now (script .entry)) (now (output .entry)) .output ⌝ }
@@ -27,6 +27,7 @@ fn replayed(script: &[u8], output: &mut [u8]) -> Replayed
         &mut open_files,
         &mut processes,
         &policy,
+        b"",
         script,
         ALLOWANCE,
         output,

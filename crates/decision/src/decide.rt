@@ -1,6 +1,7 @@
 // The stages of a decision: process, then the form and the call's own checks in one match on the operation.
 ghost use mathlib.Core.Path.{_≡_};
-ghost use Rattle.rules.specs.Store.{store, view};
+ghost use Rattle.rules.specs.Store.{fixed, store, view};
+ghost use Rattle.rules.specs.Rom.{seen};
 ghost use Rattle.rules.specs.Decide.{decideOwn, decide};
 ghost use Rattle.rules.specs.Calls.{callOf, formOk};
 ghost use Rattle.rules.specs.Checks.{need};
@@ -40,13 +41,14 @@ fn decide_own(
     open_files: &[u32],
     processes: &[u32],
     policy: &[u8],
+    rom: &[u8],
     c: Request,
     path: &[u8],
     data: &[u8],
     buffer: &[u8],
     op: Operation,
 ) -> Decision
-    ensures { λ r. ⌜ r ≡ need (formOk op (c .number) (now (path .entry)) (now («data» .entry))) Malformed (decideOwn (now (policy .entry)) (view (store (now (files .entry)) (now (contents .entry)) (now («open_files» .entry)) (now (processes .entry)))) (callOf c (now (path .entry)) (now («data» .entry)) (now (buffer .entry))) op) ⌝ }
+    ensures { λ r. ⌜ r ≡ need (formOk op (c .number) (now (path .entry)) (now («data» .entry))) Malformed (decideOwn (fixed (now (policy .entry)) (now (rom .entry))) (seen (now (rom .entry)) (view (store (now (files .entry)) (now (contents .entry)) (now («open_files» .entry)) (now (processes .entry))))) (callOf c (now (path .entry)) (now («data» .entry)) (now (buffer .entry))) op) ⌝ }
 {
     let p = c.process;
     let i = c.fd;
@@ -59,29 +61,46 @@ fn decide_own(
             open_files,
             processes,
             policy,
+            rom,
             p,
             who,
             n,
             path,
         ),
-        Operation::Create => formed_create(files, contents, policy, who, n, path),
-        Operation::MakeDirectory => formed_make_directory(files, contents, policy, who, n, path),
-        Operation::Unlink => formed_unlink(files, contents, open_files, policy, who, path),
-        Operation::RemoveDirectory => formed_remove(files, contents, policy, who, path),
-        Operation::Link => formed_link(files, contents, policy, who, path, data),
-        Operation::List => formed_list(files, contents, policy, who, n, path),
-        Operation::ChangeBits => formed_change_bits(files, contents, policy, who, n, path),
-        Operation::Stat => formed_stat(files, contents, policy, who, path),
+        Operation::Create => formed_create(files, contents, policy, rom, who, n, path),
+        Operation::MakeDirectory => formed_make_directory(
+            files,
+            contents,
+            policy,
+            rom,
+            who,
+            n,
+            path,
+        ),
+        Operation::Unlink => formed_unlink(files, contents, open_files, policy, rom, who, path),
+        Operation::RemoveDirectory => formed_remove(files, contents, policy, rom, who, path),
+        Operation::Link => formed_link(files, contents, policy, rom, who, path, data),
+        Operation::List => formed_list(files, contents, policy, rom, who, n, path),
+        Operation::ChangeBits => formed_change_bits(files, contents, policy, rom, who, n, path),
+        Operation::Stat => formed_stat(files, contents, policy, rom, who, path),
         Operation::Close => decide_close(files, open_files, processes, p, i),
-        Operation::Read => decide_read(files, open_files, processes, p, i, buffer.len()),
+        Operation::Read => decide_read(files, open_files, processes, rom, p, i, buffer.len()),
         Operation::Write => decide_write(files, open_files, processes, p, i, data.len()),
         Operation::Seek => formed_seek(processes, p, i, n),
         Operation::Duplicate => decide_duplicate(open_files, processes, p, i),
         Operation::Fork => decide_fork(processes, p),
         Operation::Exit => Decision::Granted(0, Output::Nothing, Effect::Exited),
-        Operation::Execute => formed_execute(files, contents, policy, who, path),
-        Operation::Symlink => formed_symlink(files, contents, policy, who, path, data),
-        Operation::ReadLink => formed_read_link(files, contents, policy, who, buffer.len(), path),
+        Operation::Execute => formed_execute(files, contents, policy, rom, who, path),
+        Operation::Symlink => formed_symlink(files, contents, policy, rom, who, path, data),
+        Operation::ReadLink => formed_read_link(
+            files,
+            contents,
+            policy,
+            rom,
+            who,
+            buffer.len(),
+            path,
+        ),
         Operation::Unknown => Decision::Refused(Refusal::Malformed, 0),
     }
 }
@@ -93,12 +112,13 @@ pub fn decide_call(
     open_files: &[u32],
     processes: &[u32],
     policy: &[u8],
+    rom: &[u8],
     c: Request,
     path: &[u8],
     data: &[u8],
     buffer: &[u8],
 ) -> Decision
-    ensures { λ r. ⌜ r ≡ decide (now (policy .entry)) (view (store (now (files .entry)) (now (contents .entry)) (now («open_files» .entry)) (now (processes .entry)))) (callOf c (now (path .entry)) (now («data» .entry)) (now (buffer .entry))) ⌝ }
+    ensures { λ r. ⌜ r ≡ decide (fixed (now (policy .entry)) (now (rom .entry))) (seen (now (rom .entry)) (view (store (now (files .entry)) (now (contents .entry)) (now («open_files» .entry)) (now (processes .entry))))) (callOf c (now (path .entry)) (now («data» .entry)) (now (buffer .entry))) ⌝ }
 {
     if !in_use(processes, c.process) {
         return Decision::Refused(Refusal::NoProcess, 0);
@@ -110,6 +130,7 @@ pub fn decide_call(
         open_files,
         processes,
         policy,
+        rom,
         c,
         path,
         data,

@@ -6,7 +6,8 @@ ghost use lib.Dec.{leb};
 ghost use lib.ListN.{length};
 ghost use Rattle.rules.specs.Choice.{every};
 ghost use Rattle.rules.specs.Layout.{BLOCK, OPEN-FILE-WIDTH, PLAIN, DIRECTORY};
-ghost use Rattle.rules.specs.Store.{tab, tree, descOf};
+ghost use Rattle.rules.specs.Store.{tab, descOf};
+ghost use Rattle.rules.specs.Rom.{treeIn};
 ghost use Rattle.rules.specs.Rights.{bitsKnown, bitsOf, modeOf, modeKnown};
 ghost use Rattle.rules.specs.Paths.{pathOk};
 ghost use Rattle.rules.specs.Calls.{pathBelowRoot, newFileOk};
@@ -50,12 +51,13 @@ pub fn formed_open(
     open_files: &[u32],
     processes: &[u32],
     policy: &[u8],
+    rom: &[u8],
     p: Pid,
     who: Subject,
     n: u32,
     path: &[u8],
 ) -> Decision
-    ensures { λ r. ⌜ r ≡ need (every (modeKnown (modeOf n) ∷ pathOk (now (path .entry)) ∷ [])) Malformed (decideOpen (now (policy .entry)) (tree (now (files .entry)) (now (contents .entry))) (tab OPEN-FILE-WIDTH (now («open_files» .entry))) (descOf (now (processes .entry))) p who n (now (path .entry))) ⌝ }
+    ensures { λ r. ⌜ r ≡ need (every (modeKnown (modeOf n) ∷ pathOk (now (path .entry)) ∷ [])) Malformed (decideOpen (now (policy .entry)) (treeIn (now (rom .entry)) (now (files .entry)) (now (contents .entry))) (tab OPEN-FILE-WIDTH (now («open_files» .entry))) (descOf (now (processes .entry))) p who n (now (path .entry))) ⌝ }
 {
     if !open_ok(n, path) {
         return Decision::Refused(Refusal::Malformed, 0);
@@ -66,6 +68,7 @@ pub fn formed_open(
         open_files,
         processes,
         policy,
+        rom,
         p,
         who,
         n,
@@ -79,32 +82,43 @@ pub fn formed_create(
     files: &[u32],
     contents: &[u8],
     policy: &[u8],
+    rom: &[u8],
     who: Subject,
     n: u32,
     path: &[u8],
 ) -> Decision
-    ensures { λ r. ⌜ r ≡ need (newFileOk n (now (path .entry))) Malformed (decideCreate (now (policy .entry)) (tree (now (files .entry)) (now (contents .entry))) who PLAIN (bitsOf n) (now (path .entry))) ⌝ }
+    ensures { λ r. ⌜ r ≡ need (newFileOk n (now (path .entry))) Malformed (decideCreate (now (policy .entry)) (treeIn (now (rom .entry)) (now (files .entry)) (now (contents .entry))) who PLAIN (bitsOf n) (now (path .entry))) ⌝ }
 {
     if !new_file_ok(n, path) {
         return Decision::Refused(Refusal::Malformed, 0);
     }
-    decide_create(files, contents, policy, who, PLAIN, Bits::new(n), path)
+    decide_create(files, contents, policy, rom, who, PLAIN, Bits::new(n), path)
 }
 
 pub fn formed_make_directory(
     files: &[u32],
     contents: &[u8],
     policy: &[u8],
+    rom: &[u8],
     who: Subject,
     n: u32,
     path: &[u8],
 ) -> Decision
-    ensures { λ r. ⌜ r ≡ need (newFileOk n (now (path .entry))) Malformed (decideCreate (now (policy .entry)) (tree (now (files .entry)) (now (contents .entry))) who DIRECTORY (bitsOf n) (now (path .entry))) ⌝ }
+    ensures { λ r. ⌜ r ≡ need (newFileOk n (now (path .entry))) Malformed (decideCreate (now (policy .entry)) (treeIn (now (rom .entry)) (now (files .entry)) (now (contents .entry))) who DIRECTORY (bitsOf n) (now (path .entry))) ⌝ }
 {
     if !new_file_ok(n, path) {
         return Decision::Refused(Refusal::Malformed, 0);
     }
-    decide_create(files, contents, policy, who, DIRECTORY, Bits::new(n), path)
+    decide_create(
+        files,
+        contents,
+        policy,
+        rom,
+        who,
+        DIRECTORY,
+        Bits::new(n),
+        path,
+    )
 }
 
 pub fn formed_unlink(
@@ -112,93 +126,99 @@ pub fn formed_unlink(
     contents: &[u8],
     open_files: &[u32],
     policy: &[u8],
+    rom: &[u8],
     who: Subject,
     path: &[u8],
 ) -> Decision
-    ensures { λ r. ⌜ r ≡ need (pathBelowRoot (now (path .entry))) Malformed (decideUnlink (now (policy .entry)) (tree (now (files .entry)) (now (contents .entry))) (tab OPEN-FILE-WIDTH (now («open_files» .entry))) who (now (path .entry))) ⌝ }
+    ensures { λ r. ⌜ r ≡ need (pathBelowRoot (now (path .entry))) Malformed (decideUnlink (now (policy .entry)) (treeIn (now (rom .entry)) (now (files .entry)) (now (contents .entry))) (tab OPEN-FILE-WIDTH (now («open_files» .entry))) who (now (path .entry))) ⌝ }
 {
     if !path_below_root(path) {
         return Decision::Refused(Refusal::Malformed, 0);
     }
-    decide_unlink(files, contents, open_files, policy, who, path)
+    decide_unlink(files, contents, open_files, policy, rom, who, path)
 }
 
 pub fn formed_remove(
     files: &[u32],
     contents: &[u8],
     policy: &[u8],
+    rom: &[u8],
     who: Subject,
     path: &[u8],
 ) -> Decision
-    ensures { λ r. ⌜ r ≡ need (pathBelowRoot (now (path .entry))) Malformed (decideRemove (now (policy .entry)) (tree (now (files .entry)) (now (contents .entry))) who (now (path .entry))) ⌝ }
+    ensures { λ r. ⌜ r ≡ need (pathBelowRoot (now (path .entry))) Malformed (decideRemove (now (policy .entry)) (treeIn (now (rom .entry)) (now (files .entry)) (now (contents .entry))) who (now (path .entry))) ⌝ }
 {
     if !path_below_root(path) {
         return Decision::Refused(Refusal::Malformed, 0);
     }
-    decide_remove(files, contents, policy, who, path)
+    decide_remove(files, contents, policy, rom, who, path)
 }
 
 pub fn formed_link(
     files: &[u32],
     contents: &[u8],
     policy: &[u8],
+    rom: &[u8],
     who: Subject,
     path: &[u8],
     data: &[u8],
 ) -> Decision
-    ensures { λ r. ⌜ r ≡ need (every (pathOk (now (path .entry)) ∷ pathBelowRoot (now («data» .entry)) ∷ [])) Malformed (decideLink (now (policy .entry)) (tree (now (files .entry)) (now (contents .entry))) who (now (path .entry)) (now («data» .entry))) ⌝ }
+    ensures { λ r. ⌜ r ≡ need (every (pathOk (now (path .entry)) ∷ pathBelowRoot (now («data» .entry)) ∷ [])) Malformed (decideLink (now (policy .entry)) (treeIn (now (rom .entry)) (now (files .entry)) (now (contents .entry))) who (now (path .entry)) (now («data» .entry))) ⌝ }
 {
     if !both_paths_ok(path, data) {
         return Decision::Refused(Refusal::Malformed, 0);
     }
-    decide_link(files, contents, policy, who, path, data)
+    decide_link(files, contents, policy, rom, who, path, data)
 }
 
 pub fn formed_list(
     files: &[u32],
     contents: &[u8],
     policy: &[u8],
+    rom: &[u8],
     who: Subject,
     n: u32,
     path: &[u8],
 ) -> Decision
-    ensures { λ r. ⌜ r ≡ need (pathOk (now (path .entry))) Malformed (decideList (now (policy .entry)) (tree (now (files .entry)) (now (contents .entry))) who n (now (path .entry))) ⌝ }
+    ensures { λ r. ⌜ r ≡ need (pathOk (now (path .entry))) Malformed (decideList (now (policy .entry)) (treeIn (now (rom .entry)) (now (files .entry)) (now (contents .entry))) who n (now (path .entry))) ⌝ }
 {
     if !path_ok(path) {
         return Decision::Refused(Refusal::Malformed, 0);
     }
-    decide_list(files, contents, policy, who, n, path)
+    decide_list(files, contents, policy, rom, who, n, path)
 }
 
 pub fn formed_change_bits(
     files: &[u32],
     contents: &[u8],
     policy: &[u8],
+    rom: &[u8],
     who: Subject,
     n: u32,
     path: &[u8],
 ) -> Decision
-    ensures { λ r. ⌜ r ≡ need (every (bitsKnown n ∷ pathOk (now (path .entry)) ∷ [])) Malformed (decideChangeBits (now (policy .entry)) (tree (now (files .entry)) (now (contents .entry))) who (bitsOf n) (now (path .entry))) ⌝ }
+    ensures { λ r. ⌜ r ≡ need (every (bitsKnown n ∷ pathOk (now (path .entry)) ∷ [])) Malformed (decideChangeBits (now (policy .entry)) (treeIn (now (rom .entry)) (now (files .entry)) (now (contents .entry))) who (bitsOf n) (now (path .entry))) ⌝ }
 {
     if !bits_and_path_ok(n, path) {
         return Decision::Refused(Refusal::Malformed, 0);
     }
-    decide_change_bits(files, contents, policy, who, Bits::new(n), path)
+    decide_change_bits(files, contents, policy, rom, who, Bits::new(n), path)
 }
 
 pub fn formed_stat(
     files: &[u32],
     contents: &[u8],
     policy: &[u8],
+    rom: &[u8],
     who: Subject,
     path: &[u8],
 ) -> Decision
-    ensures { λ r. ⌜ r ≡ need (pathOk (now (path .entry))) Malformed (decideStat (now (policy .entry)) (tree (now (files .entry)) (now (contents .entry))) who (now (path .entry))) ⌝ }
+    ensures { λ r. ⌜ r ≡ need (pathOk (now (path .entry))) Malformed (decideStat (now (policy .entry)) (now (rom .entry)) (treeIn (now (rom .entry)) (now (files .entry)) (now (contents .entry))) who (now (path .entry))) ⌝ }
 {
     if !path_ok(path) {
         return Decision::Refused(Refusal::Malformed, 0);
     }
-    decide_stat(files, contents, policy, who, path)
+    decide_stat(files, contents, policy, rom, who, path)
 }
 
 pub fn formed_seek(processes: &[u32], p: Pid, i: Fd, n: u32) -> Decision
@@ -214,46 +234,49 @@ pub fn formed_execute(
     files: &[u32],
     contents: &[u8],
     policy: &[u8],
+    rom: &[u8],
     who: Subject,
     path: &[u8],
 ) -> Decision
-    ensures { λ r. ⌜ r ≡ need (pathOk (now (path .entry))) Malformed (decideExecute (now (policy .entry)) (tree (now (files .entry)) (now (contents .entry))) who (now (path .entry))) ⌝ }
+    ensures { λ r. ⌜ r ≡ need (pathOk (now (path .entry))) Malformed (decideExecute (now (policy .entry)) (treeIn (now (rom .entry)) (now (files .entry)) (now (contents .entry))) who (now (path .entry))) ⌝ }
 {
     if !path_ok(path) {
         return Decision::Refused(Refusal::Malformed, 0);
     }
-    decide_execute(files, contents, policy, who, path)
+    decide_execute(files, contents, policy, rom, who, path)
 }
 
 pub fn formed_symlink(
     files: &[u32],
     contents: &[u8],
     policy: &[u8],
+    rom: &[u8],
     who: Subject,
     path: &[u8],
     data: &[u8],
 ) -> Decision
-    ensures { λ r. ⌜ r ≡ need (every (pathBelowRoot (now (path .entry)) ∷ pathOk (now («data» .entry)) ∷ [])) Malformed (decideSymlink (now (policy .entry)) (tree (now (files .entry)) (now (contents .entry))) who (length (now («data» .entry))) (now (path .entry))) ⌝ }
+    ensures { λ r. ⌜ r ≡ need (every (pathBelowRoot (now (path .entry)) ∷ pathOk (now («data» .entry)) ∷ [])) Malformed (decideSymlink (now (policy .entry)) (treeIn (now (rom .entry)) (now (files .entry)) (now (contents .entry))) who (length (now («data» .entry))) (now (path .entry))) ⌝ }
 {
     if !symlink_ok(path, data) {
         return Decision::Refused(Refusal::Malformed, 0);
     }
     let n = word_of(data.len());
-    decide_symlink(files, contents, policy, who, n, path)
+    decide_symlink(files, contents, policy, rom, who, n, path)
 }
 
 pub fn formed_read_link(
     files: &[u32],
     contents: &[u8],
     policy: &[u8],
+    rom: &[u8],
     who: Subject,
     size: usize,
     path: &[u8],
 ) -> Decision
-    ensures { λ r. ⌜ r ≡ need (pathOk (now (path .entry))) Malformed (decideReadLink (now (policy .entry)) (tree (now (files .entry)) (now (contents .entry))) who size (now (path .entry))) ⌝ }
+    ensures { λ r. ⌜ r ≡ need (pathOk (now (path .entry))) Malformed (decideReadLink (now (policy .entry)) (treeIn (now (rom .entry)) (now (files .entry)) (now (contents .entry))) who size (now (path .entry))) ⌝ }
 {
     if !path_ok(path) {
         return Decision::Refused(Refusal::Malformed, 0);
     }
-    decide_read_link(files, contents, policy, who, size, path)
+    decide_read_link(files, contents, policy, rom, who, size, path)
 }

@@ -1,7 +1,8 @@
 // 10. Close.
 ghost use mathlib.Core.Path.{_≡_};
-ghost use Rattle.rules.specs.Layout.{FILE-WIDTH, OPEN-FILE-WIDTH};
+ghost use Rattle.rules.specs.Layout.{OPEN-FILE-WIDTH};
 ghost use Rattle.rules.specs.Store.{tab, descOf};
+ghost use Rattle.rules.specs.Rom.{filesIn};
 ghost use Rattle.rules.specs.Decide.{closed, decideClose};
 use allocation::held::is_held;
 use allocation::release::release;
@@ -13,7 +14,7 @@ use rules::ids::Pid;
 use rules::refusal::Refusal;
 
 fn closed_at(files: &[u32], open_files: &[u32], processes: &[u32], p: Pid, i: Fd) -> Decision
-    ensures { λ r. ⌜ r ≡ closed (tab FILE-WIDTH (now (files .entry))) (tab OPEN-FILE-WIDTH (now («open_files» .entry))) (descOf (now (processes .entry))) p i ⌝ }
+    ensures { λ r. ⌜ r ≡ closed (filesIn (now (files .entry))) (tab OPEN-FILE-WIDTH (now («open_files» .entry))) (descOf (now (processes .entry))) p i ⌝ }
 {
     Decision::Granted(
         0,
@@ -23,7 +24,7 @@ fn closed_at(files: &[u32], open_files: &[u32], processes: &[u32], p: Pid, i: Fd
 }
 
 pub fn decide_close(files: &[u32], open_files: &[u32], processes: &[u32], p: Pid, i: Fd) -> Decision
-    ensures { λ r. ⌜ r ≡ decideClose (tab FILE-WIDTH (now (files .entry))) (tab OPEN-FILE-WIDTH (now («open_files» .entry))) (descOf (now (processes .entry))) p i ⌝ }
+    ensures { λ r. ⌜ r ≡ decideClose (filesIn (now (files .entry))) (tab OPEN-FILE-WIDTH (now («open_files» .entry))) (descOf (now (processes .entry))) p i ⌝ }
 {
     if !is_held(processes, p, i) {
         return Decision::Refused(Refusal::NotHeld, 0);

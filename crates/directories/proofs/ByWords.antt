@@ -7,7 +7,7 @@ use lib.Dec.{eqb}
 use lib.ListN.{getD}
 use Rattle.rules.specs.Choice.{every}
 use Rattle.rules.specs.Scan.{first}
-use Rattle.rules.specs.Layout.{DIRENTS}
+use Rattle.rules.specs.Layout.{ENTRIES}
 use Rattle.rules.specs.Store.{entry}
 use Rattle.rules.specs.Paths.{Name}
 use Rattle.rules.specs.Directories.{direntAt, hasName, direntOf}
@@ -36,7 +36,7 @@ abbrev pub Bytes : List ℕ → Type 0
 Bytes xs = (k : ℕ) → getD xs k 0 < 256
 
 module _ (D : List ℕ) (n : Name) (bd : Bytes D) (bn : Bytes n) where
-  same-entry : (i : ℕ) → hasWords D (lowWord n) (highWord n) i ≡ hasName D n i
+  pub same-entry : (i : ℕ) → hasWords D (lowWord n) (highWord n) i ≡ hasName D n i
   unfolding hasWords every hasName
   same-entry i = by (eqb (lowWord (direntAt D i)) (lowWord n)) refl (eqb (highWord (direntAt D i)) (highWord n)) refl
     where
@@ -46,4 +46,4 @@ module _ (D : List ℕ) (n : Name) (bd : Bytes D) (bn : Bytes n) where
       by false p b q = low-apart (direntAt D i) n (lowWord n) false refl p refl
 
   pub same-dirent : direntBy D (lowWord n) (highWord n) ≡ direntOf D n
-  same-dirent = ap (λ (t : ℕ → Bool). entry (first t 0 DIRENTS)) (fun-ext same-entry)
+  same-dirent = ap (λ (t : ℕ → Bool). entry (first t 0 ENTRIES)) (fun-ext same-entry)

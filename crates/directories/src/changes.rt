@@ -1,7 +1,7 @@
 // What a directory becomes that gains or loses a name, whether it has the name, and its free entries.
 ghost use mathlib.Core.Path.{_≡_};
-ghost use Rattle.rules.specs.Layout.{FILE-WIDTH};
-ghost use Rattle.rules.specs.Store.{tab, shownOf};
+ghost use Rattle.rules.specs.Store.{shownOf};
+ghost use Rattle.rules.specs.Rom.{filesIn};
 ghost use Rattle.rules.specs.Directories.{freeDirent};
 ghost use Rattle.rules.specs.Checks.{isAbsent, gains, loses};
 use crate::entries::free_dirent;
@@ -10,7 +10,7 @@ use rules::decision::Location;
 use rules::ids::Dirent;
 use rules::ids::Slot;
 use tables::files::shown;
-use tables::ids::is_dirent;
+use tables::ids::is_entry;
 use tables::numbers::down_one;
 use tables::numbers::up_one;
 
@@ -18,7 +18,7 @@ use tables::numbers::up_one;
 pub fn is_absent(at: Location) -> bool
     ensures { λ r. ⌜ r ≡ isAbsent at ⌝ }
 {
-    !is_dirent(at.dirent)
+    !is_entry(at.dirent)
 }
 
 // The lowest free entry of the directory in slot d.
@@ -30,24 +30,24 @@ pub fn free_in(files: &[u32], contents: &[u8], d: Slot) -> Dirent
 
 // A directory that gains a name in entry i.
 pub fn gaining(files: &[u32], d: Slot, i: Dirent) -> DirChange
-    ensures { λ r. ⌜ r ≡ gains (tab FILE-WIDTH (now (files .entry))) d i ⌝ }
+    ensures { λ r. ⌜ r ≡ gains (filesIn (now (files .entry))) d i ⌝ }
 {
     DirChange {
         dir: d,
         dirent: i,
-        length: up_one(tables::files::length(files, d)),
-        version: up_one(tables::files::version(files, d)),
+        length: up_one(rom::seen::length(files, d)),
+        version: up_one(rom::seen::version(files, d)),
     }
 }
 
 // A directory that loses the name in entry i.
 pub fn losing(files: &[u32], d: Slot, i: Dirent) -> DirChange
-    ensures { λ r. ⌜ r ≡ loses (tab FILE-WIDTH (now (files .entry))) d i ⌝ }
+    ensures { λ r. ⌜ r ≡ loses (filesIn (now (files .entry))) d i ⌝ }
 {
     DirChange {
         dir: d,
         dirent: i,
-        length: down_one(tables::files::length(files, d)),
-        version: up_one(tables::files::version(files, d)),
+        length: down_one(rom::seen::length(files, d)),
+        version: up_one(rom::seen::version(files, d)),
     }
 }

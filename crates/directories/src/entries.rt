@@ -1,24 +1,27 @@
-// The entries of a directory. `dir` is what the view shows of a slot.
+// The entries of a directory. `dir` is what is seen of it.
 ghost use mathlib.Core.Path.{_≡_};
-ghost use mathlib.Core.Bool.{not};
+ghost use mathlib.Core.Bool.{cond, not};
 ghost use mathlib.Core.List.{[], _∷_};
 ghost use lib.Dec.{eqb, ltb};
 ghost use lib.ListN.{getD, length};
 ghost use Prim.Native.Nat.{_*_, _<_, _≤_};
 ghost use Rattle.rules.specs.Choice.{every};
 ghost use Rattle.rules.specs.Scan.{count, first};
-ghost use Rattle.rules.specs.Layout.{NAME, DIRENTS, DIRENT-WIDTH};
+ghost use Rattle.rules.specs.Layout.{NAME, DIRENTS, ENTRIES, DIRENT-WIDTH};
+ghost use Rattle.rules.specs.Store.{entry};
 ghost use Rattle.rules.specs.Directories.{direntAt, isEmpty, freeDirent, differsAt, difference, precedes, isBefore, isRanked, direntRanked, isPadding, direntName};
 ghost use Rattle.tables.specs.NameWords.{lowWord, highWord};
-ghost use Rattle.directories.specs.ByWords.{hasWords, direntBy};
+ghost use Rattle.directories.specs.ByWords.{hasWords, storedBy, direntBy};
 use rules::ids::Dirent;
 use tables::directories::dirent_at;
 use tables::directories::high_at;
 use tables::directories::is_empty;
 use tables::directories::is_padding;
 use tables::directories::low_at;
+use tables::ids::is_dirent;
 use tables::layout::DIRENT_WIDTH;
 use tables::layout::DIRENTS;
+use tables::layout::ENTRIES;
 use tables::layout::NAME;
 use tables::name_words::eight_of;
 use tables::name_words::six_of;
@@ -66,7 +69,7 @@ fn has_high(dir: &[u8], i: Dirent, high: u64) -> bool
 // The entries of a directory that is whole: no byte is tested against its end.
 fn dirent_in_whole(dir: &[u8], low: u64, high: u64) -> Dirent
     requires { ⌜ DIRENTS * DIRENT-WIDTH ≤ length (now dir) ⌝ }
-    ensures { λ r. ⌜ r ≡ direntBy (now (dir .entry)) low high ⌝ }
+    ensures { λ r. ⌜ r ≡ storedBy (now (dir .entry)) low high ⌝ }
 {
     let mut i: u32 = 0;
     while i < DIRENTS {
@@ -103,7 +106,7 @@ fn has_words(dir: &[u8], low: u64, high: u64, i: Dirent) -> bool
 }
 
 fn dirent_in_part(dir: &[u8], low: u64, high: u64) -> Dirent
-    ensures { λ r. ⌜ r ≡ direntBy (now (dir .entry)) low high ⌝ }
+    ensures { λ r. ⌜ r ≡ storedBy (now (dir .entry)) low high ⌝ }
 {
     let mut i: u32 = 0;
     while i < DIRENTS {
@@ -115,14 +118,35 @@ fn dirent_in_part(dir: &[u8], low: u64, high: u64) -> Dirent
     Dirent(DIRENTS)
 }
 
-// The entry that has the name of these words, 16 where none has.
-pub fn dirent_by(dir: &[u8], low: u64, high: u64) -> Dirent
-    ensures { λ r. ⌜ r ≡ direntBy (now (dir .entry)) low high ⌝ }
+// Of a directory's own entries the one that has the name of these words, 16 where none has.
+pub fn stored_by(dir: &[u8], low: u64, high: u64) -> Dirent
+    ensures { λ r. ⌜ r ≡ storedBy (now (dir .entry)) low high ⌝ }
 {
     if (DIRENTS as usize) * DIRENT_WIDTH <= dir.len() {
         return dirent_in_whole(dir, low, high);
     }
     dirent_in_part(dir, low, high)
+}
+
+// The seventeenth entry if it has the name, 17 else.
+pub(crate) fn seventeenth(has: bool) -> Dirent
+    ensures { λ r. ⌜ r ≡ entry (cond has DIRENTS ENTRIES) ⌝ }
+{
+    if has {
+        return Dirent(DIRENTS);
+    }
+    Dirent(ENTRIES)
+}
+
+// The entry that has the name of these words, 17 where none has.
+pub fn dirent_by(dir: &[u8], low: u64, high: u64) -> Dirent
+    ensures { λ r. ⌜ r ≡ direntBy (now (dir .entry)) low high ⌝ }
+{
+    let i = stored_by(dir, low, high);
+    if is_dirent(i) {
+        return i;
+    }
+    seventeenth(has_words(dir, low, high, Dirent(DIRENTS)))
 }
 
 // The lowest free entry, 16 where there is none.
@@ -206,11 +230,11 @@ fn is_before(dir: &[u8], i: Dirent, j: Dirent) -> bool
 
 // How many names come before that of entry i.
 fn rank_of(dir: &[u8], i: Dirent) -> u32
-    ensures { λ r. ⌜ r ≡ count (isBefore (now (dir .entry)) (i .0)) 0 DIRENTS ⌝ }
+    ensures { λ r. ⌜ r ≡ count (isBefore (now (dir .entry)) (i .0)) 0 ENTRIES ⌝ }
 {
     let mut n: u32 = 0;
     let mut j: u32 = 0;
-    while j < DIRENTS {
+    while j < ENTRIES {
         if is_before(dir, i, Dirent(j)) {
             n += 1;
         }
@@ -220,7 +244,7 @@ fn rank_of(dir: &[u8], i: Dirent) -> u32
 }
 
 fn has_rank(dir: &[u8], k: u32, i: Dirent) -> bool
-    ensures { λ r. ⌜ r ≡ eqb (count (isBefore (now (dir .entry)) (i .0)) 0 DIRENTS) k ⌝ }
+    ensures { λ r. ⌜ r ≡ eqb (count (isBefore (now (dir .entry)) (i .0)) 0 ENTRIES) k ⌝ }
 {
     rank_of(dir, i) == k
 }
@@ -234,18 +258,18 @@ fn is_ranked(dir: &[u8], k: u32, i: Dirent) -> bool
     has_rank(dir, k, i)
 }
 
-// The entry of the k-th name in byte order, 16 where there are not so many.
+// The entry of the k-th name in byte order, 17 where there are not so many.
 pub fn dirent_ranked(dir: &[u8], k: u32) -> Dirent
     ensures { λ r. ⌜ r ≡ direntRanked (now (dir .entry)) k ⌝ }
 {
     let mut i: u32 = 0;
-    while i < DIRENTS {
+    while i < ENTRIES {
         if is_ranked(dir, k, Dirent(i)) {
             return Dirent(i);
         }
         i += 1;
     }
-    Dirent(DIRENTS)
+    Dirent(ENTRIES)
 }
 
 fn name_length(name: &[u8]) -> usize

@@ -1,12 +1,13 @@
 // 8. Change bits.
 ghost use mathlib.Core.Path.{_≡_};
-ghost use Rattle.rules.specs.Layout.{FILE-WIDTH, FILE-OWNER};
-ghost use Rattle.rules.specs.Store.{tab, tree};
+ghost use Rattle.rules.specs.Layout.{FILE-OWNER};
+ghost use Rattle.rules.specs.Rom.{filesIn, treeIn};
 ghost use Rattle.rules.specs.Rights.{owns};
-ghost use Rattle.rules.specs.DecidePaths.{changeBitsAt, decideChangeBits};
+ghost use Rattle.rules.specs.DecidePaths.{mayChange, changeBitsAt, decideChangeBits};
 ghost use Rattle.rules.specs.declared.rights.BitsNumber.the-variants.{Valid};
 use resolution::walk::follow_path;
 use rights::rights::label_allows;
+use rom::seen::owner;
 use rules::decision::Decision;
 use rules::decision::Effect;
 use rules::decision::Output;
@@ -17,18 +18,28 @@ use rules::request::Subject;
 use rules::rights::Bits;
 use rules::rights::BitsNumber;
 use rules::rights::Rights;
-use tables::files::owner;
+use tables::ids::is_slot;
 
 fn owns_file(files: &[u32], who: Subject, s: Slot) -> bool
-    ensures { λ r. ⌜ r ≡ owns who (tab FILE-WIDTH (now (files .entry)) (s .0) FILE-OWNER) ⌝ }
+    ensures { λ r. ⌜ r ≡ owns who (filesIn (now (files .entry)) (s .0) FILE-OWNER) ⌝ }
 {
     rights::rights::is_owner(who, owner(files, s))
 }
 
-fn change_bits_at(files: &[u32], policy: &[u8], who: Subject, bits: Bits, s: Slot) -> Decision
-    ensures { λ r. ⌜ r ≡ changeBitsAt (now (policy .entry)) (tab FILE-WIDTH (now (files .entry))) who bits s ⌝ }
+// And of the store.
+fn may_change(files: &[u32], who: Subject, s: Slot) -> bool
+    ensures { λ r. ⌜ r ≡ mayChange (filesIn (now (files .entry))) who s ⌝ }
 {
     if !owns_file(files, who, s) {
+        return false;
+    }
+    is_slot(s)
+}
+
+fn change_bits_at(files: &[u32], policy: &[u8], who: Subject, bits: Bits, s: Slot) -> Decision
+    ensures { λ r. ⌜ r ≡ changeBitsAt (now (policy .entry)) (filesIn (now (files .entry))) who bits s ⌝ }
+{
+    if !may_change(files, who, s) {
         return Decision::Refused(Refusal::BitsForbid, 0);
     }
     if !label_allows(files, policy, who, s, Rights::WRITE) {
@@ -41,13 +52,14 @@ fn change_bits_to(
     files: &[u32],
     contents: &[u8],
     policy: &[u8],
+    rom: &[u8],
     who: Subject,
     bits: Bits,
     path: &[u8],
 ) -> Decision
-    ensures { λ r. ⌜ r ≡ decideChangeBits (now (policy .entry)) (tree (now (files .entry)) (now (contents .entry))) who (Valid bits) (now (path .entry)) ⌝ }
+    ensures { λ r. ⌜ r ≡ decideChangeBits (now (policy .entry)) (treeIn (now (rom .entry)) (now (files .entry)) (now (contents .entry))) who (Valid bits) (now (path .entry)) ⌝ }
 {
-    match follow_path(files, contents, policy, who, path) {
+    match follow_path(files, contents, policy, rom, who, path) {
         Walk::Reached(at) => change_bits_at(files, policy, who, bits, at.slot),
         Walk::Stopped(r, k) => Decision::Refused(r, k),
     }
@@ -57,14 +69,15 @@ pub fn decide_change_bits(
     files: &[u32],
     contents: &[u8],
     policy: &[u8],
+    rom: &[u8],
     who: Subject,
     bits: BitsNumber,
     path: &[u8],
 ) -> Decision
-    ensures { λ r. ⌜ r ≡ decideChangeBits (now (policy .entry)) (tree (now (files .entry)) (now (contents .entry))) who bits (now (path .entry)) ⌝ }
+    ensures { λ r. ⌜ r ≡ decideChangeBits (now (policy .entry)) (treeIn (now (rom .entry)) (now (files .entry)) (now (contents .entry))) who bits (now (path .entry)) ⌝ }
 {
     match bits {
-        BitsNumber::Valid(b) => change_bits_to(files, contents, policy, who, b, path),
+        BitsNumber::Valid(b) => change_bits_to(files, contents, policy, rom, who, b, path),
         BitsNumber::OutOfRange => Decision::Refused(Refusal::Malformed, 0),
     }
 }

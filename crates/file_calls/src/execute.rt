@@ -2,13 +2,15 @@
 ghost use mathlib.Core.Path.{_≡_};
 ghost use mathlib.Core.Bool.{cond};
 ghost use lib.Dec.{eqb};
-ghost use Rattle.rules.specs.Layout.{FILE-WIDTH, NO-TRANSITION};
-ghost use Rattle.rules.specs.Store.{tab, tree};
+ghost use Rattle.rules.specs.Layout.{NO-TRANSITION};
+ghost use Rattle.rules.specs.Rom.{filesIn, treeIn};
 ghost use Rattle.rules.specs.Rights.{moved};
 ghost use Rattle.rules.specs.DecidePaths.{executed, executeAt, decideExecute};
 use resolution::walk::follow_path;
 use rights::rights::bits_allow_execute;
 use rights::rights::label_allows;
+use rom::seen::is_plain;
+use rom::seen::label;
 use rules::decision::Decision;
 use rules::decision::Effect;
 use rules::decision::Output;
@@ -17,8 +19,6 @@ use rules::ids::Slot;
 use rules::refusal::Refusal;
 use rules::request::Subject;
 use rules::rights::Rights;
-use tables::files::is_plain;
-use tables::files::label;
 use tables::layout::NO_TRANSITION;
 use tables::policy::transition_of;
 
@@ -40,7 +40,7 @@ fn moved_label(policy: &[u8], l: u32, m: u32) -> u32
 }
 
 fn executed_at(files: &[u32], policy: &[u8], who: Subject, s: Slot) -> Decision
-    ensures { λ r. ⌜ r ≡ executed (now (policy .entry)) (tab FILE-WIDTH (now (files .entry))) who s ⌝ }
+    ensures { λ r. ⌜ r ≡ executed (now (policy .entry)) (filesIn (now (files .entry))) who s ⌝ }
 {
     Decision::Granted(
         0,
@@ -50,7 +50,7 @@ fn executed_at(files: &[u32], policy: &[u8], who: Subject, s: Slot) -> Decision
 }
 
 fn execute_at(files: &[u32], policy: &[u8], who: Subject, s: Slot) -> Decision
-    ensures { λ r. ⌜ r ≡ executeAt (now (policy .entry)) (tab FILE-WIDTH (now (files .entry))) who s ⌝ }
+    ensures { λ r. ⌜ r ≡ executeAt (now (policy .entry)) (filesIn (now (files .entry))) who s ⌝ }
 {
     if !is_plain(files, s) {
         return Decision::Refused(Refusal::WrongKind, 0);
@@ -68,12 +68,13 @@ pub fn decide_execute(
     files: &[u32],
     contents: &[u8],
     policy: &[u8],
+    rom: &[u8],
     who: Subject,
     path: &[u8],
 ) -> Decision
-    ensures { λ r. ⌜ r ≡ decideExecute (now (policy .entry)) (tree (now (files .entry)) (now (contents .entry))) who (now (path .entry)) ⌝ }
+    ensures { λ r. ⌜ r ≡ decideExecute (now (policy .entry)) (treeIn (now (rom .entry)) (now (files .entry)) (now (contents .entry))) who (now (path .entry)) ⌝ }
 {
-    match follow_path(files, contents, policy, who, path) {
+    match follow_path(files, contents, policy, rom, who, path) {
         Walk::Reached(at) => execute_at(files, policy, who, at.slot),
         Walk::Stopped(r, k) => Decision::Refused(r, k),
     }

@@ -1,10 +1,12 @@
 // 19. Read link.
 ghost use mathlib.Core.Path.{_≡_};
 ghost use Prim.Native.Nat.{min};
-ghost use Rattle.rules.specs.Layout.{FILE-WIDTH, FILE-LENGTH};
-ghost use Rattle.rules.specs.Store.{tab, tree};
+ghost use Rattle.rules.specs.Layout.{FILE-LENGTH};
+ghost use Rattle.rules.specs.Rom.{filesIn, treeIn};
 ghost use Rattle.rules.specs.DecidePaths.{linkRead, readLinkAt, decideReadLink};
 use resolution::walk::walk_path;
+use rom::seen::is_link;
+use rom::seen::length;
 use rules::decision::Decision;
 use rules::decision::Effect;
 use rules::decision::Output;
@@ -12,8 +14,6 @@ use rules::decision::Walk;
 use rules::ids::Slot;
 use rules::refusal::Refusal;
 use rules::request::Subject;
-use tables::files::is_link;
-use tables::files::length;
 use tables::numbers::smaller;
 
 fn link_read(s: Slot, n: u32) -> Decision
@@ -23,13 +23,13 @@ fn link_read(s: Slot, n: u32) -> Decision
 }
 
 fn read_text(files: &[u32], size: usize, s: Slot) -> Decision
-    ensures { λ r. ⌜ r ≡ linkRead s (min size (tab FILE-WIDTH (now (files .entry)) (s .0) FILE-LENGTH)) ⌝ }
+    ensures { λ r. ⌜ r ≡ linkRead s (min size (filesIn (now (files .entry)) (s .0) FILE-LENGTH)) ⌝ }
 {
     link_read(s, smaller(size, length(files, s)))
 }
 
 fn read_link_at(files: &[u32], size: usize, s: Slot) -> Decision
-    ensures { λ r. ⌜ r ≡ readLinkAt (tab FILE-WIDTH (now (files .entry))) size s ⌝ }
+    ensures { λ r. ⌜ r ≡ readLinkAt (filesIn (now (files .entry))) size s ⌝ }
 {
     if !is_link(files, s) {
         return Decision::Refused(Refusal::WrongKind, 0);
@@ -42,13 +42,14 @@ pub fn decide_read_link(
     files: &[u32],
     contents: &[u8],
     policy: &[u8],
+    rom: &[u8],
     who: Subject,
     size: usize,
     path: &[u8],
 ) -> Decision
-    ensures { λ r. ⌜ r ≡ decideReadLink (now (policy .entry)) (tree (now (files .entry)) (now (contents .entry))) who size (now (path .entry)) ⌝ }
+    ensures { λ r. ⌜ r ≡ decideReadLink (now (policy .entry)) (treeIn (now (rom .entry)) (now (files .entry)) (now (contents .entry))) who size (now (path .entry)) ⌝ }
 {
-    match walk_path(files, contents, policy, who, path) {
+    match walk_path(files, contents, policy, rom, who, path) {
         Walk::Reached(at) => read_link_at(files, size, at.slot),
         Walk::Stopped(r, k) => Decision::Refused(r, k),
     }

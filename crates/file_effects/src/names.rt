@@ -2,9 +2,9 @@
 ghost use mathlib.Core.Path.{_≡_};
 ghost use mathlib.Core.List.{List, [], _∷_};
 ghost use Prim.Native.Nat.{ℕ};
-ghost use Rattle.rules.specs.Store.{store, fileTo, bytesTo, applyAll};
+ghost use Rattle.rules.specs.Store.{store, fileTo, bytesTo, applyAll, words};
 ghost use Rattle.rules.specs.Paths.{names, lastName};
-ghost use Rattle.rules.specs.Effects.{words, nameChanges, unnameChanges, createChanges, symlinkChanges, linkChanges, unnamedChanges, unlinkChanges, removeChanges};
+ghost use Rattle.rules.specs.Effects.{nameChanges, unnameChanges, createChanges, symlinkChanges, linkChanges, unnamedChanges, unlinkChanges, removeChanges};
 use resolution::paths::last_name;
 use rows::rows::clear_slot;
 use rows::rows::put_directory;

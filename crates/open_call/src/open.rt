@@ -3,8 +3,9 @@ ghost use mathlib.Core.Path.{_≡_};
 ghost use mathlib.Core.List.{[], _∷_};
 ghost use lib.Dec.{ltb};
 ghost use Rattle.rules.specs.Choice.{every};
-ghost use Rattle.rules.specs.Layout.{FILE-WIDTH, OPEN-FILE-WIDTH, FILE-LENGTH};
-ghost use Rattle.rules.specs.Store.{tab, tree, descOf};
+ghost use Rattle.rules.specs.Layout.{OPEN-FILE-WIDTH, FILE-LENGTH};
+ghost use Rattle.rules.specs.Store.{tab, descOf};
+ghost use Rattle.rules.specs.Rom.{filesIn, treeIn};
 ghost use Rattle.rules.specs.Rights.{modeOf, modeRights};
 ghost use Rattle.rules.specs.Checks.{freeFd, freeOfd};
 ghost use Rattle.rules.specs.DecidePaths.{truncated, newOpen, opening, opened, openRoom, openFile, openMode, decideOpen};
@@ -14,6 +15,7 @@ use allocation::free::free_ofd;
 use resolution::walk::follow_path;
 use rights::rights::Permission;
 use rights::rights::permission_over;
+use rom::seen::is_plain;
 use rules::decision::Decision;
 use rules::decision::Effect;
 use rules::decision::NewOpen;
@@ -29,7 +31,6 @@ use rules::request::Subject;
 use rules::rights::ModeNumber;
 use rules::rights::OpenMode;
 use rules::rights::Rights;
-use tables::files::is_plain;
 use tables::ids::is_fd;
 use tables::ids::is_ofd;
 use tables::layout::PLAIN;
@@ -52,17 +53,17 @@ fn rights_of(m: OpenMode) -> Rights
 
 // The record of a file that is truncated.
 fn truncate(files: &[u32], s: Slot) -> Record
-    ensures { λ r. ⌜ r ≡ truncated (tab FILE-WIDTH (now (files .entry))) s ⌝ }
+    ensures { λ r. ⌜ r ≡ truncated (filesIn (now (files .entry))) s ⌝ }
 {
     Record {
         kind: PLAIN,
-        owner: tables::files::owner(files, s),
-        group: tables::files::group(files, s),
-        bits: tables::files::bits(files, s),
-        label: tables::files::label(files, s),
+        owner: rom::seen::owner(files, s),
+        group: rom::seen::group(files, s),
+        bits: rom::seen::bits(files, s),
+        label: rom::seen::label(files, s),
         length: 0,
-        links: tables::files::links(files, s),
-        version: up_one(tables::files::version(files, s)),
+        links: rom::seen::links(files, s),
+        version: up_one(rom::seen::version(files, s)),
     }
 }
 
@@ -78,14 +79,14 @@ fn new_open(s: Slot, m: OpenMode, i: Fd, e: Ofd) -> NewOpen
 }
 
 fn has_bytes(files: &[u32], s: Slot) -> bool
-    ensures { λ r. ⌜ r ≡ ltb 0 (tab FILE-WIDTH (now (files .entry)) (s .0) FILE-LENGTH) ⌝ }
+    ensures { λ r. ⌜ r ≡ ltb 0 (filesIn (now (files .entry)) (s .0) FILE-LENGTH) ⌝ }
 {
-    0 < tables::files::length(files, s)
+    0 < rom::seen::length(files, s)
 }
 
 // An empty file is not truncated.
 fn is_truncated(files: &[u32], s: Slot, truncating: bool) -> bool
-    ensures { λ r. ⌜ r ≡ every (truncating ∷ ltb 0 (tab FILE-WIDTH (now (files .entry)) (s .0) FILE-LENGTH) ∷ []) ⌝ }
+    ensures { λ r. ⌜ r ≡ every (truncating ∷ ltb 0 (filesIn (now (files .entry)) (s .0) FILE-LENGTH) ∷ []) ⌝ }
 {
     if !truncating {
         return false;
@@ -94,7 +95,7 @@ fn is_truncated(files: &[u32], s: Slot, truncating: bool) -> bool
 }
 
 fn truncated_open(files: &[u32], s: Slot, m: OpenMode, i: Fd, e: Ofd) -> Effect
-    ensures { λ r. ⌜ r ≡ effect.Truncated (newOpen s m i e) (truncated (tab FILE-WIDTH (now (files .entry))) s) ⌝ }
+    ensures { λ r. ⌜ r ≡ effect.Truncated (newOpen s m i e) (truncated (filesIn (now (files .entry))) s) ⌝ }
 {
     Effect::Truncated(new_open(s, m, i, e), truncate(files, s))
 }
@@ -106,7 +107,7 @@ fn plain_open(s: Slot, m: OpenMode, i: Fd, e: Ofd) -> Effect
 }
 
 fn open_effect(files: &[u32], s: Slot, m: OpenMode, truncating: bool, i: Fd, e: Ofd) -> Effect
-    ensures { λ r. ⌜ r ≡ opening (tab FILE-WIDTH (now (files .entry))) s m truncating i e ⌝ }
+    ensures { λ r. ⌜ r ≡ opening (filesIn (now (files .entry))) s m truncating i e ⌝ }
 {
     if is_truncated(files, s, truncating) {
         return truncated_open(files, s, m, i, e);
@@ -115,7 +116,7 @@ fn open_effect(files: &[u32], s: Slot, m: OpenMode, truncating: bool, i: Fd, e: 
 }
 
 fn opened_at(files: &[u32], s: Slot, m: OpenMode, truncating: bool, i: Fd, e: Ofd) -> Decision
-    ensures { λ r. ⌜ r ≡ opened (tab FILE-WIDTH (now (files .entry))) s m truncating i e ⌝ }
+    ensures { λ r. ⌜ r ≡ opened (filesIn (now (files .entry))) s m truncating i e ⌝ }
 {
     Decision::Granted(
         i.0 as u32,
@@ -125,7 +126,7 @@ fn opened_at(files: &[u32], s: Slot, m: OpenMode, truncating: bool, i: Fd, e: Of
 }
 
 fn open_room(files: &[u32], s: Slot, m: OpenMode, truncating: bool, i: Fd, e: Ofd) -> Decision
-    ensures { λ r. ⌜ r ≡ openRoom (tab FILE-WIDTH (now (files .entry))) s m truncating i e ⌝ }
+    ensures { λ r. ⌜ r ≡ openRoom (filesIn (now (files .entry))) s m truncating i e ⌝ }
 {
     if !is_fd(i) {
         return Decision::Refused(Refusal::TableFull, 0);
@@ -145,7 +146,7 @@ fn open_free(
     truncating: bool,
     s: Slot,
 ) -> Decision
-    ensures { λ r. ⌜ r ≡ openRoom (tab FILE-WIDTH (now (files .entry))) s m truncating (freeFd (descOf (now (processes .entry))) p) (freeOfd (tab OPEN-FILE-WIDTH (now («open_files» .entry)))) ⌝ }
+    ensures { λ r. ⌜ r ≡ openRoom (filesIn (now (files .entry))) s m truncating (freeFd (descOf (now (processes .entry))) p) (freeOfd (tab OPEN-FILE-WIDTH (now («open_files» .entry)))) ⌝ }
 {
     open_room(
         files,
@@ -168,7 +169,7 @@ fn open_file(
     truncating: bool,
     s: Slot,
 ) -> Decision
-    ensures { λ r. ⌜ r ≡ openFile (now (policy .entry)) (tab FILE-WIDTH (now (files .entry))) (tab OPEN-FILE-WIDTH (now («open_files» .entry))) (descOf (now (processes .entry))) p who m truncating s ⌝ }
+    ensures { λ r. ⌜ r ≡ openFile (now (policy .entry)) (filesIn (now (files .entry))) (tab OPEN-FILE-WIDTH (now («open_files» .entry))) (descOf (now (processes .entry))) p who m truncating s ⌝ }
 {
     if !is_plain(files, s) {
         return Decision::Refused(Refusal::WrongKind, 0);
@@ -190,7 +191,7 @@ fn open_mode(
     m: ModeNumber,
     s: Slot,
 ) -> Decision
-    ensures { λ r. ⌜ r ≡ openMode (now (policy .entry)) (tab FILE-WIDTH (now (files .entry))) (tab OPEN-FILE-WIDTH (now («open_files» .entry))) (descOf (now (processes .entry))) p who m s ⌝ }
+    ensures { λ r. ⌜ r ≡ openMode (now (policy .entry)) (filesIn (now (files .entry))) (tab OPEN-FILE-WIDTH (now («open_files» .entry))) (descOf (now (processes .entry))) p who m s ⌝ }
 {
     match m {
         ModeNumber::Keep(k) => open_file(files, open_files, processes, policy, p, who, k, false, s),
@@ -215,14 +216,15 @@ pub fn decide_open(
     open_files: &[u32],
     processes: &[u32],
     policy: &[u8],
+    rom: &[u8],
     p: Pid,
     who: Subject,
     n: u32,
     path: &[u8],
 ) -> Decision
-    ensures { λ r. ⌜ r ≡ decideOpen (now (policy .entry)) (tree (now (files .entry)) (now (contents .entry))) (tab OPEN-FILE-WIDTH (now («open_files» .entry))) (descOf (now (processes .entry))) p who n (now (path .entry)) ⌝ }
+    ensures { λ r. ⌜ r ≡ decideOpen (now (policy .entry)) (treeIn (now (rom .entry)) (now (files .entry)) (now (contents .entry))) (tab OPEN-FILE-WIDTH (now («open_files» .entry))) (descOf (now (processes .entry))) p who n (now (path .entry)) ⌝ }
 {
-    match follow_path(files, contents, policy, who, path) {
+    match follow_path(files, contents, policy, rom, who, path) {
         Walk::Reached(at) => open_mode(
             files,
             open_files,

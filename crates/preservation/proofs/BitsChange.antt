@@ -2,7 +2,6 @@
 use mathlib.Core.Path.{_≡_, refl, ap}
 use mathlib.Core.Bool.{true}
 use mathlib.Core.Logic.{_⊎_, inl, inr}
-use mathlib.Core.List.{List}
 use Prim.Native.Nat.{ℕ, _-_}
 use native.Mathlib.Decide.{ℕ-discrete}
 use Rattle.rules.specs.Layout.{FILE-KIND, FILE-OWNER, FILE-BITS, FREE}
@@ -11,7 +10,7 @@ use Rattle.rules.specs.Refusals.{GRANTED}
 use Rattle.rules.specs.Rights.{owns}
 use Rattle.rules.specs.Calls.{Call}
 use Rattle.rules.specs.Effects.{carryOut}
-use Rattle.rules.specs.Step.{Outcome, replyTo, storeAfter, outcomeOf, act, step}
+use Rattle.rules.specs.Step.{Outcome, replyTo, storeAfter, outcomeOf, into, act, step}
 use Rattle.rules.specs.declared.ids.Slot.{Slot}
 use Rattle.rules.specs.declared.decision.Unnamed.{Unnamed}
 use Rattle.rules.specs.declared.decision.Unnamed.the-variants as unnamed
@@ -88,11 +87,11 @@ module _ (s : Store) (h : SoundStore s) (c : Call) (f : ℕ) where
   unlink-left d i y (frees a b) = remove-left d i y
 
   -- each effect: all but a change of bits leave the bits of f, or free it; a create or a new link gives out a slot that was free
-  changes-bits : {Q : List ℕ} {n : ℕ} {o : Output} {e : Effect} → Granting Q s h c n o e → Differ (carryOut c e s)
+  changes-bits : {K : Fixed} {n : ℕ} {o : Output} {e : Effect} → Granting K s h c n o e → Differ (carryOut c e s)
   unfolding carryOut
   changes-bits (nothing n o) = λ a b x. absurd (x refl)
-  changes-bits (opens n o) = leaves-bits (open-leaves s h (c .process) n o) (unfold handed in refl)
-  changes-bits (truncates n o a) = leaves-bits (truncate-leaves s h (c .process) n o) (truncate-bits (n .slot .0) _ _ (unfold handed in refl) refl)
+  changes-bits (opens n o l) = leaves-bits (open-leaves s h (c .process) n o) (unfold handed in refl)
+  changes-bits (truncates n o hs a) = leaves-bits (truncate-leaves s h (c .process) n o hs) (truncate-bits (n .slot .0) _ _ (unfold handed in refl) refl)
   changes-bits (creates d i y new o) = let w = create-leaves s h _ (subjectOf (view s .proc) (c .process)) d i (slot y) new o in
       split f y (λ q _ a. absurd (a (rw q (o .free)))) (λ q t. leaves-bits w (rw t))
   changes-bits (symlinks d i y o) = let w = symlink-leaves s h _ (subjectOf (view s .proc) (c .process)) d i (slot y) (c .«data») o in
@@ -102,7 +101,7 @@ module _ (s : Store) (h : SoundStore s) (c : Call) (f : ℕ) where
   changes-bits (links d i y n hy k) = leaves-bits (link-leaves s h _ d i y n hy k) refl
   changes-bits (changesBits y b hy k n l o a) = split f (y .0) (λ q _ _ _ _. (a, rw q (owner-or-0 (y .0) o))) (λ q t. leaves-bits (bits-leaves s h (y .0) (b .0) hy k n l) (rw t))
   changes-bits (closes i u hi) = steadily _ (close-leaves s h (c .process) i (u .small) hi (u .used) (releasing-is s h (c .process) i (u .small) hi) .steady)
-  changes-bits (stores e at o l a) = leaves-bits (write-leaves s h (c .«data») _ (placed-well s h c e at o l)) (unfold wrote in refl)
+  changes-bits (stores e at o hs l a) = leaves-bits (write-leaves s h (c .«data») _ (placed-well s h c e at o hs l)) (unfold wrote in refl)
   changes-bits (reads e n o l) = leaves-bits (move-leaves s h e _ o (read-fits s h c e n l)) refl
   changes-bits (seeks e n o l) = leaves-bits (move-leaves s h e n o l) refl
   changes-bits (duplicates i j e o hj g) = unfold tablesOf in leaves-bits (duplicate-leaves s h (c .process) i j e o hj g) (unfold shared handed in refl)
@@ -115,11 +114,11 @@ abbrev ByCall8 : Store → Call → ℕ → Outcome → Type 0
 ByCall8 s c f x = (word s f FILE-KIND ≡ FREE → ⊥) → (word (x .store) f FILE-KIND ≡ FREE → ⊥) → (word (x .store) f FILE-BITS ≡ word s f FILE-BITS → ⊥) →
     (x .reply .refusal ≡ GRANTED) × ((c .call ≡ 8) × ((callerUser s c ≡ 0) ⊎ (callerUser s c ≡ word s f FILE-OWNER)))
 
-decided : {Q : List ℕ} (s : Store) (h : SoundStore s) (c : Call) (f : ℕ) {d : Decision} → Fit (Granting Q s h c) d → ByCall8 s c f (outcomeOf s c d)
+decided : (K : Fixed) (s : Store) (h : SoundStore s) (c : Call) (f : ℕ) {d : Decision} → Fit (Granting K s h c) d → ByCall8 s c f (outcomeOf (K .rom) s c (into (c .buffer)) d)
 unfolding outcomeOf replyTo storeAfter tablesOf
-decided s h c f (granting n o e g) = λ a b x. (refl, changes-bits s h c f g a b x)
-decided s h c f (refusing r i) = λ a b x. absurd (x refl)
+decided K s h c f (granting n o e g) = λ a b x. (refl, changes-bits s h c f g a b x)
+decided K s h c f (refusing r i) = λ a b x. absurd (x refl)
 
 pub bits-by-call : (K : Fixed) (s : Store) (c : Call) (f : ℕ) → ByCall8 s c f (step K s c)
 unfolding act
-bits-by-call K s c f = step-by K s c (ByCall8 s c f) (λ e. let w = means-sound K s .holds e in decided s (w .1) c f (decide-fit (K .policy) s (w .1) c (w .0))) (λ _ a b x. absurd (x refl))
+bits-by-call K s c f = step-by K s c (ByCall8 s c f) (λ e. let w = means-sound K s .holds e in decided K s (w .store) c f (decide-fit K s w c)) (λ _ a b x. absurd (x refl))

@@ -8,14 +8,14 @@ use native.Mathlib.Nat.{not-suc-le-zero}
 use native.Mathlib.Omega.{arith}
 use native.Mathlib.Decide.{decLt, ℕ-discrete}
 use lib.Dec.{eqb, ltb}
-use borrow.Author.Tests.{eq-eqb, ne-eqb, ltb-true, ltb-false}
+use borrow.Author.Tests.{eq-eqb, ne-eqb, ltb-true, ltb-false, lt-ltb, le-ltb}
 use Rattle.rules.specs.Layout.{SLOTS, OPEN-FILES, PROCESSES, DESCRIPTORS, FILE-KIND, FILE-LINKS, FILE-VERSION, OPEN-SLOT, OPEN-REFERENCES, PROCESS-USED, FREE}
 use Rattle.rules.specs.Choice.{every}
 use Rattle.rules.specs.Scan.{repeat}
-use Rattle.rules.specs.Store.{Store, view, slot, ofdOf, up, applyAll, change, procZero, fdOf, openBut, isOn}
+use Rattle.rules.specs.Store.{words, Store, view, slot, ofdOf, up, applyAll, change, procZero, fdOf, openBut, isOn}
 use Rattle.rules.specs.Checks.{held, ofdHeld, closing, dropping, releasing}
 use Rattle.rules.specs.Checks as checks
-use Rattle.rules.specs.Effects.{words, releaseChanges, closeChanges, released, releasedAll}
+use Rattle.rules.specs.Effects.{releaseChanges, closeChanges, released, releasedAll}
 use Rattle.rules.specs.declared.ids.Pid.{Pid}
 use Rattle.rules.specs.declared.ids.Fd.{Fd}
 use Rattle.rules.specs.declared.decision.Release.{Release}
@@ -32,7 +32,7 @@ use Rattle.preservation.proofs.OneWord as word
 use Rattle.preservation.proofs.Remake.{remade}
 use Rattle.preservation.proofs.Rows.{freeRow}
 use Rattle.preservation.proofs.Create.{freed}
-use Rattle.preservation.proofs.Open.{handed, close-keeps, close-named, close-open, close-frees, slot-small}
+use Rattle.preservation.proofs.Open.{handed, close-keeps, close-prompt, close-named, close-open, close-frees}
 use Rattle.preservation.proofs.Processes.{retire-sound}
 use Rattle.preservation.proofs.StoreChanges.{tablesOf, Has, has-clearTo, has-openRow, has-openZero, has-descTo, has-procZero, desc-past}
 use Rattle.preservation.proofs.Counted.{means-on}
@@ -45,43 +45,51 @@ module _ (s : Store) (h : SoundStore s) (p : Pid) (i : Fd) where
   pub data Releasing : Release → Type 0 where
     nothing : tablesOf s .desc (p .0) (i .0) ≡ 0 → Releasing release.Nothing
     keeps : (e : ℕ) → tablesOf s .desc (p .0) (i .0) ≡ e + 1 → 1 < tablesOf s .openFiles e OPEN-REFERENCES → Releasing (release.Kept (ofdOf e) (view s .openFiles e OPEN-REFERENCES - 1))
-    named : (e : ℕ) → tablesOf s .desc (p .0) (i .0) ≡ e + 1 → tablesOf s .openFiles e OPEN-REFERENCES ≡ 1 → 0 < tablesOf s .file (tablesOf s .openFiles e OPEN-SLOT) FILE-LINKS → Releasing (release.Gone (ofdOf e))
-    stays : (e : ℕ) → tablesOf s .desc (p .0) (i .0) ≡ e + 1 → tablesOf s .openFiles e OPEN-REFERENCES ≡ 1 → (j : ℕ) → j < OPEN-FILES → (j ≡ e → ⊥) → (tablesOf s .openFiles j OPEN-REFERENCES ≡ 0 → ⊥) →
+    prompt : (e : ℕ) → tablesOf s .desc (p .0) (i .0) ≡ e + 1 → tablesOf s .openFiles e OPEN-REFERENCES ≡ 1 → (tablesOf s .openFiles e OPEN-SLOT < SLOTS → ⊥) → Releasing (release.Gone (ofdOf e))
+    named : (e : ℕ) → tablesOf s .desc (p .0) (i .0) ≡ e + 1 → tablesOf s .openFiles e OPEN-REFERENCES ≡ 1 → tablesOf s .openFiles e OPEN-SLOT < SLOTS → 0 < tablesOf s .file (tablesOf s .openFiles e OPEN-SLOT) FILE-LINKS → Releasing (release.Gone (ofdOf e))
+    stays : (e : ℕ) → tablesOf s .desc (p .0) (i .0) ≡ e + 1 → tablesOf s .openFiles e OPEN-REFERENCES ≡ 1 → tablesOf s .openFiles e OPEN-SLOT < SLOTS → (j : ℕ) → j < OPEN-FILES → (j ≡ e → ⊥) → (tablesOf s .openFiles j OPEN-REFERENCES ≡ 0 → ⊥) →
         tablesOf s .openFiles j OPEN-SLOT ≡ tablesOf s .openFiles e OPEN-SLOT → Releasing (release.Gone (ofdOf e))
-    frees : (e : ℕ) → tablesOf s .desc (p .0) (i .0) ≡ e + 1 → tablesOf s .openFiles e OPEN-REFERENCES ≡ 1 → tablesOf s .file (tablesOf s .openFiles e OPEN-SLOT) FILE-LINKS ≡ 0 →
+    frees : (e : ℕ) → tablesOf s .desc (p .0) (i .0) ≡ e + 1 → tablesOf s .openFiles e OPEN-REFERENCES ≡ 1 → tablesOf s .openFiles e OPEN-SLOT < SLOTS → tablesOf s .file (tablesOf s .openFiles e OPEN-SLOT) FILE-LINKS ≡ 0 →
         ((j : ℕ) → j < OPEN-FILES → (j ≡ e → ⊥) → (tablesOf s .openFiles j OPEN-REFERENCES ≡ 0 → ⊥) → tablesOf s .openFiles j OPEN-SLOT ≡ tablesOf s .openFiles e OPEN-SLOT → ⊥) →
         Releasing (release.Freed (ofdOf e) (slot (view s .openFiles e OPEN-SLOT)) (checks.freed (view s .tree .file) (slot (view s .openFiles e OPEN-SLOT))))
 
   module _ (hp : p .0 < PROCESSES) (hi : i .0 < DESCRIPTORS) where
     closing-is : (e : ℕ) → tablesOf s .desc (p .0) (i .0) ≡ e + 1 → tablesOf s .openFiles e OPEN-REFERENCES ≡ 1 → Releasing (closing (view s .tree .file) (view s .openFiles) (ofdOf e) (slot (view s .openFiles e OPEN-SLOT)))
     unfolding closing tablesOf
-    closing-is e d r = by (every (eqb (view s .tree .file (view s .openFiles e OPEN-SLOT) FILE-LINKS) 0 ∷ not (openBut (view s .openFiles) (ofdOf e) (slot (view s .openFiles e OPEN-SLOT))) ∷ [])) refl
+    closing-is e d r = whose (decLt (view s .openFiles e OPEN-SLOT) SLOTS)
       where
-        open-elsewhere : openBut (view s .openFiles) (ofdOf e) (slot (view s .openFiles e OPEN-SLOT)) ≡ true → Releasing (release.Gone (ofdOf e))
-        open-elsewhere t =
+        open-elsewhere : view s .openFiles e OPEN-SLOT < SLOTS → openBut (view s .openFiles) (ofdOf e) (slot (view s .openFiles e OPEN-SLOT)) ≡ true → Releasing (release.Gone (ofdOf e))
+        open-elsewhere hs t =
             let f = any-found (isOn (view s .openFiles) (ofdOf e) (slot (view s .openFiles e OPEN-SLOT))) OPEN-FILES (unfold openBut in t) in
             let w = means-on (view s .openFiles) e (view s .openFiles e OPEN-SLOT) (f .at) .holds (f .passes) in
-            stays e d r (f .at) (f .small) (w .0) (w .1 .0) (w .1 .1)
+            stays e d r hs (f .at) (f .small) (w .0) (w .1 .0) (w .1 .1)
 
         nowhere : openBut (view s .openFiles) (ofdOf e) (slot (view s .openFiles e OPEN-SLOT)) ≡ false → (j : ℕ) → j < OPEN-FILES → (j ≡ e → ⊥) → (view s .openFiles j OPEN-REFERENCES ≡ 0 → ⊥) → view s .openFiles j OPEN-SLOT ≡ view s .openFiles e OPEN-SLOT → ⊥
         nowhere t j hj n a b = false≢true (sym (any-none (isOn (view s .openFiles) (ofdOf e) (slot (view s .openFiles e OPEN-SLOT))) OPEN-FILES (unfold openBut in t) j hj) ∙ means-on (view s .openFiles) e (view s .openFiles e OPEN-SLOT) j .tests (n, (a, b)))
 
-        gone : (b : Bool) → openBut (view s .openFiles) (ofdOf e) (slot (view s .openFiles e OPEN-SLOT)) ≡ b → Dec (view s .tree .file (view s .openFiles e OPEN-SLOT) FILE-LINKS ≡ 0) →
+        gone : view s .openFiles e OPEN-SLOT < SLOTS → (b : Bool) → openBut (view s .openFiles) (ofdOf e) (slot (view s .openFiles e OPEN-SLOT)) ≡ b → Dec (view s .tree .file (view s .openFiles e OPEN-SLOT) FILE-LINKS ≡ 0) →
             every (eqb (view s .tree .file (view s .openFiles e OPEN-SLOT) FILE-LINKS) 0 ∷ not (openBut (view s .openFiles) (ofdOf e) (slot (view s .openFiles e OPEN-SLOT))) ∷ []) ≡ false → Releasing (release.Gone (ofdOf e))
-        gone true t q z = open-elsewhere t
-        gone false t (no n) z = named e d r (omega arith)
-        gone false t (yes q) z = absurd (false≢true (sym z ∙ unfold every in rw (eq-eqb (view s .tree .file (view s .openFiles e OPEN-SLOT) FILE-LINKS) 0 q, t)))
+        gone hs true t q z = open-elsewhere hs t
+        gone hs false t (no n) z = named e d r hs (omega arith)
+        gone hs false t (yes q) z = absurd (false≢true (sym z ∙ unfold every in rw (eq-eqb (view s .tree .file (view s .openFiles e OPEN-SLOT) FILE-LINKS) 0 q, t)))
 
-        by : (b : Bool) → every (eqb (view s .tree .file (view s .openFiles e OPEN-SLOT) FILE-LINKS) 0 ∷ not (openBut (view s .openFiles) (ofdOf e) (slot (view s .openFiles e OPEN-SLOT))) ∷ []) ≡ b →
+        by : view s .openFiles e OPEN-SLOT < SLOTS → (b : Bool) → every (eqb (view s .tree .file (view s .openFiles e OPEN-SLOT) FILE-LINKS) 0 ∷ not (openBut (view s .openFiles) (ofdOf e) (slot (view s .openFiles e OPEN-SLOT))) ∷ []) ≡ b →
             Releasing (cond b (release.Freed (ofdOf e) (slot (view s .openFiles e OPEN-SLOT)) (checks.freed (view s .tree .file) (slot (view s .openFiles e OPEN-SLOT)))) (release.Gone (ofdOf e)))
-        by true t =
+        by hs true t =
             let w = means-every (means-and (means-eq (view s .tree .file (view s .openFiles e OPEN-SLOT) FILE-LINKS) 0) (means-last (means-eq-test (openBut (view s .openFiles) (ofdOf e) (slot (view s .openFiles e OPEN-SLOT)))))) .holds t in
-            frees e d r (w .0) (nowhere (w .1))
+            frees e d r hs (w .0) (nowhere (w .1))
           where
             means-eq-test : (b : Bool) → Means (not b) (b ≡ false)
             means-eq-test true = record { holds = λ q. absurd (false≢true q); tests = λ q. absurd (true≢false q) }
             means-eq-test false = record { holds = λ _. refl; tests = λ _. refl }
-        by false t = gone (openBut (view s .openFiles) (ofdOf e) (slot (view s .openFiles e OPEN-SLOT))) refl (ℕ-discrete (view s .tree .file (view s .openFiles e OPEN-SLOT) FILE-LINKS) 0) t
+        by hs false t = gone hs (openBut (view s .openFiles) (ofdOf e) (slot (view s .openFiles e OPEN-SLOT))) refl (ℕ-discrete (view s .tree .file (view s .openFiles e OPEN-SLOT) FILE-LINKS) 0) t
+
+        whose : Dec (view s .openFiles e OPEN-SLOT < SLOTS) →
+            Releasing (cond (every (ltb (view s .openFiles e OPEN-SLOT) SLOTS ∷ eqb (view s .tree .file (view s .openFiles e OPEN-SLOT) FILE-LINKS) 0 ∷ not (openBut (view s .openFiles) (ofdOf e) (slot (view s .openFiles e OPEN-SLOT))) ∷ []))
+            (release.Freed (ofdOf e) (slot (view s .openFiles e OPEN-SLOT)) (checks.freed (view s .tree .file) (slot (view s .openFiles e OPEN-SLOT)))) (release.Gone (ofdOf e)))
+        whose (yes hs) = rw (lt-ltb (view s .openFiles e OPEN-SLOT) SLOTS hs)
+            (unfold every in by hs (every (eqb (view s .tree .file (view s .openFiles e OPEN-SLOT) FILE-LINKS) 0 ∷ not (openBut (view s .openFiles) (ofdOf e) (slot (view s .openFiles e OPEN-SLOT))) ∷ [])) refl)
+        whose (no n) = rw (le-ltb (view s .openFiles e OPEN-SLOT) SLOTS (omega arith)) (unfold every in prompt e d r n)
 
     dropping-is : (e : ℕ) → tablesOf s .desc (p .0) (i .0) ≡ e + 1 → Releasing (dropping (view s .tree .file) (view s .openFiles) (ofdOf e))
     unfolding dropping
@@ -143,18 +151,22 @@ close-leaves s h p i hp hi u (keeps e d l) = from-leaves {m = handed (p .0) (i .
   has = unfold tablesOf in has-openRow (has-descTo (its-tables s h) (p .0) (i .0) 0 hp hi) e OPEN-REFERENCES (view s .openFiles e OPEN-REFERENCES - 1) (word.held SLOTS (tablesOf s) (h .tables) (p .0) (i .0) e hp hi d .small) (omega arith);
   sound = unfold tablesOf in close-keeps (tablesOf s) (h .tables) (p .0) (i .0) e hp hi (λ z. omega (arith, u, z)) d l;
 }) refl refl (λ f. inr (refl, refl))
-close-leaves s h p i hp hi u (named e d r l) = from-leaves {m = handed (p .0) (i .0) 0 e (λ _. 0) (tablesOf s)} (record {
+close-leaves s h p i hp hi u (prompt e d r n) = from-leaves {m = handed (p .0) (i .0) 0 e (λ _. 0) (tablesOf s)} (record {
   has = has-openZero (has-descTo (its-tables s h) (p .0) (i .0) 0 hp hi) e (word.held SLOTS (tablesOf s) (h .tables) (p .0) (i .0) e hp hi d .small);
-  sound = close-named (tablesOf s) (h .tables) (p .0) (i .0) e hp hi (λ z. omega (arith, u, z)) d r l;
+  sound = close-prompt (tablesOf s) (h .tables) (p .0) (i .0) e hp hi (λ z. omega (arith, u, z)) d r n;
 }) refl refl (λ f. inr (refl, refl))
-close-leaves s h p i hp hi u (stays e d r j hj n a b) = from-leaves {m = handed (p .0) (i .0) 0 e (λ _. 0) (tablesOf s)} (record {
+close-leaves s h p i hp hi u (named e d r hs l) = from-leaves {m = handed (p .0) (i .0) 0 e (λ _. 0) (tablesOf s)} (record {
   has = has-openZero (has-descTo (its-tables s h) (p .0) (i .0) 0 hp hi) e (word.held SLOTS (tablesOf s) (h .tables) (p .0) (i .0) e hp hi d .small);
-  sound = close-open (tablesOf s) (h .tables) (p .0) (i .0) e hp hi (λ z. omega (arith, u, z)) d r j hj n a b;
+  sound = close-named (tablesOf s) (h .tables) (p .0) (i .0) e hp hi (λ z. omega (arith, u, z)) d hs r l;
 }) refl refl (λ f. inr (refl, refl))
-close-leaves s h p i hp hi u (frees e d r l none) = from-leaves {m = freed (tablesOf s .openFiles e OPEN-SLOT) (up (tablesOf s .file (tablesOf s .openFiles e OPEN-SLOT) FILE-VERSION)) (handed (p .0) (i .0) 0 e (λ _. 0) (tablesOf s))} (record {
+close-leaves s h p i hp hi u (stays e d r hs j hj n a b) = from-leaves {m = handed (p .0) (i .0) 0 e (λ _. 0) (tablesOf s)} (record {
+  has = has-openZero (has-descTo (its-tables s h) (p .0) (i .0) 0 hp hi) e (word.held SLOTS (tablesOf s) (h .tables) (p .0) (i .0) e hp hi d .small);
+  sound = close-open (tablesOf s) (h .tables) (p .0) (i .0) e hp hi (λ z. omega (arith, u, z)) d hs r j hj n a b;
+}) refl refl (λ f. inr (refl, refl))
+close-leaves s h p i hp hi u (frees e d r hs l none) = from-leaves {m = freed (tablesOf s .openFiles e OPEN-SLOT) (up (tablesOf s .file (tablesOf s .openFiles e OPEN-SLOT) FILE-VERSION)) (handed (p .0) (i .0) 0 e (λ _. 0) (tablesOf s))} (record {
   has = unfold tablesOf freed in has-clearTo (has-openZero (has-descTo (its-tables s h) (p .0) (i .0) 0 hp hi) e (word.held SLOTS (tablesOf s) (h .tables) (p .0) (i .0) e hp hi d .small))
-      (view s .openFiles e OPEN-SLOT) (words (checks.freed (view s .tree .file) (slot (view s .openFiles e OPEN-SLOT)))) (slot-small (tablesOf s) (h .tables) (p .0) (i .0) e hp hi (λ z. omega (arith, u, z)) d) refl;
-  sound = close-frees (tablesOf s) (h .tables) (p .0) (i .0) e hp hi (λ z. omega (arith, u, z)) d r l none (up (tablesOf s .file (tablesOf s .openFiles e OPEN-SLOT) FILE-VERSION)) (up-most (tablesOf s .file (tablesOf s .openFiles e OPEN-SLOT) FILE-VERSION));
+      (view s .openFiles e OPEN-SLOT) (words (checks.freed (view s .tree .file) (slot (view s .openFiles e OPEN-SLOT)))) hs refl;
+  sound = close-frees (tablesOf s) (h .tables) (p .0) (i .0) e hp hi (λ z. omega (arith, u, z)) d hs r l none (up (tablesOf s .file (tablesOf s .openFiles e OPEN-SLOT) FILE-VERSION)) (up-most (tablesOf s .file (tablesOf s .openFiles e OPEN-SLOT) FILE-VERSION));
 }) (unfold freed remade in refl) (unfold freed remade in refl)
     (unfold freed in steady-freed (handed (p .0) (i .0) 0 e (λ _. 0) (tablesOf s)) (tablesOf s .openFiles e OPEN-SLOT) (freeRow (up (tablesOf s .file (tablesOf s .openFiles e OPEN-SLOT) FILE-VERSION))) (λ _. 0) refl)
 

@@ -10,7 +10,7 @@ use lib.ListN.{length}
 use borrow.Author.Tests.{eq-eqb, ne-eqb, lt-ltb, le-ltb}
 use Rattle.rules.specs.Paths.{pathOk}
 use Rattle.preservation.proofs.Tables.{Tables, col, direntRow, overRow}
-use Rattle.preservation.proofs.Sound.{All, Sound, SoundBut, File, validRow, sameRow, openCount}
+use Rattle.preservation.proofs.Sound.{All, Sound, SoundBut, File, validRow, sameRow, romRow, openCount}
 use Rattle.preservation.proofs.Rows.{freeRow, file-free}
 use Rattle.preservation.proofs.Dirents.{placed, Fits, used-at}
 use Rattle.preservation.proofs.Link.{loosen, tighten, linked, linked-sound}
@@ -31,6 +31,7 @@ pub record Name (m : Tables) (d p : ℕ) (r : ℕ → ℕ) (y : ℕ) : Type 0 wh
   pub row-end : (k : ℕ) → DIRENT-WIDTH ≤ k → r k ≡ 0
   pub row-valid : validRow r ≡ true
   pub row-new : (q : ℕ) → q < DIRENTS → (direntRow (m .byte) d q NAME ≡ 0 → ⊥) → sameRow (direntRow (m .byte) d q) r ≡ true → ⊥
+  pub row-rom : d ≡ 0 → sameRow r romRow ≡ true → ⊥
 
 pub name-fits : (m : Tables) (d p : ℕ) (r : ℕ → ℕ) (t y : ℕ) → Name m d p r y → t ≤ WORD-MAX → y < SLOTS → (y ≡ 0 → ⊥) → (m .file y FILE-KIND ≡ FREE → ⊥) → Fits m d p r t y
 name-fits m d p r t y n ht hy n0 u = record {
@@ -49,6 +50,7 @@ name-fits m d p r t y n ht hy n0 u = record {
   version-small = ht;
   file-used = u;
   file-root = n0;
+  row-rom = n .row-rom;
 }
 
 -- ---- link
@@ -111,7 +113,7 @@ module _ (m : Tables) (h : Sound m) (d p : ℕ) (r : ℕ → ℕ) (t y : ℕ) (r
     not-root = not-root;
     no-links = h .slots .files y hy .links-zero free;
     no-dirents = λ z. absurd (omega arith);
-    not-open = λ e he o z. omega (arith, rw z at (h .opens .open-files e he .plain o));
+    not-open = λ e he o z. omega (arith, rw z at (h .opens .open-files e he .plain o (rw z hy)));
   }
 
   pub create-sound : Sound (created d p r t y row g m)
@@ -138,6 +140,7 @@ module _ (m : Tables) (h : Sound m) (d p : ℕ) (r : ℕ → ℕ) (t y : ℕ) (r
         row-end = n .row-end;
         row-valid = n .row-valid;
         row-new = rw other (n .row-new);
+        row-rom = n .row-rom;
       }
 
 -- ---- free a slot: its version goes to t
@@ -170,7 +173,7 @@ module _ (m : Tables) (h : Sound m) (d p t y : ℕ) (hd : d < SLOTS) (kd : m .fi
       (unfold unlinked placed in (λ u o n. absurd (omega (arith, a, h .live .once y target-small (λ z. omega (arith, target-small, z)) u o n, closed o)))) (unfold unlinked placed in rw (eq-eqb y y refl) (λ _. a))
     where
       closed : (m .file y FILE-KIND ≡ PLAIN → ⊥) → openCount (col (m .openFiles) OPEN-SLOT) (col (m .openFiles) OPEN-REFERENCES) y ≡ 0
-      closed o = openCount-none (col (m .openFiles) OPEN-SLOT) (col (m .openFiles) OPEN-REFERENCES) y (λ i hi r q. o (rw q at (h .opens .open-files i hi .plain r)))
+      closed o = openCount-none (col (m .openFiles) OPEN-SLOT) (col (m .openFiles) OPEN-REFERENCES) y (λ i hi r q. o (rw q at (h .opens .open-files i hi .plain r (rw q target-small))))
 
   -- the file has no other name and is not open
   pub unlink-frees : (m .file y FILE-KIND ≡ DIRECTORY → ⊥) → m .file y FILE-LINKS - 1 ≡ 0 → ((i : ℕ) → i < OPEN-FILES → (m .openFiles i OPEN-REFERENCES ≡ 0 → ⊥) → m .openFiles i OPEN-SLOT ≡ y → ⊥) → (t′ : ℕ) → t′ ≤ WORD-MAX → Sound (freed y t′ (unlinked d p t y m))
@@ -193,7 +196,7 @@ remove-sound m h d p t y t′ hd kd hp e n0 ht k z0 ht′ =
       small = hy;
       not-root = n0;
       no-links = rw (eq-eqb y y refl) (omega (arith, h .live .once y hy (λ z. omega (arith, hy)) (λ z. omega (arith, k, z)) (λ z. omega (arith, k, z)) n0));
-      not-open = λ i hi o z. omega (arith, rw z at (h .opens .open-files i hi .plain o));
+      not-open = λ i hi o z. omega (arith, rw z at (h .opens .open-files i hi .plain o (rw z hy)));
       no-dirents = λ _ q hq. rw (ne-eqb y d other) (empty q hq);
     }) ht′
   where

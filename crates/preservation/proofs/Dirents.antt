@@ -9,7 +9,7 @@ use borrow.Author.Tests.{eq-eqb, ne-eqb, lt-ltb, le-ltb}
 use Rattle.preservation.proofs.Tests.{split, upd, upd2, upd-elim, upd-same, upd-other, means-all, means-eq}
 use Rattle.preservation.proofs.Sums.{ind, count, sum-change, sum2-change, sum2-at, sum-at, sum-none}
 use Rattle.preservation.proofs.Tables.{Tables, col, direntRow, rowsOf, fill, fileTo, bytesTo}
-use Rattle.preservation.proofs.Sound.{All, Slots, Directories, SoundBut, File, Block, Symlink, Dirent, Directory, Depths, naming, linkCount, nameCount, sameRow}
+use Rattle.preservation.proofs.Sound.{All, Slots, Directories, SoundBut, File, Block, Symlink, Dirent, Directory, Depths, naming, linkCount, nameCount, sameRow, NoRom, romRow}
 use Rattle.preservation.proofs.Rows.{length-to, links-to, version-to}
 use Rattle.preservation.proofs.Counts.{ind-eq}
 use Rattle.rules.specs.Layout.{SLOTS, DIRENTS, DIRENT-WIDTH, NAME, FILE-KIND, FILE-BITS, FILE-LENGTH, FILE-LINKS, FILE-VERSION, FREE, DIRECTORY, LINK, WORD-MAX}
@@ -101,6 +101,7 @@ pub record Fits (m : Tables) (d p : ℕ) (r : ℕ → ℕ) (t y : ℕ) : Type 0 
   pub version-small : t ≤ WORD-MAX
   pub file-used : m .file y FILE-KIND ≡ FREE → ⊥
   pub file-root : y ≡ 0 → ⊥
+  pub row-rom : d ≡ 0 → sameRow r romRow ≡ true → ⊥
 
 module _ (x : ℕ) (m : Tables) (h : SoundBut x m) (d p : ℕ) (r : ℕ → ℕ) (z t y c : ℕ) (f : Fits m d p r t y) where
   abbrev pub byte′ : ℕ → ℕ → ℕ
@@ -128,6 +129,11 @@ module _ (x : ℕ) (m : Tables) (h : SoundBut x m) (d p : ℕ) (r : ℕ → ℕ)
   placed-dirs i hi k = split i d
       (λ q e. rw (e, rows-fill (m .byte d) p r (f .row-end)) (dir-fill (col (m .file) FILE-KIND) (direntRow (m .byte) d) p r (h .tree .dirs d (f .dir-small) (f .dir-kind)) (f .row-dirent) (f .row-new)))
       (λ q e. rw e (h .tree .dirs i hi k))
+
+  placed-rom : NoRom (direntRow byte′)
+  placed-rom j hj = split 0 d
+      (λ q e. rw (e, rows-fill (m .byte d) p r (f .row-end)) (upd-elim (λ v. sameRow v romRow ≡ true → ⊥) (direntRow (m .byte) d) p r j (λ _. f .row-rom (sym q)) (λ _. rw (← q) (h .tree .no-rom j hj))))
+      (λ q e. rw e (h .tree .no-rom j hj))
 
   placed-lengths : z + ind (not (eqb (direntRow (m .byte) d p NAME) 0)) ≡ m .file d FILE-LENGTH + ind (not (eqb (r NAME) 0)) → All SLOTS (λ i. m .file i FILE-KIND ≡ DIRECTORY → upd (col (m .file) FILE-LENGTH) d z i ≡ nameCount (direntRow byte′ i))
   placed-lengths a i hi k = split i d
@@ -171,4 +177,4 @@ module _ (x : ℕ) (m : Tables) (h : SoundBut x m) (d p : ℕ) (r : ℕ → ℕ)
   pub placed-tree : z + ind (not (eqb (direntRow (m .byte) d p NAME) 0)) ≡ m .file d FILE-LENGTH + ind (not (eqb (r NAME) 0)) →
       All SLOTS (λ s. (s ≡ 0 → ⊥) → upd (col (m .file) FILE-LINKS) y c s + ind (eqb (direntRow (m .byte) d p NAME) s) ≡ m .file s FILE-LINKS + ind (eqb (r NAME) s)) →
       Depths (col (m .file) FILE-KIND) (direntRow byte′) → Directories (col (m .file) FILE-KIND) (upd (col (m .file) FILE-LENGTH) d z) (upd (col (m .file) FILE-LINKS) y c) (direntRow byte′)
-  placed-tree a b e = record { dirs = placed-dirs; lengths = placed-lengths a; links = placed-links b; depths = e }
+  placed-tree a b e = record { dirs = placed-dirs; lengths = placed-lengths a; links = placed-links b; depths = e; no-rom = placed-rom }

@@ -1,5 +1,5 @@
 -- What a granted decision gives on a sound store: for each effect, the facts that its checks and the store's soundness give.
-use mathlib.Core.Path.{_≡_, refl}
+use mathlib.Core.Path.{_≡_, refl, sym, _∙_}
 use mathlib.Core.Bool.{Bool, true, false, cond, not, false≢true}
 use mathlib.Core.List.{List}
 use Prim.Native.Nat.{ℕ, _+_, _-_, _*_, _≤_, _<_}
@@ -11,11 +11,12 @@ use borrow.Author.Tests.{eqb-true, eqb-false, ltb-true}
 use Rattle.rules.specs.Layout.{SLOTS, BLOCK, DIRENTS, OPEN-FILES, PROCESSES, DESCRIPTORS, RIGHTS-SIZE, LABELS, NO-TRANSITION, BITS-MAX, LABEL-MAX}
 use Rattle.rules.specs.Layout.{FILE-KIND, FILE-OWNER, FILE-LENGTH, FILE-LINKS, OPEN-SLOT, OPEN-OFFSET, OPEN-REFERENCES, PROCESS-USED, FREE, PLAIN, DIRECTORY, LINK}
 use Rattle.rules.specs.Scan.{all}
-use Rattle.rules.specs.Store.{Store, view, slot, isSlot, isPid, isFd, ofdOf, isOfd, entry, isDirent, subjectOf, up, plus}
+use Rattle.rules.specs.Store.{Store, Fixed, Table, view, slot, isSlot, isPid, isFd, ofdOf, isOfd, entry, isDirent, subjectOf, up, plus}
 use Rattle.rules.specs.Paths.{names, lastName}
-use Rattle.rules.specs.Rights.{TRUNCATE, owns, transition, moved}
+use Rattle.rules.specs.Rights.{WRITE, READ-WRITE, MODE-READ, MODE-BOTH, TRUNCATE, modeRights, asksWrite, owns, transition, moved}
 use Rattle.rules.specs.Directories.{isEmpty, freeDirent}
-use Rattle.rules.specs.Walk.{followPath}
+use Rattle.rules.specs.Rom.{seen, seenFile}
+use Rattle.rules.specs.Walk.{bitsAllow, followPath}
 use Rattle.rules.specs.Sound.{policySound, rightSound, transitionSound}
 use Rattle.rules.specs.Calls.{Call}
 use Rattle.rules.specs.Checks.{inUse, held, ofdHeld, freeSlot, freeOfd, freeFd, freePid, slotFree, ofdFree, fdFree, pidFree, gains, loses, unnaming, releasing}
@@ -26,6 +27,8 @@ use Rattle.rules.specs.declared.ids.Slot.{Slot}
 use Rattle.rules.specs.declared.ids.Pid.{Pid}
 use Rattle.rules.specs.declared.ids.Fd.{Fd}
 use Rattle.rules.specs.declared.rights.Bits.{Bits}
+use Rattle.rules.specs.declared.rights.OpenMode.{OpenMode}
+use Rattle.rules.specs.declared.request.Subject.{Subject}
 use Rattle.rules.specs.declared.decision.NewOpen.{NewOpen}
 use Rattle.rules.specs.declared.decision.NewFile.{NewFile}
 use Rattle.rules.specs.declared.decision.Output.{Output}
@@ -33,12 +36,13 @@ use Rattle.rules.specs.declared.decision.Output.the-variants as output
 use Rattle.rules.specs.declared.decision.Effect.{Effect}
 use Rattle.rules.specs.declared.decision.Effect.the-variants as effect
 use Rattle.rules.proofs.Scans.{all-at, first-passes}
+use Rattle.rules.proofs.Seen.{seen-stored, write-stored}
 use Rattle.preservation.specs.Claims.{EndsAt}
-use Rattle.preservation.proofs.Tests.{means-every, means-and, means-last, means-or, means-eq, means-le, means-lt, means-test}
+use Rattle.preservation.proofs.Tests.{split, means-every, means-and, means-last, means-or, means-eq, means-le, means-lt, means-test}
 use Rattle.preservation.proofs.OneWord.{Held}
 use Rattle.preservation.proofs.Tables.{overRow}
 use Rattle.preservation.proofs.StoreChanges.{tablesOf, desc-past}
-use Rattle.preservation.proofs.SoundStore.{SoundStore}
+use Rattle.preservation.proofs.SoundStore.{SoundStore, past}
 use Rattle.preservation.proofs.OpenEffects.{Caller, Opens, Holds}
 use Rattle.preservation.proofs.NameEffects.{Naming, Creates, Names}
 
@@ -48,14 +52,14 @@ use Rattle.preservation.proofs.NameEffects.{Naming, Creates, Names}
 abbrev pub AsksWrite : Store → Call → ℕ → Type 0
 AsksWrite s c f = (c .call ≡ 12) × ((0 < length (c .«data»)) × (view s .openFiles (ofdHeld (view s .desc) (c .process) (c .fd) .0) OPEN-SLOT ≡ f))
 
-abbrev pub AsksTruncation : List ℕ → Store → Call → ℕ → Type 0
-AsksTruncation Q s c f = (c .call ≡ 1) × ((TRUNCATE < c .number) × EndsAt (followPath (view s .tree) Q (asker (view s) c) (c .path)) f)
+abbrev pub AsksTruncation : Fixed → Store → Call → ℕ → Type 0
+AsksTruncation K s c f = let v = seen (K .rom) (view s) in (c .call ≡ 1) × ((TRUNCATE < c .number) × EndsAt (followPath (v .tree) (K .policy) (asker v c) (c .path)) f)
 
-module _ (Q : List ℕ) (s : Store) (h : SoundStore s) (c : Call) where
+module _ (K : Fixed) (s : Store) (h : SoundStore s) (c : Call) where
   pub data Granting : ℕ → Output → Effect → Type 0 where
     nothing : (n : ℕ) (o : Output) → Granting n o effect.Nothing
-    opens : (n : NewOpen) → Opens (tablesOf s) (c .process) n → Granting (n .fd .0) output.Nothing (effect.Opened n)
-    truncates : (n : NewOpen) → Opens (tablesOf s) (c .process) n → AsksTruncation Q s c (n .slot .0) → Granting (n .fd .0) output.Nothing (effect.Truncated n (truncated (view s .tree .file) (n .slot)))
+    opens : (n : NewOpen) → Opens (tablesOf s) (c .process) n → n .slot .0 < past (K .rom) → Granting (n .fd .0) output.Nothing (effect.Opened n)
+    truncates : (n : NewOpen) → Opens (tablesOf s) (c .process) n → n .slot .0 < SLOTS → AsksTruncation K s c (n .slot .0) → Granting (n .fd .0) output.Nothing (effect.Truncated n (truncated (view s .tree .file) (n .slot)))
     creates : (d : Slot) (i y : ℕ) (new : NewFile) → Creates s h (lastName (names (c .path))) (subjectOf (view s .proc) (c .process)) d i (slot y) new (tablesOf s .byte y) →
         Granting y output.Nothing (effect.Created (gains (view s .tree .file) d (entry i)) (slot y) (newRecord (view s .tree .file) (subjectOf (view s .proc) (c .process)) new d (slot y)))
     symlinks : (d : Slot) (i y : ℕ) → Creates s h (lastName (names (c .path))) (subjectOf (view s .proc) (c .process)) d i (slot y) (newLink (length (c .«data»))) (overRow (tablesOf s .byte y) 0 (c .«data»)) →
@@ -69,7 +73,7 @@ module _ (Q : List ℕ) (s : Store) (h : SoundStore s) (c : Call) where
     changesBits : (y : Slot) (b : Bits) → y .0 < SLOTS → (tablesOf s .file (y .0) FILE-KIND ≡ FREE → ⊥) → (tablesOf s .file (y .0) FILE-KIND ≡ LINK → ⊥) → b .0 ≤ BITS-MAX → owns (subjectOf (view s .proc) (c .process)) (view s .tree .file (y .0) FILE-OWNER) ≡ true → c .call ≡ 8 →
         Granting 0 output.Nothing (effect.BitsChanged y b)
     closes : (i : Fd) → Caller (tablesOf s) (c .process) → i .0 < DESCRIPTORS → Granting 0 output.Nothing (effect.Closed i (releasing (view s .tree .file) (view s .openFiles) (view s .desc) (c .process) i))
-    stores : (e at : ℕ) → Held (tablesOf s) e → at + length (c .«data») ≤ BLOCK → AsksWrite s c (view s .openFiles e OPEN-SLOT) →
+    stores : (e at : ℕ) → Held (tablesOf s) e → view s .openFiles e OPEN-SLOT < SLOTS → at + length (c .«data») ≤ BLOCK → AsksWrite s c (view s .openFiles e OPEN-SLOT) →
         Granting (length (c .«data»)) output.Nothing (effect.Stored (placement (view s .tree .file) (ofdOf e) (slot (view s .openFiles e OPEN-SLOT)) at (length (c .«data»))))
     reads : (e n : ℕ) → Held (tablesOf s) e → tablesOf s .openFiles e OPEN-OFFSET + n ≤ BLOCK → Granting n (output.Bytes (slot (view s .openFiles e OPEN-SLOT)) (view s .openFiles e OPEN-OFFSET) n) (effect.Moved (ofdOf e) (plus (view s .openFiles e OPEN-OFFSET) n))
     seeks : (e n : ℕ) → Held (tablesOf s) e → n ≤ BLOCK → Granting n output.Nothing (effect.Moved (ofdOf e) n)
@@ -92,9 +96,6 @@ module _ (s : Store) (h : SoundStore s) where
       by (yes l) = l
       by (no l) = absurd (n (List·getD-eq-default (s .files) 0 (omega (arith, h .sized .files-size))))
 
-  pub plain-small : (i : ℕ) → tablesOf s .file i FILE-KIND ≡ PLAIN → i < SLOTS
-  plain-small i e = used-small i (λ z. omega (arith, e, z))
-
   pub in-use : (p : Pid) → inUse (view s .proc) p ≡ true → Caller (tablesOf s) p
   unfolding inUse tablesOf
   in-use p e = let w = means-every (means-and (means-lt (p .0) PROCESSES) (means-last (means-eq (view s .proc (p .0) PROCESS-USED) 1))) .holds e in record { small = w .0; used = w .1 }
@@ -116,9 +117,12 @@ module _ (s : Store) (h : SoundStore s) where
 
   -- ---- the lowest free ones
 
-  pub slot-free : isSlot (freeSlot (view s .tree .file)) ≡ true → tablesOf s .file (freeSlot (view s .tree .file) .0) FILE-KIND ≡ FREE
+  pub slot-free : isSlot (freeSlot (seenFile (view s .tree .file))) ≡ true → tablesOf s .file (freeSlot (seenFile (view s .tree .file)) .0) FILE-KIND ≡ FREE
   unfolding tablesOf
-  slot-free t = eqb-true (view s .tree .file (freeSlot (view s .tree .file) .0) FILE-KIND) FREE (unfold slotFree in first-passes (slotFree (view s .tree .file)) SLOTS (ltb-true (freeSlot (view s .tree .file) .0) SLOTS t))
+  slot-free t =
+      let y = freeSlot (seenFile (view s .tree .file)) .0 in
+      let l : y < SLOTS = ltb-true y SLOTS t in
+      sym (seen-stored (view s .tree .file) y FILE-KIND l) ∙ eqb-true (seenFile (view s .tree .file) y FILE-KIND) FREE (unfold slotFree in first-passes (slotFree (seenFile (view s .tree .file))) SLOTS l)
 
   pub ofd-free : isOfd (freeOfd (view s .openFiles)) ≡ true → tablesOf s .openFiles (freeOfd (view s .openFiles) .0) OPEN-REFERENCES ≡ 0
   unfolding tablesOf
@@ -134,6 +138,22 @@ module _ (s : Store) (h : SoundStore s) where
 
   pub dirent-free : (d : ℕ) → isDirent (freeDirent (view s .tree .shown d)) ≡ true → isEmpty (view s .tree .shown d) (freeDirent (view s .tree .shown d) .0) ≡ true
   dirent-free d t = first-passes (isEmpty (view s .tree .shown d)) DIRENTS (ltb-true (freeDirent (view s .tree .shown d) .0) DIRENTS t)
+
+-- ---- what may be written is of the store
+
+pub may-write : (file : Table) (who : Subject) (y : Slot) → bitsAllow file who y WRITE ≡ true → y .0 < SLOTS
+may-write file who y e = write-stored file who y WRITE (unfold asksWrite in refl) e
+
+-- so a prompt is opened in mode 1 only
+pub opens-reading : (file : Table) (who : Subject) (y : Slot) (m : OpenMode) → bitsAllow file who y (modeRights m) ≡ true → (y .0 < SLOTS → ⊥) → m .0 ≡ MODE-READ .0
+opens-reading file who y m e n = split (m .0) (MODE-READ .0) (λ q _. q) (λ q t. absurd (n (write-stored file who y (modeRights m) (asks t) e)))
+  where
+    other : (b : Bool) → asksWrite (cond b READ-WRITE WRITE) ≡ true
+    other true = unfold asksWrite in refl
+    other false = unfold asksWrite in refl
+
+    asks : eqb (m .0) (MODE-READ .0) ≡ false → asksWrite (modeRights m) ≡ true
+    asks t = unfold modeRights in rw t (other (eqb (m .0) (MODE-BOTH .0)))
 
 -- ---- a label moves to a label
 

@@ -1,14 +1,20 @@
 -- What a change leaves of slot f: its bytes, and its record in some columns.
 use mathlib.Core.Path.{_≡_, refl, sym, ap, _∙_}
-use Prim.Native.Nat.{ℕ, _<_}
+use mathlib.Core.Bool.{Bool, true, false, cond}
+use mathlib.Core.List.{[]}
+use Prim.Native.Nat.{ℕ, _+_, _*_, _≤_, _<_}
+use native.Mathlib.Omega.{arith}
+use lib.Dec.{ltb}
+use lib.ListN.{length, getD, take, drop-of-length-le, List·getD-eq-default}
 use lib.Seq.{ext-getD}
 use borrow.Author.Tests.{ne-eqb}
-use Rattle.rules.specs.Layout.{SLOTS, FILE-KIND, FILE-LENGTH, FILE-LINKS, FILE-VERSION, FREE}
+use Rattle.rules.specs.Layout.{SLOTS, BLOCK, FILE-WIDTH, FILE-KIND, FILE-OWNER, FILE-GROUP, FILE-LABEL, FILE-LENGTH, FILE-LINKS, FILE-VERSION, FREE}
 use Rattle.rules.specs.Store.{Store, block}
 use Rattle.rules.specs.declared.ids.Slot.{Slot}
 use Rattle.rules.specs.declared.decision.Record.{Record}
 use Rattle.rules.specs.declared.decision.Unnamed.{Unnamed}
 use Rattle.rules.specs.declared.decision.Unnamed.the-variants as unnamed
+use Rattle.preservation.specs.Claims.{word, SameFile}
 use Rattle.preservation.proofs.Tests.{split, upd2, upd2-elim, upd-other}
 use Rattle.preservation.proofs.Tables.{Tables, fileTo, bytesTo, fileRowTo}
 use Rattle.preservation.proofs.Remake.{remade}
@@ -78,3 +84,27 @@ pub kept-block : (s t : Store) (f : ℕ) → Sized s → Sized t → f < SLOTS �
 unfolding tablesOf
 kept-block s t f a b small e = ext-getD 0 (block (t .contents) f) (block (s .contents) f) (block-length (t .contents) (b .contents-size) f small ∙ sym (block-length (s .contents) (a .contents-size) f small))
     (λ j _. block-byte (t .contents) (b .contents-size) f small j ∙ ap (λ (r : ℕ → ℕ). r j) e ∙ sym (block-byte (s .contents) (a .contents-size) f small j))
+
+-- past the last slot nothing is stored
+past-word : (s : Store) (f k : ℕ) → Sized s → SLOTS ≤ f → word s f k ≡ 0
+past-word s f k z l = by (ltb k FILE-WIDTH)
+  where
+    by : (b : Bool) → cond b (getD (s .files) (FILE-WIDTH * f + k) 0) 0 ≡ 0
+    by true = List·getD-eq-default (s .files) 0 (omega (arith, z .files-size))
+    by false = refl
+
+past-block : (s : Store) (f : ℕ) → Sized s → SLOTS ≤ f → block (s .contents) f ≡ []
+past-block s f z l = let n : length (s .contents) ≤ BLOCK * f = omega (arith, z .contents-size) in ap (take BLOCK) (drop-of-length-le (s .contents) n)
+
+-- slot f has in t the record and the bytes that it has in s
+abbrev pub AllSame : Store → Store → ℕ → Type 0
+AllSame s t f = ((k : ℕ) → word t f k ≡ word s f k) × (block (t .contents) f ≡ block (s .contents) f)
+
+pub past-same : (s t : Store) (f : ℕ) → Sized s → Sized t → SLOTS ≤ f → AllSame s t f
+past-same s t f a b l = ((λ k. past-word t f k b l ∙ sym (past-word s f k a l)), past-block t f b l ∙ sym (past-block s f a l))
+
+pub same-file : (s t : Store) (f : ℕ) → AllSame s t f → SameFile s t f
+same-file s t f p = record { bytes = p .1; kind = p .0 FILE-KIND; owner = p .0 FILE-OWNER; group = p .0 FILE-GROUP; label = p .0 FILE-LABEL; length = p .0 FILE-LENGTH; version = p .0 FILE-VERSION }
+
+pub unchanged : (s : Store) (f : ℕ) → SameFile s s f
+unchanged s f = same-file s s f ((λ _. refl), refl)

@@ -36,12 +36,17 @@ pub mod NameEffects
 pub mod CloseEffects
 pub mod ForkEffects
 -- from a decision to what its effect owes
+pub mod DirentRow
+pub mod Prompts
+pub mod Seen
 pub mod NewName
 pub mod Reach
 pub mod Walked
 pub mod Numbers
 pub mod Granted
 pub mod Decided
+-- each call keeps open files below the last prompt
+pub mod Within
 -- the theorems
 pub mod Preserved
 pub mod TestedOnce
@@ -49,6 +54,7 @@ pub mod Kept
 pub mod RefusedLeaves
 pub mod BitsChange
 pub mod OpenStays
+pub mod Borrowed
 pub mod Unwritten
 pub mod NoWrap
 pub mod Sizes

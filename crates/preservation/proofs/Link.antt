@@ -38,6 +38,19 @@ tighten x m h a b = record {
   procs = h .procs;
 }
 
+-- there is no slot x
+pub tighten-past : (x : ℕ) (m : Tables) → SoundBut x m → (x < SLOTS → ⊥) → Sound m
+tighten-past x m h n = record {
+  slots = h .slots;
+  tree = h .tree;
+  live = record {
+    once = λ i hi _. h .live .once i hi (λ q. n (rw q at hi));
+    alive = λ i hi _. h .live .alive i hi (λ q. n (rw q at hi));
+  };
+  opens = h .opens;
+  procs = h .procs;
+}
+
 pub ind-zero : (n : ℕ) → n ≡ 0 → ind (not (eqb n 0)) ≡ 0
 ind-zero n e = rw (eq-eqb n 0 e)
 

@@ -1,4 +1,4 @@
--- A symbolic link of a sound store is named once, has bits 0 and a well formed path as text; so after any list of calls.
+-- A symbolic link of a sound store is named once, has bits 0 and a well formed path as text; so after any list of calls and borrowing reads.
 use mathlib.Core.Path.{_≡_}
 use mathlib.Core.Bool.{true}
 use mathlib.Core.List.{List}
@@ -7,8 +7,7 @@ use native.Mathlib.Omega.{arith}
 use Rattle.rules.specs.Layout.{SLOTS, FILE-KIND, LINK}
 use Rattle.rules.specs.Store.{Store, Fixed}
 use Rattle.rules.specs.Sound.{sound}
-use Rattle.rules.specs.Calls.{Call}
-use Rattle.rules.specs.Step.{final}
+use Rattle.rules.specs.Step.{Action, final}
 use Rattle.preservation.specs.Claims.{word, GoodLink}
 use Rattle.preservation.proofs.StoreChanges.{tablesOf}
 use Rattle.preservation.proofs.SoundStore.{SoundStore, means-sound, text-ok}
@@ -26,5 +25,5 @@ good-link s h f k = record {
     small : f < SLOTS
     small = used-small s h f (λ q. omega (arith, k, q))
 
-pub link-stays : (K : Fixed) (s : Store) (f : ℕ) (cs : List Call) → sound K s ≡ true → word (final K s cs) f FILE-KIND ≡ LINK → GoodLink (final K s cs) f
-link-stays K s f cs e = good-link (final K s cs) (means-sound K (final K s cs) .holds (final-sound K s cs e) .1) f
+pub link-stays : (K : Fixed) (s : Store) (f : ℕ) (xs : List Action) → sound K s ≡ true → word (final K s xs) f FILE-KIND ≡ LINK → GoodLink (final K s xs) f
+link-stays K s f xs e = good-link (final K s xs) (means-sound K (final K s xs) .holds (final-sound K s xs e) .store) f

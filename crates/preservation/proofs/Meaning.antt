@@ -10,7 +10,7 @@ use Rattle.rules.specs.Layout.{SLOTS, BLOCK, DIRENT-WIDTH, DIRENTS, NAME, OPEN-
 use Rattle.rules.specs.Layout.{FILE-KIND, FILE-OWNER, FILE-BITS, FILE-LABEL, FILE-LENGTH, FILE-LINKS, FILE-VERSION, OPEN-SLOT, OPEN-MODE, OPEN-OFFSET, OPEN-REFERENCES, PROCESS-USED, PROCESS-USER, PROCESS-LABEL, FREE, PLAIN}
 use Rattle.rules.specs.Layout.{KIND-MAX, USER-MAX, BITS-MAX, LABEL-MAX, MODE-MAX, WORD-MAX}
 use Rattle.rules.specs.Store.{Store, Table}
-use Rattle.rules.specs.Rights.{bitsKnown, modeOf, modeKept}
+use Rattle.rules.specs.Rights.{MODE-READ, bitsKnown, modeOf, modeKept}
 use Rattle.rules.specs.Directories.{direntAt}
 use Rattle.rules.specs.Sound.{slotsSized, sizesSound, recordFree, recordSound, direntSound, differs, isNew, entriesSound, direntsSound, ownersFree, ownersSound, accessFree, accessSound, fieldsSound, subjectFree, subjectSound}
 use Rattle.rules.specs.Sound.{openFree, onPlainFile, openUsed, openSound, descSound, descFree, procFree, procUsed, procSound}
@@ -126,21 +126,21 @@ means-open-file file openFiles desc e = means-same w
         slot-zero = λ z. u .1 .0 z .0;
         mode-zero = λ z. u .1 .0 z .1 .0;
         offset-zero = λ z. u .1 .0 z .1 .1;
-        slot-small = λ n. u .1 .1 n .0 .0;
-        plain = λ n. u .1 .1 n .0 .1;
+        plain = λ n. u .1 .1 n .0 .0;
+        reading = λ n. u .1 .1 n .0 .1;
         mode-least = λ n. u .1 .1 n .1 .0 .0;
         mode-most = λ n. u .1 .1 n .1 .0 .1;
         offset-most = λ n. u .1 .1 n .1 .1;
       },
     ))
-    (λ u. let o = u .1 in (u .0, ((λ z. (o .slot-zero z, (o .mode-zero z, o .offset-zero z))), λ n. ((o .slot-small n, o .plain n), ((o .mode-least n, o .mode-most n), o .offset-most n)))))
+    (λ u. let o = u .1 in (u .0, ((λ z. (o .slot-zero z, (o .mode-zero z, o .offset-zero z))), λ n. ((o .plain n, o .reading n), ((o .mode-least n, o .mode-most n), o .offset-most n)))))
   where
     w : Means (openSound file openFiles desc e) ((openFiles e OPEN-REFERENCES ≡ holderCount desc e)
         × ((openFiles e OPEN-REFERENCES ≡ 0 → (openFiles e OPEN-SLOT ≡ 0) × ((openFiles e OPEN-MODE ≡ 0) × (openFiles e OPEN-OFFSET ≡ 0)))
-        × ((openFiles e OPEN-REFERENCES ≡ 0 → ⊥) → ((openFiles e OPEN-SLOT < SLOTS) × (file (openFiles e OPEN-SLOT) FILE-KIND ≡ PLAIN)) × (((1 ≤ openFiles e OPEN-MODE) × (openFiles e OPEN-MODE ≤ MODE-MAX)) × (openFiles e OPEN-OFFSET ≤ BLOCK)))))
+        × ((openFiles e OPEN-REFERENCES ≡ 0 → ⊥) → ((openFiles e OPEN-SLOT < SLOTS → file (openFiles e OPEN-SLOT) FILE-KIND ≡ PLAIN) × ((openFiles e OPEN-SLOT < SLOTS → ⊥) → openFiles e OPEN-MODE ≡ MODE-READ .0)) × (((1 ≤ openFiles e OPEN-MODE) × (openFiles e OPEN-MODE ≤ MODE-MAX)) × (openFiles e OPEN-OFFSET ≤ BLOCK)))))
     w = rw (holders-counted desc e) (means-every (means-and (means-eq (openFiles e OPEN-REFERENCES) (holderCount desc e)) (means-last (means-cond (means-eq (openFiles e OPEN-REFERENCES) 0)
         (means-every (means-and (means-eq (openFiles e OPEN-SLOT) 0) (means-and (means-eq (openFiles e OPEN-MODE) 0) (means-last (means-eq (openFiles e OPEN-OFFSET) 0)))))
-        (means-every (means-and (means-every (means-and (means-lt (openFiles e OPEN-SLOT) SLOTS) (means-last (means-eq (file (openFiles e OPEN-SLOT) FILE-KIND) PLAIN)))) (means-and (means-mode (openFiles e OPEN-MODE)) (means-last (means-le (openFiles e OPEN-OFFSET) BLOCK)))))))))
+        (means-every (means-and (means-cond (means-lt (openFiles e OPEN-SLOT) SLOTS) (means-eq (file (openFiles e OPEN-SLOT) FILE-KIND) PLAIN) (means-eq (openFiles e OPEN-MODE) (MODE-READ .0))) (means-and (means-mode (openFiles e OPEN-MODE)) (means-last (means-le (openFiles e OPEN-OFFSET) BLOCK)))))))))
 
 -- The test goes by whether the process is in use: of a free one the limits are left out, since its words are 0, and of a used one the zeros.
 pub means-process : (proc desc : Table) (p : ℕ) → Means (procSound proc desc p) (Process (proc p) (desc p))

@@ -11,13 +11,13 @@ use borrow.Author.Tests.{eq-eqb, ne-eqb}
 use Rattle.rules.specs.Layout.{SLOTS, BLOCK, DIRENTS, DIRENT-WIDTH, OPEN-FILES, NAME, NAMES}
 use Rattle.rules.specs.Layout.{FILE-KIND, FILE-LENGTH, FILE-LINKS, FILE-VERSION, OPEN-SLOT, OPEN-REFERENCES, FREE, PLAIN, DIRECTORY}
 use Rattle.rules.specs.Choice.{every}
-use Rattle.rules.specs.Store.{Store, view, entry, up, zeros, applyAll, isOpen}
+use Rattle.rules.specs.Store.{words, Store, view, entry, up, zeros, applyAll, isOpen}
 use Rattle.rules.specs.Paths as paths
 use Rattle.rules.specs.Directories.{dirent}
 use Rattle.rules.specs.Checks.{gains, loses, unnaming}
 use Rattle.rules.specs.Checks as checks
 use Rattle.rules.specs.DecidePaths.{newRecord, newLink}
-use Rattle.rules.specs.Effects.{words, nameChanges, unnameChanges, createChanges, symlinkChanges, linkChanges, unnamedChanges, unlinkChanges, removeChanges}
+use Rattle.rules.specs.Effects.{nameChanges, unnameChanges, createChanges, symlinkChanges, linkChanges, unnamedChanges, unlinkChanges, removeChanges}
 use Rattle.rules.specs.declared.ids.Slot.{Slot}
 use Rattle.rules.specs.declared.request.Subject.{Subject}
 use Rattle.rules.specs.declared.decision.NewFile.{NewFile}

@@ -1,7 +1,6 @@
 -- No counter of a sound store wraps, but for the version.
 use mathlib.Core.Path.{_≡_, subst}
 use mathlib.Core.Bool.{true, cond, not}
-use mathlib.Core.List.{List}
 use Prim.Native.Nat.{ℕ, _+_, _-_, _*_, _≤_, _<_}
 use native.Mathlib.Omega.{arith}
 use native.Mathlib.Decide.{ℕ-discrete}
@@ -11,6 +10,7 @@ use Rattle.rules.specs.Layout.{SLOTS, BLOCK, DIRENTS, OPEN-FILES, PROCESSES, DE
 use Rattle.rules.specs.Scan.{repeat}
 use Rattle.rules.specs.Store.{Store, Fixed, view, subjectOf, up, plus, fdOf}
 use Rattle.rules.specs.Sound.{sound}
+use Rattle.rules.specs.Rom.{seen}
 use Rattle.rules.specs.Calls.{Call}
 use Rattle.rules.specs.Checks.{held, ofdHeld, sharing, shareOf}
 use Rattle.rules.specs.Decide.{decide}
@@ -55,11 +55,11 @@ module _ (s : Store) (h : SoundStore s) where
       by (no n) = rw (ne-eqb (view t .desc (p .0) i) 0 n) (unfold PlainShare tablesOf in
           (up-is (view t .desc (p .0) i - 1) (omega (arith, shared-held p q who hp hq s i t hi c (view t .desc (p .0) i - 1) (omega (arith, n)) .small)), shared-up p q who hp hq s i t hi c (view t .desc (p .0) i - 1) (omega (arith, n))))
 
-  sums : {Q : List ℕ} (c : Call) {n : ℕ} {o : Output} {e : Effect} → Granting Q s h c n o e → PlainSums s c o e
+  sums : {K : Fixed} (c : Call) {n : ℕ} {o : Output} {e : Effect} → Granting K s h c n o e → PlainSums s c o e
   unfolding PlainSums PlainRead
   sums c (nothing n o) = tt
-  sums c (opens n o) = up-is (n .ofd .0) (omega (arith, o .ofd-small))
-  sums c (truncates n o a) = up-is (n .ofd .0) (omega (arith, o .ofd-small))
+  sums c (opens n o l) = up-is (n .ofd .0) (omega (arith, o .ofd-small))
+  sums c (truncates n o hs a) = up-is (n .ofd .0) (omega (arith, o .ofd-small))
   sums c (creates d i y new o) = length-goes-up (d .0) (o .naming .fits .dir-small)
   sums c (symlinks d i y o) = length-goes-up (d .0) (o .naming .fits .dir-small)
   sums c (unlinks d i y n k) = tt
@@ -67,7 +67,7 @@ module _ (s : Store) (h : SoundStore s) where
   sums c (links d i y n hy k) = (length-goes-up (d .0) (n .fits .dir-small), links-go-up (y .0) hy)
   sums c (changesBits y b hy k n l o a) = tt
   sums c (closes i u hi) = tt
-  sums c (stores e at o l a) = let w = placed-well s h c e at o l in (w .offset-is, w .length-is)
+  sums c (stores e at o hs l a) = let w = placed-well s h c e at o hs l in (w .offset-is, w .length-is)
   sums c (reads e n o l) = plus-is (view s .openFiles e OPEN-OFFSET) n (unfold tablesOf in (omega (arith, l)))
   sums c (seeks e n o l) = tt
   sums c (duplicates i j e o hj g) = let w = held-open s h (c .process) i e o in (up-is e (omega (arith, w .small)), references-go-up e (w .small))
@@ -77,6 +77,6 @@ module _ (s : Store) (h : SoundStore s) where
   sums c (exits u) = tt
   sums c (executes l u hl) = tt
 
-pub granted-sums : (K : Fixed) (s : Store) (c : Call) (n : ℕ) (o : Output) (e : Effect) → sound K s ≡ true → decide (K .policy) (view s) c ≡ Granted n o e → PlainSums s c o e
+pub granted-sums : (K : Fixed) (s : Store) (c : Call) (n : ℕ) (o : Output) (e : Effect) → sound K s ≡ true → decide K (seen (K .rom) (view s)) c ≡ Granted n o e → PlainSums s c o e
 unfolding Of
-granted-sums K s c n o e t d = let w = means-sound K s .holds t in sums s (w .1) c (subst (Of (Granting (K .policy) s (w .1) c)) d (fit-of (decide-fit (K .policy) s (w .1) c (w .0))))
+granted-sums K s c n o e t d = let w = means-sound K s .holds t in sums s (w .store) c (subst (Of (Granting K s (w .store) c)) d (fit-of (decide-fit K s w c)))

@@ -61,11 +61,12 @@ numbered P k f =
 pub number-of : (k : ℕ) → NumberOf k (operationOf k)
 number-of k = numbered (NumberOf k) k (λ _ q. q)
 
--- mode m, which number n says, is 1 to 4; where n truncates, it is over 8
+-- mode m, which number n says, is 1 to 4; where n truncates, it is over 8 and m is not 1
 pub record GoodMode (n : ℕ) (m : OpenMode) (truncating : Bool) : Type 0 where
   pub least : 0 < m .0
   pub most : m .0 ≤ MODE-MAX
   pub over : truncating ≡ true → TRUNCATE < n
+  pub writing : truncating ≡ true → 1 < m .0
 
 unfoldable pub ModeSays : ℕ → ModeNumber → Type 0
 ModeSays n (Keep m) = GoodMode n m false
@@ -78,10 +79,10 @@ mode-says n = by (every (leb 1 n ∷ leb n MODE-MAX ∷ [])) refl (every (leb (T
   where
     by : (a : Bool) → every (leb 1 n ∷ leb n MODE-MAX ∷ []) ≡ a → (b : Bool) → every (leb (TRUNCATE + 2) n ∷ leb n (TRUNCATE + MODE-MAX) ∷ []) ≡ b →
         ModeSays n (cond a (Keep (record { 0 = n })) (cond b (Truncate (record { 0 = n - TRUNCATE })) OutOfRange))
-    by true e b f = let w = means-every (means-and (means-le 1 n) (means-last (means-le n MODE-MAX))) .holds e in record { least = w .0; most = w .1; over = λ z. absurd (false≢true z) }
+    by true e b f = let w = means-every (means-and (means-le 1 n) (means-last (means-le n MODE-MAX))) .holds e in record { least = w .0; most = w .1; over = λ z. absurd (false≢true z); writing = λ z. absurd (false≢true z) }
     by false e true f =
         let w = means-every (means-and (means-le (TRUNCATE + 2) n) (means-last (means-le n (TRUNCATE + MODE-MAX)))) .holds f in
-        record { least = omega (arith, w .0); most = omega (arith, w .1); over = λ _. omega (arith, w .0) }
+        record { least = omega (arith, w .0); most = omega (arith, w .1); over = λ _. omega (arith, w .0); writing = λ _. omega (arith, w .0) }
     by false e false f = tt
 
 unfoldable BitsSay : BitsNumber → Type 0

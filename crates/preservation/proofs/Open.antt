@@ -14,9 +14,10 @@ use Rattle.preservation.proofs.Sound.{All, Sound, SoundBut, OpenFile, o
 use Rattle.preservation.proofs.Rows.{open-used, open-free, references-to, process-desc}
 use Rattle.preservation.proofs.Counts.{ind-eq, ind-ne, holders-to, openCount-change}
 use Rattle.preservation.proofs.OneWord.{Held, held}
-use Rattle.preservation.proofs.Link.{loosen, tighten}
+use Rattle.preservation.proofs.Link.{loosen, tighten, tighten-past}
 use Rattle.preservation.proofs.Remake.{openCount-at}
 use Rattle.preservation.proofs.Create.{freed, freed-sound}
+use Rattle.rules.specs.Rights.{MODE-READ}
 use Rattle.rules.specs.Layout.{SLOTS, OPEN-FILES, PROCESSES, DESCRIPTORS, FILE-KIND, FILE-LINKS, PLAIN, OPEN-SLOT, OPEN-REFERENCES, PROCESS-USED, MODE-MAX, WORD-MAX}
 
 -- an open file by its words
@@ -56,10 +57,10 @@ openCount-row m e row s he =
 
 -- ---- open
 
-pub open-sound : (x : ℕ) (m : Tables) → SoundBut x m → (p k e s mode : ℕ) → p < PROCESSES → k < DESCRIPTORS → e < OPEN-FILES → s < SLOTS → (m .proc p PROCESS-USED ≡ 0 → ⊥) → m .desc p k ≡ 0 → m .openFiles e OPEN-REFERENCES ≡ 0 → m .file s FILE-KIND ≡ PLAIN →
-    0 < mode → mode ≤ MODE-MAX → SoundBut x (handed p k (e + 1) e (openRow s mode 0 1) m)
-open-sound x m h p k e s mode hp hk he hs u d f ks m1 m4 =
-    handed-sound x m h p k (e + 1) e (openRow s mode 0 1) hp hk u (omega arith) (open-used (λ z. omega arith) hs ks m1 m4 (omega arith))
+pub open-sound : (x : ℕ) (m : Tables) → SoundBut x m → (p k e s mode : ℕ) → p < PROCESSES → k < DESCRIPTORS → e < OPEN-FILES → (m .proc p PROCESS-USED ≡ 0 → ⊥) → m .desc p k ≡ 0 → m .openFiles e OPEN-REFERENCES ≡ 0 →
+    (s < SLOTS → m .file s FILE-KIND ≡ PLAIN) → ((s < SLOTS → ⊥) → mode ≡ MODE-READ .0) → 0 < mode → mode ≤ MODE-MAX → SoundBut x (handed p k (e + 1) e (openRow s mode 0 1) m)
+open-sound x m h p k e s mode hp hk he u d f ks kr m1 m4 =
+    handed-sound x m h p k (e + 1) e (openRow s mode 0 1) hp hk u (omega arith) (open-used (λ z. omega arith) ks kr m1 m4 (omega arith))
     (λ i hi. split i e
     (λ q t. rw (t, q) (omega (arith, ind-eq (e + 1) (e + 1) refl, ind-ne (m .desc p k) (e + 1) (λ z. omega arith))))
     (λ q t. rw t (omega (arith, ind-ne (e + 1) (i + 1) (λ z. q (omega arith)), ind-ne (m .desc p k) (i + 1) (λ z. omega arith)))))
@@ -78,10 +79,7 @@ module _ (m : Tables) (h : Sound m) (p k e : ℕ) (hp : p < PROCESSES) (hk : k <
   but-its-file : SoundBut (m .openFiles e OPEN-SLOT) m
   but-its-file = loosen (m .openFiles e OPEN-SLOT) m h
 
-  pub slot-small : m .openFiles e OPEN-SLOT < SLOTS
-  slot-small = h .opens .open-files e (is-open .small) .slot-small (is-open .open-refs)
-
-  pub slot-plain : m .file (m .openFiles e OPEN-SLOT) FILE-KIND ≡ PLAIN
+  slot-plain : m .openFiles e OPEN-SLOT < SLOTS → m .file (m .openFiles e OPEN-SLOT) FILE-KIND ≡ PLAIN
   slot-plain = h .opens .open-files e (is-open .small) .plain (is-open .open-refs)
 
   false-and : (b : Bool) → ind (b && ltb 0 0) ≡ 0
@@ -110,27 +108,31 @@ module _ (m : Tables) (h : Sound m) (p k e : ℕ) (hp : p < PROCESSES) (hk : k <
       (counts (λ _. 0) (omega arith))
       (λ s hs n. omega (arith, rw (ne-eqb (m .openFiles e OPEN-SLOT) s (λ z. n (sym z))) at (openCount-row m e (λ _. 0) s (is-open .small)), false-and (eqb 0 s)))
 
+  -- the file is a prompt
+  pub close-prompt : m .openFiles e OPEN-REFERENCES ≡ 1 → (m .openFiles e OPEN-SLOT < SLOTS → ⊥) → Sound (handed p k 0 e (λ _. 0) m)
+  close-prompt q n = tighten-past (m .openFiles e OPEN-SLOT) (handed p k 0 e (λ _. 0) m) (last q) n
+
   -- the file has a name
-  pub close-named : m .openFiles e OPEN-REFERENCES ≡ 1 → 0 < m .file (m .openFiles e OPEN-SLOT) FILE-LINKS → Sound (handed p k 0 e (λ _. 0) m)
-  close-named q l = tighten (m .openFiles e OPEN-SLOT) (handed p k 0 e (λ _. 0) m) (last q)
-      (unfold handed in (λ _ n. absurd (n slot-plain))) (unfold handed in (λ _. omega arith))
+  pub close-named : m .openFiles e OPEN-SLOT < SLOTS → m .openFiles e OPEN-REFERENCES ≡ 1 → 0 < m .file (m .openFiles e OPEN-SLOT) FILE-LINKS → Sound (handed p k 0 e (λ _. 0) m)
+  close-named hs q l = tighten (m .openFiles e OPEN-SLOT) (handed p k 0 e (λ _. 0) m) (last q)
+      (unfold handed in (λ _ n. absurd (n (slot-plain hs)))) (unfold handed in (λ _. omega arith))
 
   -- the file has another open file i
-  pub close-open : m .openFiles e OPEN-REFERENCES ≡ 1 → (i : ℕ) → i < OPEN-FILES → (i ≡ e → ⊥) → (m .openFiles i OPEN-REFERENCES ≡ 0 → ⊥) → m .openFiles i OPEN-SLOT ≡ m .openFiles e OPEN-SLOT → Sound (handed p k 0 e (λ _. 0) m)
-  close-open q i hi n r s = tighten (m .openFiles e OPEN-SLOT) (handed p k 0 e (λ _. 0) m) (last q)
-      (unfold handed in (λ _ n. absurd (n slot-plain))) (unfold handed in (λ _. omega (arith, other)))
+  pub close-open : m .openFiles e OPEN-SLOT < SLOTS → m .openFiles e OPEN-REFERENCES ≡ 1 → (i : ℕ) → i < OPEN-FILES → (i ≡ e → ⊥) → (m .openFiles i OPEN-REFERENCES ≡ 0 → ⊥) → m .openFiles i OPEN-SLOT ≡ m .openFiles e OPEN-SLOT → Sound (handed p k 0 e (λ _. 0) m)
+  close-open hs q i hi n r s = tighten (m .openFiles e OPEN-SLOT) (handed p k 0 e (λ _. 0) m) (last q)
+      (unfold handed in (λ _ n. absurd (n (slot-plain hs)))) (unfold handed in (λ _. omega (arith, other)))
     where
       other : 0 < openCount (col (upd (m .openFiles) e (λ _. 0)) OPEN-SLOT) (col (upd (m .openFiles) e (λ _. 0)) OPEN-REFERENCES) (m .openFiles e OPEN-SLOT)
       other = openCount-at (col (upd (m .openFiles) e (λ _. 0)) OPEN-SLOT) (col (upd (m .openFiles) e (λ _. 0)) OPEN-REFERENCES) i (m .openFiles e OPEN-SLOT) hi (rw (ne-eqb i e n) s) (rw (ne-eqb i e n) r)
 
   -- the file has neither, and goes
-  pub close-frees : m .openFiles e OPEN-REFERENCES ≡ 1 → m .file (m .openFiles e OPEN-SLOT) FILE-LINKS ≡ 0 → ((i : ℕ) → i < OPEN-FILES → (i ≡ e → ⊥) → (m .openFiles i OPEN-REFERENCES ≡ 0 → ⊥) → m .openFiles i OPEN-SLOT ≡ m .openFiles e OPEN-SLOT → ⊥) →
+  pub close-frees : m .openFiles e OPEN-SLOT < SLOTS → m .openFiles e OPEN-REFERENCES ≡ 1 → m .file (m .openFiles e OPEN-SLOT) FILE-LINKS ≡ 0 → ((i : ℕ) → i < OPEN-FILES → (i ≡ e → ⊥) → (m .openFiles i OPEN-REFERENCES ≡ 0 → ⊥) → m .openFiles i OPEN-SLOT ≡ m .openFiles e OPEN-SLOT → ⊥) →
       (t : ℕ) → t ≤ WORD-MAX → Sound (freed (m .openFiles e OPEN-SLOT) t (handed p k 0 e (λ _. 0) m))
   unfolding handed
-  close-frees q l none t ht = freed-sound (handed p k 0 e (λ _. 0) m) (m .openFiles e OPEN-SLOT) t (last q) (record {
-    small = slot-small;
-    not-root = λ z. omega (arith, h .slots .root-kind, rw z at slot-plain);
+  close-frees hs q l none t ht = freed-sound (handed p k 0 e (λ _. 0) m) (m .openFiles e OPEN-SLOT) t (last q) (record {
+    small = hs;
+    not-root = λ z. omega (arith, h .slots .root-kind, rw z at (slot-plain hs));
     no-links = l;
     not-open = λ i hi. split i e (λ g t. rw t (λ r. absurd (r refl))) (λ g t. rw t (none i hi g));
-    no-dirents = λ z. absurd (omega (arith, z, slot-plain));
+    no-dirents = λ z. absurd (omega (arith, z, slot-plain hs));
   }) ht

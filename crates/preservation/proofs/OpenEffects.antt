@@ -11,9 +11,10 @@ use borrow.Author.Tests.{eq-eqb, lt-ltb, le-ltb}
 use Rattle.rules.specs.Layout.{SLOTS, BLOCK, OPEN-FILES, PROCESSES, DESCRIPTORS, BITS-MAX, LABEL-MAX, MODE-MAX}
 use Rattle.rules.specs.Layout.{FILE-KIND, FILE-BITS, FILE-LENGTH, FILE-VERSION, OPEN-SLOT, OPEN-OFFSET, OPEN-REFERENCES, PROCESS-USED, PROCESS-LABEL, FREE, PLAIN, LINK}
 use Rattle.rules.specs.Store as rules
-use Rattle.rules.specs.Store.{Store, change, view, ofdOf, up, zeros, applyAll, fileWord, openWord, procWord}
+use Rattle.rules.specs.Store.{words, Store, change, view, ofdOf, up, zeros, applyAll, fileWord, openWord, procWord}
+use Rattle.rules.specs.Rights.{MODE-READ}
 use Rattle.rules.specs.DecidePaths.{truncated}
-use Rattle.rules.specs.Effects.{words, openChanges, truncateChanges, duplicateChanges, storeChanges}
+use Rattle.rules.specs.Effects.{openChanges, truncateChanges, duplicateChanges, storeChanges}
 use Rattle.rules.specs.declared.ids.Slot.{Slot}
 use Rattle.rules.specs.declared.ids.Pid.{Pid}
 use Rattle.rules.specs.declared.ids.Fd.{Fd}
@@ -57,8 +58,8 @@ pub record Opens (m : Tables) (p : Pid) (n : NewOpen) : Type 0 where
   pub fd-free : m .desc (p .0) (n .fd .0) ≡ 0
   pub ofd-small : n .ofd .0 < OPEN-FILES
   pub ofd-free : m .openFiles (n .ofd .0) OPEN-REFERENCES ≡ 0
-  pub slot-small : n .slot .0 < SLOTS
-  pub plain : m .file (n .slot .0) FILE-KIND ≡ PLAIN
+  pub plain : n .slot .0 < SLOTS → m .file (n .slot .0) FILE-KIND ≡ PLAIN
+  pub reading : (n .slot .0 < SLOTS → ⊥) → n .mode .0 ≡ MODE-READ .0
   pub mode-least : 0 < n .mode .0
   pub mode-most : n .mode .0 ≤ MODE-MAX
 
@@ -70,8 +71,8 @@ unfolding openChanges applyAll handed
 open-leaves s h p n o = record {
   has = rw (up-is (n .ofd .0) (omega (arith, o .ofd-small)))
       (has-descTo (has-openTo (its-tables s h) (n .ofd .0) (n .slot .0 ∷ n .mode .0 ∷ 0 ∷ 1 ∷ []) (o .ofd-small) refl) (p .0) (n .fd .0) (n .ofd .0 + 1) (o .caller .small) (o .fd-small));
-  sound = open-sound SLOTS (tablesOf s) (h .tables) (p .0) (n .fd .0) (n .ofd .0) (n .slot .0) (n .mode .0) (o .caller .small) (o .fd-small) (o .ofd-small) (o .slot-small)
-      (λ z. omega (arith, o .caller .used, z)) (o .fd-free) (o .ofd-free) (o .plain) (o .mode-least) (o .mode-most);
+  sound = open-sound SLOTS (tablesOf s) (h .tables) (p .0) (n .fd .0) (n .ofd .0) (n .slot .0) (n .mode .0) (o .caller .small) (o .fd-small) (o .ofd-small)
+      (λ z. omega (arith, o .caller .used, z)) (o .fd-free) (o .ofd-free) (o .plain) (o .reading) (o .mode-least) (o .mode-most);
 }
 
 -- ---- an open that truncates
@@ -79,12 +80,12 @@ open-leaves s h p n o = record {
 abbrev pub cutTo : Slot → Tables → Tables → Tables
 cutTo s m n = remade (s .0) (cutRow (m .file (s .0)) (up (m .file (s .0) FILE-VERSION))) (λ _. 0) n
 
-pub truncate-leaves : (s : Store) → SoundStore s → (p : Pid) (n : NewOpen) → Opens (tablesOf s) p n →
+pub truncate-leaves : (s : Store) → SoundStore s → (p : Pid) (n : NewOpen) → Opens (tablesOf s) p n → n .slot .0 < SLOTS →
     Leaves (applyAll (truncateChanges p n (truncated (view s .tree .file) (n .slot))) s) (cutTo (n .slot) (tablesOf s) (withOpen p n (tablesOf s)))
 unfolding truncateChanges openChanges applyAll handed tablesOf
-truncate-leaves s h p n o = record {
-  has = has-clearTo (w .has) (n .slot .0) (words (truncated (view s .tree .file) (n .slot))) (o .slot-small) refl;
-  sound = truncated-sound SLOTS (withOpen p n (tablesOf s)) (w .sound) (n .slot .0) (up (tablesOf s .file (n .slot .0) FILE-VERSION)) (o .plain) (up-most (tablesOf s .file (n .slot .0) FILE-VERSION));
+truncate-leaves s h p n o hs = record {
+  has = has-clearTo (w .has) (n .slot .0) (words (truncated (view s .tree .file) (n .slot))) hs refl;
+  sound = truncated-sound SLOTS (withOpen p n (tablesOf s)) (w .sound) (n .slot .0) (up (tablesOf s .file (n .slot .0) FILE-VERSION)) (o .plain hs) (up-most (tablesOf s .file (n .slot .0) FILE-VERSION));
 }
   where
     w : Leaves (applyAll (openChanges p n) s) (withOpen p n (tablesOf s))
@@ -146,6 +147,7 @@ execute-leaves s h p l o hl = record {
 pub record Writes (m : Tables) (bytes : List ℕ) (w : Placement) : Type 0 where
   pub ofd : Held m (w .ofd .0)
   pub on : m .openFiles (w .ofd .0) OPEN-SLOT ≡ w .slot .0
+  pub small : w .slot .0 < SLOTS
   pub end-is : w .end ≡ m .file (w .slot .0) FILE-LENGTH
   pub gap-is : w .gap ≡ w .at - w .end
   pub fits : w .at + length bytes ≤ BLOCK
@@ -174,10 +176,10 @@ write-leaves s h bytes w o = record {
     g = written (tablesOf s) bytes w
 
     small : w .slot .0 < SLOTS
-    small = rw (o .on) at (h .tables .opens .open-files (w .ofd .0) (o .ofd .small) .slot-small (o .ofd .open-refs))
+    small = o .small
 
     plain : tablesOf s .file (w .slot .0) FILE-KIND ≡ PLAIN
-    plain = rw (o .on) at (h .tables .opens .open-files (w .ofd .0) (o .ofd .small) .plain (o .ofd .open-refs))
+    plain = rw (o .on) at (h .tables .opens .open-files (w .ofd .0) (o .ofd .small) .plain (o .ofd .open-refs) (rw (o .on) small))
 
     end-most : w .end ≤ BLOCK
     end-most = rw (o .end-is) (h .tables .slots .blocks (w .slot .0) small .length-most (λ z. omega (arith, plain, z)))

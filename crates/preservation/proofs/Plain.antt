@@ -37,6 +37,7 @@ wrote-sound x m h s g z t k hz g0 ht = record {
       depth-most = h .tree .depths .depth-most;
       depth-step = λ u hu a. rw (ne-eqb u s (λ q. plain u q a)) (h .tree .depths .depth-step u hu a);
     };
+    no-rom = rw (ne-eqb 0 s (λ q. plain 0 q (h .slots .root-kind))) (h .tree .no-rom);
   };
   live = h .live;
   opens = h .opens;

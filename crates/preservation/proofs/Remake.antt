@@ -52,8 +52,8 @@ open-kinds w e = record {
   slot-zero = w .slot-zero;
   mode-zero = w .mode-zero;
   offset-zero = w .offset-zero;
-  slot-small = w .slot-small;
-  plain = λ n. e n ∙ w .plain n;
+  plain = λ n l. e n ∙ w .plain n l;
+  reading = w .reading;
   mode-least = w .mode-least;
   mode-most = w .mode-most;
   offset-most = w .offset-most;
@@ -150,6 +150,7 @@ module _ (m : Tables) (y : ℕ) (row g : ℕ → ℕ) (h : SoundBut y m) (a : Ba
           (λ q t. rw t (n .links-row ∙ sym (a .no-links) ∙ rw (← q) (h .tree .links s hs n0)))
           (λ q t. rw t (h .tree .links s hs n0)));
       depths = remade-depths (h .tree .depths);
+      no-rom = rw (ne-eqb 0 y (λ q. a .not-root (sym q))) (h .tree .no-rom);
     };
     live = record {
       once = λ i hi q. rw (ne-eqb i y q) (h .live .once i hi q);

@@ -9,6 +9,7 @@ use Rattle.preservation.proofs.Tables.{fileWords, fileRow}
 use Rattle.preservation.proofs.Sound.{All, File, OpenFile, Process}
 use Rattle.rules.specs.Layout.{SLOTS, BLOCK, OPEN-FILES, DESCRIPTORS, FILE-KIND, FILE-OWNER, FILE-BITS, FILE-LABEL, FILE-LENGTH, FILE-LINKS, FILE-VERSION, OPEN-SLOT, OPEN-MODE, OPEN-OFFSET, OPEN-REFERENCES, PROCESS-USED, PROCESS-USER, PROCESS-LABEL, FREE, PLAIN, FILE-GROUP, PROCESS-GROUP, GROUP-MAX}
 use Rattle.rules.specs.Layout.{KIND-MAX, USER-MAX, BITS-MAX, LABEL-MAX, MODE-MAX, WORD-MAX}
+use Rattle.rules.specs.Rights.{MODE-READ}
 
 -- ---- files
 
@@ -87,13 +88,13 @@ module _ (f : ℕ → ℕ → ℕ) (h : All SLOTS (λ i. File (f i))) (s v : ℕ
 
 -- ---- open files
 
-pub open-used : {kind row : ℕ → ℕ} → (row OPEN-REFERENCES ≡ 0 → ⊥) → row OPEN-SLOT < SLOTS → kind (row OPEN-SLOT) ≡ PLAIN → 0 < row OPEN-MODE → row OPEN-MODE ≤ MODE-MAX → row OPEN-OFFSET ≤ BLOCK → OpenFile kind row
-open-used u s k ml mm p = record {
+pub open-used : {kind row : ℕ → ℕ} → (row OPEN-REFERENCES ≡ 0 → ⊥) → (row OPEN-SLOT < SLOTS → kind (row OPEN-SLOT) ≡ PLAIN) → ((row OPEN-SLOT < SLOTS → ⊥) → row OPEN-MODE ≡ MODE-READ .0) → 0 < row OPEN-MODE → row OPEN-MODE ≤ MODE-MAX → row OPEN-OFFSET ≤ BLOCK → OpenFile kind row
+open-used u k r ml mm p = record {
   slot-zero = λ z. absurd (u z);
   mode-zero = λ z. absurd (u z);
   offset-zero = λ z. absurd (u z);
-  slot-small = λ _. s;
   plain = λ _. k;
+  reading = λ _. r;
   mode-least = λ _. ml;
   mode-most = λ _. mm;
   offset-most = λ _. p;
@@ -104,8 +105,8 @@ open-free = record {
   slot-zero = λ _. refl;
   mode-zero = λ _. refl;
   offset-zero = λ _. refl;
-  slot-small = λ n. absurd (n refl);
   plain = λ n. absurd (n refl);
+  reading = λ n. absurd (n refl);
   mode-least = λ n. absurd (n refl);
   mode-most = λ n. absurd (n refl);
   offset-most = λ n. absurd (n refl);
@@ -114,10 +115,10 @@ open-free = record {
 -- a word of an open file that is in use becomes v
 module _ (kind row : ℕ → ℕ) (w : OpenFile kind row) (v : ℕ) (u : row OPEN-REFERENCES ≡ 0 → ⊥) where
   pub offset-to : v ≤ BLOCK → OpenFile kind (upd row OPEN-OFFSET v)
-  offset-to l = open-used u (w .slot-small u) (w .plain u) (w .mode-least u) (w .mode-most u) l
+  offset-to l = open-used u (w .plain u) (w .reading u) (w .mode-least u) (w .mode-most u) l
 
   pub references-to : (v ≡ 0 → ⊥) → OpenFile kind (upd row OPEN-REFERENCES v)
-  references-to n = open-used n (w .slot-small u) (w .plain u) (w .mode-least u) (w .mode-most u) (w .offset-most u)
+  references-to n = open-used n (w .plain u) (w .reading u) (w .mode-least u) (w .mode-most u) (w .offset-most u)
 
 -- ---- processes
 

@@ -13,7 +13,7 @@ use Rattle.rules.specs.Layout.{SLOTS, BLOCK, DIRENT-WIDTH, NAME, POINT, FILE-WI
 use Rattle.rules.specs.Choice.{every, some}
 use Rattle.rules.specs.Store.{tab, block, hidden, shownOf, Table}
 use Rattle.rules.specs.Paths.{sameName, sameAt, isDots}
-use Rattle.rules.specs.Directories.{direntAt, direntSlot, isEmpty, isPadding}
+use Rattle.rules.specs.Directories.{direntAt, direntSlot, isEmpty, isPadding, hasName}
 use Rattle.rules.specs.Sound.{allZero, nameByteSound, nameSound, usedSound, direntSound}
 use Rattle.rules.proofs.Scans.{all-same}
 use Rattle.preservation.proofs.Tests.{split, Means, means-every, means-and, means-last, means-cond, means-eq, means-lt, means-not, means-test, means-within, means-same}
@@ -95,6 +95,14 @@ validRow-to r r′ e = rw (
 pub name-row : (n : List ℕ) → nameSound n ≡ validRow (λ k. getD n k 0)
 unfolding nameSound nameByteSound validRow validByte isDots sameName sameAt sameRow isPadding
 name-row n = refl
+
+-- entry i, of which the row is known, has the name
+pub has-name : (D n : List ℕ) (i : ℕ) (row : ℕ → ℕ) → ((k : ℕ) → k < NAME → getD (direntAt D i) k 0 ≡ row k) → hasName D n i ≡ sameRow row (λ k. getD n k 0)
+unfolding hasName
+has-name D n i row agree = open-row ∙ sameRow-to (λ k. getD (direntAt D i) k 0) row (λ k. getD n k 0) (λ k. getD n k 0) agree (λ k _. refl)
+  where
+    open-row : sameName (direntAt D i) n ≡ sameRow (λ k. getD (direntAt D i) k 0) (λ k. getD n k 0)
+    open-row = unfold sameName sameAt sameRow in refl
 
 -- ---- the entries of D are rows
 

@@ -11,7 +11,9 @@ use Rattle.rules.specs.Scan.{all, first}
 use Rattle.rules.specs.Layout.{SLOTS, BLOCK, DIRENT-WIDTH, DIRENTS, OPEN-FILES, PROCESSES, DESCRIPTORS, NAME, NAMES, SLASH, POINT, FILE-GROUP, PROCESS-GROUP, GROUP-MAX}
 use Rattle.rules.specs.Layout.{FILE-KIND, FILE-OWNER, FILE-BITS, FILE-LABEL, FILE-LENGTH, FILE-LINKS, FILE-VERSION, OPEN-SLOT, OPEN-MODE, OPEN-OFFSET, OPEN-REFERENCES, PROCESS-USED, PROCESS-USER, PROCESS-LABEL, FREE, PLAIN, DIRECTORY, LINK}
 use Rattle.rules.specs.Layout.{KIND-MAX, USER-MAX, BITS-MAX, LABEL-MAX, MODE-MAX, WORD-MAX}
+use Rattle.rules.specs.Rights.{MODE-READ}
 use Rattle.rules.specs.Paths.{pathOk}
+use Rattle.rules.specs.Rom.{ROM-NAME}
 use Rattle.preservation.proofs.Sums.{count, count2}
 use Rattle.preservation.proofs.Tables.{Tables, col, direntRow}
 
@@ -107,14 +109,14 @@ pub record Depths (kind : ℕ → ℕ) (direntRow : ℕ → ℕ → ℕ → ℕ)
   pub depth-step : All SLOTS (λ u. kind u ≡ DIRECTORY → All DIRENTS (λ p. (direntRow u p NAME ≡ 0 → ⊥) → kind (direntRow u p NAME) ≡ DIRECTORY → depth (direntRow u p NAME) ≡ suc (depth u)))
   pub depth-most : All SLOTS (λ d. kind d ≡ DIRECTORY → depth d ≤ NAMES)
 
--- ---- open files: a free one is all zero; any other is on a plain file
+-- ---- open files: a free one is all zero; any other is on a plain file, or on a prompt in mode 1
 
 pub record OpenFile (kind row : ℕ → ℕ) : Type 0 where
   pub slot-zero : row OPEN-REFERENCES ≡ 0 → row OPEN-SLOT ≡ 0
   pub mode-zero : row OPEN-REFERENCES ≡ 0 → row OPEN-MODE ≡ 0
   pub offset-zero : row OPEN-REFERENCES ≡ 0 → row OPEN-OFFSET ≡ 0
-  pub slot-small : (row OPEN-REFERENCES ≡ 0 → ⊥) → row OPEN-SLOT < SLOTS
-  pub plain : (row OPEN-REFERENCES ≡ 0 → ⊥) → kind (row OPEN-SLOT) ≡ PLAIN
+  pub plain : (row OPEN-REFERENCES ≡ 0 → ⊥) → row OPEN-SLOT < SLOTS → kind (row OPEN-SLOT) ≡ PLAIN
+  pub reading : (row OPEN-REFERENCES ≡ 0 → ⊥) → (row OPEN-SLOT < SLOTS → ⊥) → row OPEN-MODE ≡ MODE-READ .0
   pub mode-least : (row OPEN-REFERENCES ≡ 0 → ⊥) → 0 < row OPEN-MODE
   pub mode-most : (row OPEN-REFERENCES ≡ 0 → ⊥) → row OPEN-MODE ≤ MODE-MAX
   pub offset-most : (row OPEN-REFERENCES ≡ 0 → ⊥) → row OPEN-OFFSET ≤ BLOCK
@@ -150,12 +152,20 @@ pub record Slots (file byte : ℕ → ℕ → ℕ) : Type 0 where
   pub blocks : All SLOTS (λ s. Block (file s FILE-KIND) (file s FILE-LENGTH) (byte s))
   pub texts : All SLOTS (λ s. file s FILE-KIND ≡ LINK → Symlink (file s FILE-BITS) (file s FILE-LENGTH) (byte s))
 
+-- the name that the root may not hold
+abbrev pub romRow : ℕ → ℕ
+romRow k = getD ROM-NAME k 0
+
+abbrev pub NoRom : (ℕ → ℕ → ℕ → ℕ) → Type 0
+NoRom direntRow = All DIRENTS (λ p. sameRow (direntRow 0 p) romRow ≡ true → ⊥)
+
 -- the directories, and the names in them
 pub record Directories (kind length named : ℕ → ℕ) (direntRow : ℕ → ℕ → ℕ → ℕ) : Type 0 where
   pub dirs : All SLOTS (λ d. kind d ≡ DIRECTORY → Directory kind (direntRow d))
   pub lengths : All SLOTS (λ d. kind d ≡ DIRECTORY → length d ≡ nameCount (direntRow d))
   pub links : All SLOTS (λ s. (s ≡ 0 → ⊥) → named s ≡ linkCount kind direntRow s)
   pub depths : Depths kind direntRow
+  pub no-rom : NoRom direntRow
 
 -- a directory and a link have one name, and a plain file has one or is open, but for slot x, of which it is not said; opened s: how many open files are
 -- on s

@@ -9,20 +9,21 @@ use lib.Dec.{ltb}
 use lib.ListN.{length, getD, take, drop, length-take}
 use lib.Seq.{length-take-le, getD-take, getD-drop}
 use borrow.Author.Tests.{lt-ltb}
-use Rattle.rules.specs.Layout.{SLOTS, BLOCK, DIRENT-WIDTH, DIRENTS, NAMES, OPEN-FILES, PROCESSES, FILE-WIDTH, OPEN-FILE-WIDTH}
+use Rattle.rules.specs.Layout.{SLOTS, BLOCK, DIRENT-WIDTH, DIRENTS, NAMES, OPEN-FILES, PROCESSES, PROMPTS, FILE-WIDTH, OPEN-FILE-WIDTH}
 use Rattle.rules.specs.Layout.{FILE-KIND, FILE-BITS, FILE-LENGTH, FILE-LINKS, OPEN-SLOT, OPEN-REFERENCES, FREE, PLAIN, DIRECTORY, LINK}
-use Rattle.rules.specs.Choice.{some}
+use Rattle.rules.specs.Choice.{every, some}
 use Rattle.rules.specs.Store.{Store, Fixed, view, slot, tab, block, shownOf, isOpen}
 use Rattle.rules.specs.Paths.{pathOk}
-use Rattle.rules.specs.Directories.{direntAt}
+use Rattle.rules.specs.Directories.{direntAt, hasName}
+use Rattle.rules.specs.Rom.{ROM-NAME, romSound, promptCount}
 use Rattle.rules.specs.Walk.{linkText}
-use Rattle.rules.specs.Sound.{sizesSound, allZero, direntsSound, linksSound, directorySound, plainSound, textSound, linkSound, kindSound, slotSound, openSound, procSound, treeSound, tablesSound, storeSound, policySound, sound}
-use Rattle.preservation.proofs.Tests.{Means, means-every, means-and, means-last, means-cond, means-choice, means-or, means-eq, means-lt, means-le, means-test, means-all, means-within, means-same}
+use Rattle.rules.specs.Sound.{sizesSound, allZero, direntsSound, linksSound, directorySound, plainSound, textSound, linkSound, kindSound, slotSound, openSound, openWithin, opensWithin, procSound, isNotRom, romAbsent, treeSound, tablesSound, storeSound, policySound, sound}
+use Rattle.preservation.proofs.Tests.{Means, means-every, means-and, means-first, means-last, means-not, means-cond, means-choice, means-or, means-eq, means-lt, means-le, means-test, means-all, means-within, means-same}
 use Rattle.preservation.proofs.Tables.{Tables, col, direntRow}
-use Rattle.preservation.proofs.Sound.{All, Sound, File, Block, Symlink, Directory, OpenFile, Process, nameCount, linkCount, depthWithin, openCount, holderCount}
+use Rattle.preservation.proofs.Sound.{All, Sound, NoRom, romRow, sameRow, File, Block, Symlink, Directory, OpenFile, Process, nameCount, linkCount, depthWithin, openCount, holderCount}
 use Rattle.preservation.proofs.Tree.{depths-from, depth-is}
 use Rattle.preservation.proofs.StoreChanges.{tablesOf, Sized, Has}
-use Rattle.preservation.proofs.Shown.{block-length, block-byte, block-text, shown-whole, shown-plain, means-zeros}
+use Rattle.preservation.proofs.Shown.{has-name, block-length, block-byte, block-text, shown-whole, shown-plain, means-zeros}
 use Rattle.preservation.proofs.Counted.{links-total, means-climbs, means-open}
 use Rattle.preservation.proofs.PathNames.{path-size}
 use Rattle.preservation.proofs.Meaning.{means-sized, means-record, means-dirents, means-open-file, means-process}
@@ -135,11 +136,16 @@ module _ (s : Store) (z : Sized s) where
   -- ---- all tables
 
   abbrev OfTree : Type 0
-  OfTree = (file 0 FILE-KIND ≡ DIRECTORY) × All SLOTS OfSlot
+  OfTree = (file 0 FILE-KIND ≡ DIRECTORY) × (NoRom rows × All SLOTS OfSlot)
+
+  means-rom : file 0 FILE-KIND ≡ DIRECTORY → Means (romAbsent (shownOf (s .files) (s .contents) 0)) (NoRom rows)
+  unfolding romAbsent isNotRom
+  means-rom e = means-all DIRENTS _ (λ p. sameRow (rows 0 p) romRow ≡ true → ⊥)
+      (λ p. rw (← has-name (shownOf (s .files) (s .contents) 0) ROM-NAME p (rows 0 p) (λ k l. agree 0 (omega arith) e p k (omega arith))) (means-not (means-test (hasName (shownOf (s .files) (s .contents) 0) ROM-NAME p))))
 
   means-tree : Means (treeSound (view s .tree) (view s .openFiles)) OfTree
   unfolding treeSound
-  means-tree = means-every (means-and (means-eq (file 0 FILE-KIND) DIRECTORY) (means-last (means-within SLOTS (slotSound (view s .tree) (view s .openFiles)) OfSlot means-slot)))
+  means-tree = means-every (means-first (means-eq (file 0 FILE-KIND) DIRECTORY) (λ e. means-and (means-rom e) (means-last (means-within SLOTS (slotSound (view s .tree) (view s .openFiles)) OfSlot means-slot))))
 
   abbrev OfTables : Type 0
   OfTables = OfTree × (All OPEN-FILES (λ e. (tab OPEN-FILE-WIDTH (s .openFiles) e OPEN-REFERENCES ≡ holderCount (view s .desc) e)
@@ -155,17 +161,18 @@ module _ (s : Store) (z : Sized s) where
   unfolding tablesOf
   from-parts w = record {
     slots = record {
-      files = λ d h. w .0 .1 d h .0;
+      files = λ d h. w .0 .1 .1 d h .0;
       root-kind = w .0 .0;
-      root-links = w .0 .1 0 (omega arith) .1 .0 .0 refl;
+      root-links = w .0 .1 .1 0 (omega arith) .1 .0 .0 refl;
       blocks = blocks;
       texts = texts;
     };
     tree = record {
-      dirs = λ d h e. w .0 .1 d h .1 .1 .0 e .0 .0;
-      lengths = λ d h e. w .0 .1 d h .1 .1 .0 e .0 .1 .0;
-      links = λ d h. w .0 .1 d h .1 .0 .1;
-      depths = depths-from kind rows (λ u hu e p hp. w .0 .1 u hu .1 .1 .0 e .0 .0 .dirents p hp .slot-small) (λ d h e n. sym (w .0 .1 d h .1 .0 .1 n) ∙ w .0 .1 d h .1 .1 .0 e .1 .0 n) (λ d h e. w .0 .1 d h .1 .1 .0 e .1 .1);
+      dirs = λ d h e. w .0 .1 .1 d h .1 .1 .0 e .0 .0;
+      lengths = λ d h e. w .0 .1 .1 d h .1 .1 .0 e .0 .1 .0;
+      links = λ d h. w .0 .1 .1 d h .1 .0 .1;
+      depths = depths-from kind rows (λ u hu e p hp. w .0 .1 .1 u hu .1 .1 .0 e .0 .0 .dirents p hp .slot-small) (λ d h e n. sym (w .0 .1 .1 d h .1 .0 .1 n) ∙ w .0 .1 .1 d h .1 .1 .0 e .1 .0 n) (λ d h e. w .0 .1 .1 d h .1 .1 .0 e .1 .1);
+      no-rom = w .0 .1 .0;
     };
     live = record {
       once = λ d h _. once d h;
@@ -179,17 +186,17 @@ module _ (s : Store) (z : Sized s) where
   }
     where
       plain : (d : ℕ) → d < SLOTS → file d FILE-KIND ≡ PLAIN → OfPlain d
-      plain d h e = w .0 .1 d h .1 .1 .1 (λ q. omega (arith, e)) .0 e
+      plain d h e = w .0 .1 .1 d h .1 .1 .1 (λ q. omega (arith, e)) .0 e
 
       link : (d : ℕ) → d < SLOTS → file d FILE-KIND ≡ LINK → OfLink d
-      link d h e = w .0 .1 d h .1 .1 .1 (λ q. omega (arith, e)) .1 (λ q. omega (arith, e)) .0 e
+      link d h e = w .0 .1 .1 d h .1 .1 .1 (λ q. omega (arith, e)) .1 (λ q. omega (arith, e)) .0 e
 
       once : (d : ℕ) → d < SLOTS → (file d FILE-KIND ≡ FREE → ⊥) → (file d FILE-KIND ≡ PLAIN → ⊥) → (d ≡ 0 → ⊥) → file d FILE-LINKS ≡ 1
       once d h u o n = by (ℕ-discrete (file d FILE-KIND) DIRECTORY)
         where
           by : Dec (file d FILE-KIND ≡ DIRECTORY) → file d FILE-LINKS ≡ 1
-          by (yes e) = w .0 .1 d h .1 .1 .0 e .1 .0 n
-          by (no q) = link d h (omega (arith, w .0 .1 d h .0 .kind-most, u, o, q)) .0
+          by (yes e) = w .0 .1 .1 d h .1 .1 .0 e .1 .0 n
+          by (no q) = link d h (omega (arith, w .0 .1 .1 d h .0 .kind-most, u, o, q)) .0
 
       -- a text has at most PATH bytes
       short : (d : ℕ) → d < SLOTS → file d FILE-KIND ≡ LINK → file d FILE-LENGTH ≤ BLOCK
@@ -208,18 +215,18 @@ module _ (s : Store) (z : Sized s) where
       blocks d h = by (ℕ-discrete (file d FILE-KIND) DIRECTORY) (ℕ-discrete (file d FILE-KIND) PLAIN) (ℕ-discrete (file d FILE-KIND) LINK)
         where
           by : Dec (file d FILE-KIND ≡ DIRECTORY) → Dec (file d FILE-KIND ≡ PLAIN) → Dec (file d FILE-KIND ≡ LINK) → Block (file d FILE-KIND) (file d FILE-LENGTH) (tab BLOCK (s .contents) d)
-          by (yes e) p q = record { length-most = λ n. absurd (n e); past-zero = λ n. absurd (n e); tail-zero = λ _. w .0 .1 d h .1 .1 .0 e .0 .1 .1 }
+          by (yes e) p q = record { length-most = λ n. absurd (n e); past-zero = λ n. absurd (n e); tail-zero = λ _. w .0 .1 .1 d h .1 .1 .0 e .0 .1 .1 }
           by (no n) (yes e) q = record { length-most = λ _. plain d h e .0; past-zero = λ _. plain d h e .1 .1; tail-zero = λ q. absurd (n q) }
           by (no n) (no o) (yes e) = record { length-most = λ _. short d h e; past-zero = λ _. link d h e .1 .1 .1; tail-zero = λ q. absurd (n q) }
           by (no n) (no o) (no k) =
-              let f : file d FILE-KIND ≡ FREE = omega (arith, w .0 .1 d h .0 .kind-most, n, o, k) in
-              let l : file d FILE-LENGTH ≡ 0 = w .0 .1 d h .0 .length-zero f in
-              record { length-most = λ _. omega arith; past-zero = λ _ b hb _. w .0 .1 d h .1 .1 .1 n .1 o .1 k b hb (omega arith); tail-zero = λ q. absurd (n q) }
+              let f : file d FILE-KIND ≡ FREE = omega (arith, w .0 .1 .1 d h .0 .kind-most, n, o, k) in
+              let l : file d FILE-LENGTH ≡ 0 = w .0 .1 .1 d h .0 .length-zero f in
+              record { length-most = λ _. omega arith; past-zero = λ _ b hb _. w .0 .1 .1 d h .1 .1 .1 n .1 o .1 k b hb (omega arith); tail-zero = λ q. absurd (n q) }
 
   -- Back again: the depth that the test computes is the one that the tree has.
   to-parts : Sound (tablesOf s) → OfTables
   unfolding tablesOf
-  to-parts h = ((h .slots .root-kind, slots), ((λ e he. (h .opens .refs e he, h .opens .open-files e he)), h .procs))
+  to-parts h = ((h .slots .root-kind, (h .tree .no-rom, slots)), ((λ e he. (h .opens .refs e he, h .opens .open-files e he)), h .procs))
     where
       once : (d : ℕ) → d < SLOTS → file d FILE-KIND ≡ DIRECTORY → (d ≡ 0 → ⊥) → file d FILE-LINKS ≡ 1
       once d hd e = h .live .once d hd (λ q. omega (arith, hd)) (λ q. omega (arith, e)) (λ q. omega (arith, e))
@@ -264,17 +271,38 @@ pub record SoundStore (s : Store) : Type 0 where
   pub sized : Sized s
   pub tables : Sound (tablesOf s)
 
-pub means-store : (s : Store) → Means (storeSound s) (SoundStore s)
-unfolding storeSound
-means-store s = by (sizesSound s) refl
-  where
-    by : (b : Bool) → sizesSound s ≡ b → Means (cond b (tablesSound (view s)) false) (SoundStore s)
-    by true e = let z = means-sized s .holds e in means-same (means-tables s z) (λ w. record { sized = z; tables = w }) (λ w. w .tables)
-    by false e = record { holds = λ q. absurd (false≢true q); tests = λ w. absurd (false≢true (sym e ∙ means-sized s .tests (w .sized))) }
+-- the number past the last that an open file may be on
+abbrev pub past : List ℕ → ℕ
+past R = SLOTS + promptCount PROMPTS R
 
-pub means-sound : (K : Fixed) (s : Store) → Means (sound K s) ((policySound (K .policy) ≡ true) × SoundStore s)
+-- every open file is on a number below n
+abbrev pub Within : ℕ → Store → Type 0
+Within n s = All OPEN-FILES (λ e. tab OPEN-FILE-WIDTH (s .openFiles) e OPEN-SLOT < n)
+
+means-store : (R : List ℕ) (s : Store) → Means (storeSound R s) (SoundStore s × Within (past R) s)
+unfolding storeSound
+means-store R s = by (sizesSound s) refl
+  where
+    within : Means (opensWithin R (view s .openFiles)) (Within (past R) s)
+    within = unfold opensWithin openWithin in means-all OPEN-FILES (λ e. ltb (view s .openFiles e OPEN-SLOT) (past R)) (λ e. view s .openFiles e OPEN-SLOT < past R) (λ e. means-lt (view s .openFiles e OPEN-SLOT) (past R))
+
+    by : (b : Bool) → sizesSound s ≡ b → Means (cond b (every (tablesSound (view s) ∷ opensWithin R (view s .openFiles) ∷ [])) false) (SoundStore s × Within (past R) s)
+    by true e = let z = means-sized s .holds e in means-every (means-and (means-same (means-tables s z) (λ w. record { sized = z; tables = w }) (λ w. w .tables)) (means-last within))
+    by false e = record { holds = λ q. absurd (false≢true q); tests = λ w. absurd (false≢true (sym e ∙ means-sized s .tests (w .0 .sized))) }
+
+-- a store, a policy and a factory part that pass the test
+pub record AllSound (K : Fixed) (s : Store) : Type 0 where
+  pub policy : policySound (K .policy) ≡ true
+  pub part : romSound (K .rom) ≡ true
+  pub store : SoundStore s
+  pub within : Within (past (K .rom)) s
+
+pub means-sound : (K : Fixed) (s : Store) → Means (sound K s) (AllSound K s)
 unfolding sound
-means-sound K s = means-every (means-and (means-test (policySound (K .policy))) (means-last (means-store s)))
+means-sound K s = means-same
+    (means-every (means-and (means-test (policySound (K .policy))) (means-and (means-test (romSound (K .rom))) (means-last (means-store (K .rom) s)))))
+    (λ w. record { policy = w .0; part = w .1 .0; store = w .1 .1 .0; within = w .1 .1 .1 })
+    (λ w. (w .policy, (w .part, (w .store, w .within))))
 
 -- a link's text is a well formed path
 pub text-ok : (s : Store) → SoundStore s → (d : ℕ) → d < SLOTS → tablesOf s .file d FILE-KIND ≡ LINK → pathOk (linkText (view s .tree) (slot d)) ≡ true

@@ -53,6 +53,12 @@ unfolding every
 means-and {a = true} m n = record { holds = λ e. (m .holds refl, n .holds e); tests = λ pq. n .tests (pq .1) }
 means-and {a = false} m n = record { holds = λ e. absurd (false≢true e); tests = λ pq. m .tests (pq .0) }
 
+-- the same, where what the tests after the first mean is known only where that passes
+pub means-first : {a : Bool} {ts : List Bool} {P Q : Type 0} → Means a P → (P → MeansEvery ts Q) → MeansEvery (a ∷ ts) (P × Q)
+unfolding every
+means-first {a = true} m n = record { holds = λ e. (m .holds refl, n (m .holds refl) .holds e); tests = λ pq. n (pq .0) .tests (pq .1) }
+means-first {a = false} m n = record { holds = λ e. absurd (false≢true e); tests = λ pq. m .tests (pq .0) }
+
 pub means-imp : {a b : Bool} {P Q : Type 0} → Means a P → Means b Q → Means (implies a b) (P → Q)
 unfolding implies
 means-imp {a = true} m n = record { holds = λ e p. n .holds e; tests = λ f. n .tests (f (m .holds refl)) }

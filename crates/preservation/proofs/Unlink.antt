@@ -1,13 +1,15 @@
 -- A name taken away: the entry becomes empty.
 use mathlib.Core.Path.{_≡_, refl, sym, _∙_}
+use mathlib.Core.Bool.{false, false≢true}
 use Prim.Native.Nat.{ℕ, suc, _-_, _≤_, _<_}
 use native.Mathlib.Omega.{arith}
 use Rattle.preservation.proofs.Tests.{split, upd, upd-other}
 use Rattle.preservation.proofs.Tables.{Tables, col, direntRow, fill}
-use Rattle.preservation.proofs.Sound.{SoundBut, Dirent, Depths}
+use Rattle.preservation.proofs.Sound.{SoundBut, Dirent, Depths, sameRow, romRow}
 use Rattle.preservation.proofs.Counts.{ind-eq, ind-ne}
 use Rattle.preservation.proofs.Dirents.{placed, Fits, placed-slots, placed-tree, placed-other-slot, placed-here-slot, naming-at, used-at}
 use Rattle.preservation.proofs.Link.{ind-some}
+use Rattle.rules.specs.Scan.{all, fold, turns}
 use Rattle.rules.specs.Layout.{SLOTS, DIRENTS, NAME, FILE-KIND, FILE-LENGTH, FILE-LINKS, DIRECTORY, WORD-MAX}
 
 abbrev pub noRow : ℕ → ℕ
@@ -15,6 +17,10 @@ noRow k = 0
 
 pub no-dirent : (kind : ℕ → ℕ) → Dirent kind noRow
 no-dirent kind = record { last-zero = refl; slot-small = omega arith; empty-zero = λ _ k _. refl; slot-used = λ n. absurd (n refl); valid = λ n. absurd (n refl) }
+
+no-row-rom : sameRow noRow romRow ≡ false
+unfolding sameRow all fold turns
+no-row-rom = refl
 
 unfoldable pub unlinked : (d p t y : ℕ) → Tables → Tables
 unlinked d p t y m = placed d p noRow (m .file d FILE-LENGTH - 1) t y (m .file y FILE-LINKS - 1) m
@@ -31,6 +37,7 @@ module _ (m : Tables) (d p t y : ℕ) (h : SoundBut y m) (hd : d < SLOTS) (kd : 
     version-small = ht;
     file-used = λ z. h .tree .dirs d hd kd .dirents p hp .slot-used (rw e n0) (rw e z);
     file-root = n0;
+    row-rom = λ _ q. false≢true (sym no-row-rom ∙ q);
   }
 
   unlinked-depths : Depths (col (m .file) FILE-KIND) (direntRow (upd (m .byte) d (fill (m .byte d) p noRow)))

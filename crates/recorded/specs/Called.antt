@@ -2,7 +2,7 @@
 use Prim.Native.Nat.{ℕ, min}
 use mathlib.Core.Bool.{Bool, false, cond}
 use mathlib.Core.List.{List, [], _∷_, _++_}
-use lib.Dec.{eqb, ltb}
+use lib.Dec.{ltb}
 use lib.ListN.{length, getD, take, drop, replicate}
 use Rattle.rules.specs.Choice.{some}
 use Rattle.rules.specs.Store.{Store, fixed, store}
@@ -12,7 +12,7 @@ use Rattle.rules.specs.Step.{Outcome, step, answerOf}
 use Rattle.store.specs.Lent.{Lent, lent}
 use Rattle.recorded.specs.declared.records.Sizes.{Sizes}
 use Rattle.recorded.specs.declared.records.Tables.{Tables}
-use Rattle.recorded.specs.Records.{shortAt, tables, brokenTables, recordSet}
+use Rattle.recorded.specs.Records.{shortAt, tables, romOf, brokenTables}
 
 -- the parts that are lent
 abbrev pub partOf : Sizes → Store → Store
@@ -27,18 +27,23 @@ putBack n t s =
 abbrev pub partLeft : Sizes → Store → Outcome → Lent
 partLeft n s o = lent (answerOf (o .reply)) (o .reply .buffer) (putBack n (o .store) s)
 
-unfoldable pub calledOn : Sizes → List ℕ → Store → Call → Lent
-calledOn n Q s c = partLeft n s (step (fixed (take (n .policy) Q)) (partOf n s) c)
+unfoldable pub calledOn : Sizes → (Q R : List ℕ) → Store → Call → Lent
+calledOn n Q R s c = partLeft n s (step (fixed (take (n .policy) Q) R) (partOf n s) c)
 
 -- ---- the tables after a call
 
+abbrev pub storeOf : Tables → Store
+storeOf t = store (t .files) (t .contents) (t .«open_files») (t .processes)
+
 abbrev pub leftOf : Tables → Call → Lent
-leftOf t c = calledOn (t .sizes) (t .policy) (store (t .files) (t .contents) (t .«open_files») (t .processes)) c
+leftOf t c = calledOn (t .sizes) (t .policy) (romOf t) (storeOf t) c
 
 unfoldable pub calledTables : Tables → Call → Tables
 calledTables t c =
     tables false false (t .sizes) (leftOf t c .store .files) (leftOf t c .store .contents) (leftOf t c .store .openFiles) (leftOf t c .store .processes)
     (t .policy)
+    (t .rom)
+    (t .«rom_size»)
 
 -- what a read has read of the buffer after the call; other calls have read nothing
 unfoldable pub readOf : Request → List ℕ → List ℕ
@@ -70,11 +75,3 @@ isCut body = some (ltb (length body) 8 ∷ ltb (length (texts body)) (pathLength
 
 unfoldable pub recordCalled : List ℕ → Tables → Tables
 recordCalled body t = cond (isCut body) (brokenTables t) (calledTables t (callIn body))
-
--- ---- a record of kind k that says it has n bytes; a call is of kind 6
-
-unfoldable pub kindTaken : (k : ℕ) (body : List ℕ) → Tables → Tables
-kindTaken k body t = cond (eqb k 6) (recordCalled body t) (recordSet k body t)
-
-unfoldable pub recordTaken : (k n : ℕ) (body : List ℕ) → Tables → Tables
-recordTaken k n body t = cond (ltb (length body) n) (brokenTables t) (kindTaken k body t)

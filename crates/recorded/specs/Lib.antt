@@ -2,3 +2,5 @@
 pub mod Records
 pub mod Digest
 pub mod Called
+pub mod Borrowed
+pub mod Taken

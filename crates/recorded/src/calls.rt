@@ -1,6 +1,5 @@
 // A stored call: the buffer's size, then the call as it is written down.
 ghost use mathlib.Core.Path.{_≡_};
-ghost use Prim.Native.Nat.{min};
 ghost use lib.Dec.{ltb};
 ghost use lib.ListN.{length};
 ghost use Rattle.rules.specs.Store.{store};
@@ -8,9 +7,14 @@ ghost use Rattle.rules.specs.Calls.{callOf};
 ghost use Rattle.store.specs.Lent.{lent};
 ghost use Rattle.recorded.specs.Called.{calledOn, leftOf, calledTables, readOf, requestIn, isCut, texts, pathLength, recordCalled};
 use crate::digest::digest;
+use crate::printing::print_answer;
+use crate::printing::print_digest;
+use crate::records::POLICY_ROOM;
 use crate::records::Sizes;
 use crate::records::Tables;
 use crate::records::broken;
+use crate::records::least;
+use crate::records::part_of;
 use crate::records::short_at;
 use rules::answer::Answer;
 use rules::ids::Fd;
@@ -21,62 +25,6 @@ use tables::calls::uses;
 use tables::parts::after;
 use tables::parts::upto;
 use tables::words::byte;
-
-fn least(a: usize, b: usize) -> usize
-    ensures { λ r. ⌜ r ≡ min a b ⌝ }
-{
-    if a < b { a } else { b }
-}
-
-fn print_number(n: u32) {
-    io::print_decimal(1, n as u64);
-    io::write_all(1, b" ");
-}
-
-fn print_byte(b: u8) {
-    io::print_hex(1, b as u64, 2);
-}
-
-fn print_bytes(bytes: &[u8]) {
-    let mut i = 0;
-    while i < bytes.len() {
-        print_byte(bytes[i]);
-        i += 1;
-    }
-}
-
-fn print_fields(f: [u32; 8]) {
-    let mut k = 0;
-    while k < 8 {
-        print_number(f[k]);
-        k += 1;
-    }
-}
-
-// Kind 0 is no file's.
-fn print_any_fields(f: [u32; 8]) {
-    if f[0] != 0 {
-        print_fields(f);
-    }
-}
-
-// Refusal, stop number, value; a file's fields; the listed name or the first bytes read, in hex.
-fn print_answer(a: Answer, read: &[u8]) {
-    print_number(a.refusal);
-    print_number(a.stop);
-    print_number(a.value);
-    let fields = a.fields;
-    print_any_fields(fields);
-    let name = a.name;
-    print_bytes(upto(&name, a.name_length as usize));
-    print_bytes(upto(upto(read, a.value as usize), 8));
-}
-
-fn print_digest(h: u32) {
-    io::write_all(1, b"#");
-    io::print_hex(1, h as u64, 8);
-    io::write_all(1, b"\n");
-}
 
 fn request(call: &[u8]) -> Request
     ensures { λ r. ⌜ r ≡ requestIn (now (call .entry)) ⌝ }
@@ -101,14 +49,15 @@ fn call_part(
     contents: &mut [u8],
     open_files: &mut [u32],
     processes: &mut [u32],
-    policy: &[u8],
+    policy: &[u8; POLICY_ROOM],
+    rom: &[u8],
     sizes: Sizes,
     c: Request,
     path: &[u8],
     data: &[u8],
     buffer: &mut [u8],
 ) -> Answer
-    ensures { λ r. ⌜ lent r (now (buffer .exit)) (store (now (files .exit)) (now (contents .exit)) (now («open_files» .exit)) (now (processes .exit))) ≡ calledOn sizes (now (policy .entry)) (store (now (files .entry)) (now (contents .entry)) (now («open_files» .entry)) (now (processes .entry))) (callOf c (now (path .entry)) (now («data» .entry)) (now (buffer .entry))) ⌝ }
+    ensures { λ r. ⌜ lent r (now (buffer .exit)) (store (now (files .exit)) (now (contents .exit)) (now («open_files» .exit)) (now (processes .exit))) ≡ calledOn sizes (now (policy .entry)) (now (rom .entry)) (store (now (files .entry)) (now (contents .entry)) (now («open_files» .entry)) (now (processes .entry))) (callOf c (now (path .entry)) (now («data» .entry)) (now (buffer .entry))) ⌝ }
 {
     let f = least(sizes.files, files.len());
     let n = least(sizes.contents, contents.len());
@@ -120,6 +69,7 @@ fn call_part(
         &mut open_files[..e],
         &mut processes[..p],
         upto(policy, sizes.policy),
+        rom,
         c,
         path,
         data,
@@ -137,6 +87,8 @@ fn serve(s: Tables, c: Request, path: &[u8], data: &[u8], buffer: &mut [u8]) -> 
     let mut open_files = s.open_files;
     let mut processes = s.processes;
     let policy = s.policy;
+    let rom = s.rom;
+    let size = s.rom_size;
     let sizes = s.sizes;
     let a = call_part(
         &mut files,
@@ -144,6 +96,7 @@ fn serve(s: Tables, c: Request, path: &[u8], data: &[u8], buffer: &mut [u8]) -> 
         &mut open_files,
         &mut processes,
         &policy,
+        part_of(&rom, size),
         sizes,
         c,
         path,
@@ -161,6 +114,8 @@ fn serve(s: Tables, c: Request, path: &[u8], data: &[u8], buffer: &mut [u8]) -> 
             open_files: open_files,
             processes: processes,
             policy: policy,
+            rom: rom,
+            rom_size: size,
         },
     }
 }

@@ -1,14 +1,17 @@
 // Runs stored calls on stored tables, and writes a line for each call: its answer, and a digest of the tables and the
 // buffer afterwards. docs/recorded.md has the input and the lines.
+mod borrows;
 mod calls;
 mod digest;
+mod printing;
 mod records;
 
 ghost use mathlib.Core.Path.{_≡_};
 ghost use Prim.Native.Nat.{_<_};
 ghost use lib.ListN.{take};
 ghost use Rattle.recorded.specs.Records.{shortAt};
-ghost use Rattle.recorded.specs.Called.{kindTaken, recordTaken};
+ghost use Rattle.recorded.specs.Taken.{kindTaken, recordTaken};
+use borrows::borrow_record;
 use calls::call_record;
 use records::Tables;
 use records::broken;
@@ -27,6 +30,10 @@ fn take_kind(s: Tables, kind: u8, body: &[u8]) -> Tables
     let calls = kind == 6;
     if calls {
         return call_record(s, body);
+    }
+    let borrows = kind == 9;
+    if borrows {
+        return borrow_record(s, body);
     }
     set_record(s, kind, body)
 }

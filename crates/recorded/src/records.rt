@@ -1,13 +1,15 @@
 // The tables, and the records that set them.
 ghost use mathlib.Core.Path.{_≡_};
-ghost use Prim.Native.Nat.{_<_};
-ghost use Rattle.recorded.specs.Records.{shortAt, wordAt, wordsSet, bytesSet, emptyTables, brokenTables, endedTables, sizesFrom, filesFrom, contentsFrom, openFilesFrom, processesFrom, policyFrom, recordSet};
+ghost use Prim.Native.Nat.{_<_, min};
+ghost use lib.ListN.{take};
+ghost use Rattle.recorded.specs.Records.{shortAt, wordAt, wordsSet, bytesSet, emptyTables, brokenTables, endedTables, sizesFrom, filesFrom, contentsFrom, openFilesFrom, processesFrom, policyFrom, romFrom, recordSet};
 use tables::layout::CONTENTS_SIZE;
 use tables::layout::FILES_SIZE;
 use tables::layout::OPEN_FILES_SIZE;
 use tables::layout::POLICY_SIZE;
 use tables::layout::PROCESSES_SIZE;
 use tables::parts::after;
+use tables::parts::upto;
 use tables::words::byte;
 use tables::words::copy_bytes;
 
@@ -20,9 +22,12 @@ const OPEN_FILES_ROOM: usize = OPEN_FILES_SIZE + 1;
 
 const PROCESSES_ROOM: usize = PROCESSES_SIZE + 1;
 
-const POLICY_ROOM: usize = POLICY_SIZE + 1;
+pub(crate) const POLICY_ROOM: usize = POLICY_SIZE + 1;
 
-// `sizes` says how much of each table is lent.
+// Room for the factory part: more than 16 prompts of 512 bytes take, so that parts of too many can be stored too.
+const ROM_ROOM: usize = 9216;
+
+// `sizes` says how much of each table is lent. The factory part is the first `rom_size` bytes of its room.
 pub(crate) struct Tables {
     pub(crate) broken: bool,
     pub(crate) ended: bool,
@@ -32,6 +37,8 @@ pub(crate) struct Tables {
     pub(crate) open_files: [u32; OPEN_FILES_ROOM],
     pub(crate) processes: [u32; PROCESSES_ROOM],
     pub(crate) policy: [u8; POLICY_ROOM],
+    pub(crate) rom: [u8; ROM_ROOM],
+    pub(crate) rom_size: usize,
 }
 
 pub(crate) struct Sizes {
@@ -42,7 +49,7 @@ pub(crate) struct Sizes {
     pub(crate) policy: usize,
 }
 
-// All 0 and of the right sizes.
+// All 0 and of the right sizes, and no prompts.
 pub(crate) fn empty() -> Tables
     ensures { λ r. ⌜ r ≡ emptyTables ⌝ }
 {
@@ -61,6 +68,8 @@ pub(crate) fn empty() -> Tables
         open_files: [0u32; OPEN_FILES_ROOM],
         processes: [0u32; PROCESSES_ROOM],
         policy: [0u8; POLICY_ROOM],
+        rom: [0u8; ROM_ROOM],
+        rom_size: 0,
     }
 }
 
@@ -80,6 +89,19 @@ pub(crate) fn ended(s: Tables) -> Tables
     t
 }
 
+pub(crate) fn least(a: usize, b: usize) -> usize
+    ensures { λ r. ⌜ r ≡ min a b ⌝ }
+{
+    if a < b { a } else { b }
+}
+
+// The factory part, of what has room for it.
+pub(crate) fn part_of(rom: &[u8; ROM_ROOM], size: usize) -> &[u8]
+    ensures { λ r. ⌜ now r ≡ take size (now (rom .entry)) ⌝ }
+{
+    upto(rom, size)
+}
+
 // Two bytes, little end first.
 pub(crate) fn short_at(bytes: &[u8], at: usize) -> usize
     ensures is { λ r. ⌜ r ≡ shortAt (now (bytes .entry)) at ⌝ }
@@ -90,7 +112,7 @@ pub(crate) fn short_at(bytes: &[u8], at: usize) -> usize
 }
 
 // Four bytes, little end first.
-fn word_at(bytes: &[u8], at: usize) -> u32
+pub(crate) fn word_at(bytes: &[u8], at: usize) -> u32
     ensures { λ r. ⌜ r ≡ wordAt (now (bytes .entry)) at ⌝ }
 {
     let rest = after(bytes, at);
@@ -182,6 +204,18 @@ fn set_policy(s: Tables, body: &[u8]) -> Tables
     t
 }
 
+// The factory part, whole.
+fn set_rom(s: Tables, body: &[u8]) -> Tables
+    ensures { λ r. ⌜ r ≡ romFrom (now (body .entry)) s ⌝ }
+{
+    let mut bytes = [0u8; ROM_ROOM];
+    copy_bytes(&mut bytes, 0, body);
+    let mut t = s;
+    t.rom = bytes;
+    t.rom_size = least(body.len(), ROM_ROOM);
+    t
+}
+
 fn set_sizes(s: Tables, body: &[u8]) -> Tables
     ensures { λ r. ⌜ r ≡ sizesFrom (now (body .entry)) s ⌝ }
 {
@@ -209,6 +243,7 @@ pub(crate) fn set_record(s: Tables, kind: u8, body: &[u8]) -> Tables
         4 => set_processes(s, body),
         5 => set_policy(s, body),
         7 => empty(),
+        8 => set_rom(s, body),
         _ => broken(s),
     }
 }

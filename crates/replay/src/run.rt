@@ -31,13 +31,14 @@ pub fn replay(
     open_files: &mut [u32],
     processes: &mut [u32],
     policy: &[u8],
+    rom: &[u8],
     script: &[u8],
     allowance: u32,
     output: &mut [u8],
 ) -> Replayed
-    ensures { λ r. ⌜ left r (now (output .exit)) (store (now (files .exit)) (now (contents .exit)) (now («open_files» .exit)) (now (processes .exit))) ≡ leftBy 0 0 (now (output .entry)) (replay allowance (fixed (now (policy .entry))) (now (script .entry)) (length (now (output .entry))) (store (now (files .entry)) (now (contents .entry)) (now («open_files» .entry)) (now (processes .entry)))) ⌝ }
+    ensures { λ r. ⌜ left r (now (output .exit)) (store (now (files .exit)) (now (contents .exit)) (now («open_files» .exit)) (now (processes .exit))) ≡ leftBy 0 0 (now (output .entry)) (replay allowance (fixed (now (policy .entry)) (now (rom .entry))) (now (script .entry)) (length (now (output .entry))) (store (now (files .entry)) (now (contents .entry)) (now («open_files» .entry)) (now (processes .entry)))) ⌝ }
 {
-    let fit = sound(files, contents, open_files, processes, policy);
+    let fit = sound(files, contents, open_files, processes, policy, rom);
     run_by(
         fit,
         files,
@@ -45,6 +46,7 @@ pub fn replay(
         open_files,
         processes,
         policy,
+        rom,
         script,
         allowance,
         output,
@@ -59,11 +61,12 @@ fn run_by(
     open_files: &mut [u32],
     processes: &mut [u32],
     policy: &[u8],
+    rom: &[u8],
     script: &[u8],
     allowance: u32,
     output: &mut [u8],
 ) -> Replayed
-    ensures { λ r. ⌜ left r (now (output .exit)) (store (now (files .exit)) (now (contents .exit)) (now («open_files» .exit)) (now (processes .exit))) ≡ leftBy 0 0 (now (output .entry)) (runIf fit allowance (fixed (now (policy .entry))) (now (script .entry)) 0 (length (now (output .entry))) (store (now (files .entry)) (now (contents .entry)) (now («open_files» .entry)) (now (processes .entry)))) ⌝ }
+    ensures { λ r. ⌜ left r (now (output .exit)) (store (now (files .exit)) (now (contents .exit)) (now («open_files» .exit)) (now (processes .exit))) ≡ leftBy 0 0 (now (output .entry)) (runIf fit allowance (fixed (now (policy .entry)) (now (rom .entry))) (now (script .entry)) 0 (length (now (output .entry))) (store (now (files .entry)) (now (contents .entry)) (now («open_files» .entry)) (now (processes .entry)))) ⌝ }
 {
     let mut at: usize = 0;
     let mut written: usize = 0;
@@ -76,6 +79,7 @@ fn run_by(
             open_files,
             processes,
             policy,
+            rom,
             after(script, at),
             allowed,
             output,

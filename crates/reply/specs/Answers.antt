@@ -4,7 +4,8 @@ use mathlib.Core.List.{List, []}
 use Rattle.rules.specs.Store.{Store, Tree, view}
 use Rattle.rules.specs.Refusals.{GRANTED}
 use Rattle.rules.specs.Directories.{padded}
-use Rattle.rules.specs.Step.{nameOut, fieldsOut, bufferOut, answerOf}
+use Rattle.rules.specs.Rom.{seenTree}
+use Rattle.rules.specs.Step.{nameOut, fieldsOut, bytesOut, into, answerOf}
 use Rattle.rules.specs.declared.decision.Output.{Output}
 use Rattle.rules.specs.declared.answer.Answer.{Answer}
 
@@ -34,5 +35,5 @@ pub record Said : Type 0 where
 abbrev pub said : Answer → List ℕ → Said
 said a b = record { answer = a; buffer = b }
 
-unfoldable pub saidOf : Store → ℕ → Output → List ℕ → Said
-saidOf s n o buffer = said (outputAnswer (view s .tree) n o) (bufferOut s o buffer)
+unfoldable pub saidOf : List ℕ → Store → ℕ → Output → List ℕ → Said
+saidOf R s n o buffer = said (outputAnswer (seenTree R (view s .tree)) n o) (into buffer (bytesOut R (s .contents) o))

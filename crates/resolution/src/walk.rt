@@ -4,17 +4,19 @@ ghost use mathlib.Core.Bool.{cond};
 ghost use mathlib.Core.List.{[], _∷_};
 ghost use Prim.Native.Nat.{_≤_};
 ghost use Rattle.rules.specs.Choice.{every};
-ghost use Rattle.rules.specs.Layout.{FILE-WIDTH, FOLLOWS};
-ghost use Rattle.rules.specs.Store.{tab, tree};
+ghost use Rattle.rules.specs.Layout.{FOLLOWS};
+ghost use Rattle.rules.specs.Store.{isEntry};
+ghost use Rattle.rules.specs.Rom.{filesIn, treeIn};
 ghost use Rattle.rules.specs.Paths.{names};
-ghost use Rattle.rules.specs.Walk.{isLink, deeper, reached, entered, start, stopAt, follows, follower, walk, walkPath, followPath, walkNew, ROOT};
+ghost use Rattle.rules.specs.Walk.{isLink, deeper, needAt, start, stopAt, follows, follower, walk, walkPath, followPath, walkNew, ROOT};
 ghost use Rattle.rules.specs.declared.decision.Intent.the-variants.{Find, Follow};
-ghost use Rattle.directories.specs.ByWords.{direntBy};
-ghost use Rattle.resolution.specs.Walks.{foundBy, lookupBy, restFrom, noneLeft, namesLeft, RestOf};
+ghost use Rattle.rules.specs.declared.refusal.Refusal.the-variants.{NameMissing};
+ghost use Rattle.resolution.specs.Walks.{reachedBy, enteredBy, foundBy, lookupBy, restFrom, noneLeft, namesLeft, RestOf};
 use crate::path_names::read_name;
 use crate::paths::ByteClass;
 use crate::paths::span_end;
-use directories::entries::dirent_by;
+use directories::seen::Found;
+use directories::seen::find_in;
 use rights::rights::Permission;
 use rights::rights::permission_over;
 use rules::decision::Intent;
@@ -25,7 +27,7 @@ use rules::ids::Slot;
 use rules::refusal::Refusal;
 use rules::request::Subject;
 use rules::rights::Rights;
-use tables::ids::is_dirent;
+use tables::ids::is_entry;
 use tables::layout::FOLLOWS;
 use tables::layout::NAMES;
 
@@ -50,62 +52,58 @@ fn one_deeper(d: u32) -> u32
     d
 }
 
-// Entry i of the directory at a location, whose bytes are `dir`.
-fn reach(dir: &[u8], at: Location, i: Dirent) -> Walk
-    ensures { λ r. ⌜ r ≡ reached (now (dir .entry)) at i ⌝ }
+// The entry that was found in the directory at a location.
+fn reach(at: Location, found: Found) -> Walk
+    ensures { λ r. ⌜ r ≡ reachedBy at found ⌝ }
 {
     let d = at.slot;
     let j = at.follows;
+    let i = found.dirent;
+    let s = found.slot;
     let deep = one_deeper(at.depth);
     Walk::Reached(Location {
         dir: d,
         dirent: i,
-        slot: tables::directories::dirent_slot(dir, i),
+        slot: s,
         depth: deep,
         follows: j,
     })
 }
 
-fn reach_there(dir: &[u8], at: Location, k: u32, i: Dirent) -> Walk
-    ensures { λ r. ⌜ r ≡ entered Find (now (dir .entry)) at k i ⌝ }
+fn reach_there(at: Location, k: u32, found: Found) -> Walk
+    ensures { λ r. ⌜ r ≡ needAt (isEntry (found .dirent)) NameMissing k (reachedBy at found) ⌝ }
 {
-    if !is_dirent(i) {
+    if !is_entry(found.dirent) {
         return Walk::Stopped(Refusal::NameMissing, k);
     }
-    reach(dir, at, i)
+    reach(at, found)
 }
 
 // A name that is missing stops a walk for a file.
-fn enter(dir: &[u8], at: Location, k: u32, intent: Intent, i: Dirent) -> Walk
-    ensures { λ r. ⌜ r ≡ entered intent (now (dir .entry)) at k i ⌝ }
+fn enter(at: Location, k: u32, intent: Intent, found: Found) -> Walk
+    ensures { λ r. ⌜ r ≡ enteredBy intent at k found ⌝ }
 {
     match intent {
-        Intent::Find => reach_there(dir, at, k, i),
-        Intent::Follow => reach_there(dir, at, k, i),
-        Intent::Create => reach(dir, at, i),
+        Intent::Find => reach_there(at, k, found),
+        Intent::Follow => reach_there(at, k, found),
+        Intent::Create => reach(at, found),
     }
-}
-
-fn enter_by(dir: &[u8], at: Location, low: u64, high: u64, k: u32, intent: Intent) -> Walk
-    ensures { λ r. ⌜ r ≡ entered intent (now (dir .entry)) at k (direntBy (now (dir .entry)) low high) ⌝ }
-{
-    enter(dir, at, k, intent, dirent_by(dir, low, high))
 }
 
 fn find_by(
     files: &[u32],
     contents: &[u8],
+    rom: &[u8],
     at: Location,
     low: u64,
     high: u64,
     k: u32,
     intent: Intent,
 ) -> Walk
-    ensures { λ r. ⌜ r ≡ foundBy intent (tree (now (files .entry)) (now (contents .entry))) at low high k ⌝ }
+    ensures { λ r. ⌜ r ≡ foundBy intent (treeIn (now (rom .entry)) (now (files .entry)) (now (contents .entry))) at low high k ⌝ }
 {
-    let d = at.slot;
-    let dir = tables::files::shown(files, contents, d);
-    enter_by(dir, at, low, high, k, intent)
+    let found = find_in(files, contents, rom, at.slot, low, high);
+    enter(at, k, intent, found)
 }
 
 // The k-th name, by its words, is looked for in the directory at a location.
@@ -113,6 +111,7 @@ fn look_up(
     files: &[u32],
     contents: &[u8],
     policy: &[u8],
+    rom: &[u8],
     who: Subject,
     at: Location,
     low: u64,
@@ -120,14 +119,14 @@ fn look_up(
     k: u32,
     intent: Intent,
 ) -> Walk
-    ensures { λ r. ⌜ r ≡ lookupBy intent (tree (now (files .entry)) (now (contents .entry))) (now (policy .entry)) who at low high k ⌝ }
+    ensures { λ r. ⌜ r ≡ lookupBy intent (treeIn (now (rom .entry)) (now (files .entry)) (now (contents .entry))) (now (policy .entry)) who at low high k ⌝ }
 {
     let d = at.slot;
-    if !tables::files::is_directory(files, d) {
+    if !rom::seen::is_directory(files, d) {
         return Walk::Stopped(Refusal::NotADirectory, k);
     }
     match permission_over(files, policy, who, d, Rights::EXECUTE) {
-        Permission::Allowed => find_by(files, contents, at, low, high, k, intent),
+        Permission::Allowed => find_by(files, contents, rom, at, low, high, k, intent),
         Permission::Forbidden(r) => Walk::Stopped(r, k),
     }
 }
@@ -187,12 +186,12 @@ fn follows_links(intent: Intent) -> bool
 }
 
 fn is_followed(files: &[u32], s: Slot, intent: Intent) -> bool
-    ensures { λ r. ⌜ r ≡ every (follows intent ∷ isLink (tab FILE-WIDTH (now (files .entry))) s ∷ []) ⌝ }
+    ensures { λ r. ⌜ r ≡ every (follows intent ∷ isLink (filesIn (now (files .entry))) s ∷ []) ⌝ }
 {
     if !follows_links(intent) {
         return false;
     }
-    tables::files::is_link(files, s)
+    rom::seen::is_link(files, s)
 }
 
 // A refusal out of a link's text counts at the name that met the link.
@@ -210,13 +209,14 @@ fn follow(
     files: &[u32],
     contents: &[u8],
     policy: &[u8],
+    rom: &[u8],
     who: Subject,
     at: Location,
     k: u32,
     intent: Intent,
 ) -> Walk
     requires { ⌜ at .follows ≤ FOLLOWS ⌝ }
-    ensures { λ r. ⌜ r ≡ follower FOLLOWS (tree (now (files .entry)) (now (contents .entry))) (now (policy .entry)) who intent k at ⌝ }
+    ensures { λ r. ⌜ r ≡ follower FOLLOWS (treeIn (now (rom .entry)) (now (files .entry)) (now (contents .entry))) (now (policy .entry)) who intent k at ⌝ }
 {
     let s = at.slot;
     if !is_followed(files, s, intent) {
@@ -226,10 +226,10 @@ fn follow(
         return Walk::Stopped(Refusal::TooDeep, k);
     }
     let root = from_root(at.follows - 1);
-    let text = tables::files::link_text(files, contents, s);
+    let text = rom::seen::link_text(files, contents, s);
     let rest = rest_from(text, 0, 1);
     let through = Intent::Follow;
-    let w = walk_from(files, contents, policy, who, text, rest, root, through);
+    let w = walk_from(files, contents, policy, rom, who, text, rest, root, through);
     stop_at(k, w)
 }
 
@@ -238,6 +238,7 @@ fn walk_from(
     files: &[u32],
     contents: &[u8],
     policy: &[u8],
+    rom: &[u8],
     who: Subject,
     path: &[u8],
     rest: Rest,
@@ -246,7 +247,7 @@ fn walk_from(
 ) -> Walk
     requires { ⌜ RestOf (now path) rest ⌝ }
     requires { ⌜ at .follows ≤ FOLLOWS ⌝ }
-    ensures { λ r. ⌜ r ≡ walk intent (tree (now (files .entry)) (now (contents .entry))) (now (policy .entry)) who at (rest .k) (namesLeft (now (path .entry)) rest) ⌝ }
+    ensures { λ r. ⌜ r ≡ walk intent (treeIn (now (rom .entry)) (now (files .entry)) (now (contents .entry))) (now (policy .entry)) who at (rest .k) (namesLeft (now (path .entry)) rest) ⌝ }
 {
     if none_left(path, rest) {
         return Walk::Reached(at);
@@ -256,16 +257,37 @@ fn walk_from(
     let ns = rest_from(path, name.end, k + 1);
     let last = none_left(path, ns);
     let it = here(last, intent);
-    match look_up(files, contents, policy, who, at, name.low, name.high, k, it) {
+    match look_up(
+        files,
+        contents,
+        policy,
+        rom,
+        who,
+        at,
+        name.low,
+        name.high,
+        k,
+        it,
+    ) {
         Walk::Stopped(r, n) => Walk::Stopped(r, n),
         Walk::Reached(met) => {
-            let w = follow(files, contents, policy, who, met, k, it);
+            let w = follow(files, contents, policy, rom, who, met, k, it);
             if last {
                 return w;
             }
             match w {
                 Walk::Stopped(r, n) => Walk::Stopped(r, n),
-                Walk::Reached(to) => walk_from(files, contents, policy, who, path, ns, to, intent),
+                Walk::Reached(to) => walk_from(
+                    files,
+                    contents,
+                    policy,
+                    rom,
+                    who,
+                    path,
+                    ns,
+                    to,
+                    intent,
+                ),
             }
         }
     }
@@ -276,34 +298,56 @@ fn walk_names(
     files: &[u32],
     contents: &[u8],
     policy: &[u8],
+    rom: &[u8],
     who: Subject,
     path: &[u8],
     intent: Intent,
 ) -> Walk
-    ensures { λ r. ⌜ r ≡ walk intent (tree (now (files .entry)) (now (contents .entry))) (now (policy .entry)) who ROOT 1 (names (now (path .entry))) ⌝ }
+    ensures { λ r. ⌜ r ≡ walk intent (treeIn (now (rom .entry)) (now (files .entry)) (now (contents .entry))) (now (policy .entry)) who ROOT 1 (names (now (path .entry))) ⌝ }
 {
     let root = from_root(FOLLOWS);
     let rest = rest_from(path, 0, 1);
-    walk_from(files, contents, policy, who, path, rest, root, intent)
+    walk_from(files, contents, policy, rom, who, path, rest, root, intent)
 }
 
 // To the file that the path names, be it a link.
-pub fn walk_path(files: &[u32], contents: &[u8], policy: &[u8], who: Subject, path: &[u8]) -> Walk
-    ensures { λ r. ⌜ r ≡ walkPath (tree (now (files .entry)) (now (contents .entry))) (now (policy .entry)) who (now (path .entry)) ⌝ }
+pub fn walk_path(
+    files: &[u32],
+    contents: &[u8],
+    policy: &[u8],
+    rom: &[u8],
+    who: Subject,
+    path: &[u8],
+) -> Walk
+    ensures { λ r. ⌜ r ≡ walkPath (treeIn (now (rom .entry)) (now (files .entry)) (now (contents .entry))) (now (policy .entry)) who (now (path .entry)) ⌝ }
 {
-    walk_names(files, contents, policy, who, path, Intent::Find)
+    walk_names(files, contents, policy, rom, who, path, Intent::Find)
 }
 
 // To the file that a link by that name leads to.
-pub fn follow_path(files: &[u32], contents: &[u8], policy: &[u8], who: Subject, path: &[u8]) -> Walk
-    ensures { λ r. ⌜ r ≡ followPath (tree (now (files .entry)) (now (contents .entry))) (now (policy .entry)) who (now (path .entry)) ⌝ }
+pub fn follow_path(
+    files: &[u32],
+    contents: &[u8],
+    policy: &[u8],
+    rom: &[u8],
+    who: Subject,
+    path: &[u8],
+) -> Walk
+    ensures { λ r. ⌜ r ≡ followPath (treeIn (now (rom .entry)) (now (files .entry)) (now (contents .entry))) (now (policy .entry)) who (now (path .entry)) ⌝ }
 {
-    walk_names(files, contents, policy, who, path, Intent::Follow)
+    walk_names(files, contents, policy, rom, who, path, Intent::Follow)
 }
 
-// To the parent of the last name, with the parent's three checks, and that name's entry there; 16 where it is missing.
-pub fn walk_new(files: &[u32], contents: &[u8], policy: &[u8], who: Subject, path: &[u8]) -> Walk
-    ensures { λ r. ⌜ r ≡ walkNew (tree (now (files .entry)) (now (contents .entry))) (now (policy .entry)) who (now (path .entry)) ⌝ }
+// To the parent of the last name, with the parent's three checks, and that name's entry there; 17 where it is missing.
+pub fn walk_new(
+    files: &[u32],
+    contents: &[u8],
+    policy: &[u8],
+    rom: &[u8],
+    who: Subject,
+    path: &[u8],
+) -> Walk
+    ensures { λ r. ⌜ r ≡ walkNew (treeIn (now (rom .entry)) (now (files .entry)) (now (contents .entry))) (now (policy .entry)) who (now (path .entry)) ⌝ }
 {
-    walk_names(files, contents, policy, who, path, Intent::Create)
+    walk_names(files, contents, policy, rom, who, path, Intent::Create)
 }

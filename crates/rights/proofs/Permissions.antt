@@ -3,10 +3,16 @@
 --     grants, forbids   `Allowed => ..` and `Forbidden(r) => Decision::Refused(r, 0)`, against `allowed`
 --     goes, stops       `Allowed => ..` and `Forbidden(r) => Walk::Stopped(r, k)`, against `searched` once its directory is one
 use Prim.Native.Nat.{ℕ}
-use mathlib.Core.Path.{_≡_, refl}
-use mathlib.Core.Bool.{Bool, true, false}
-use Rattle.rules.specs.Walk.{needAt}
+use mathlib.Core.Path.{_≡_, refl, sym, ap, _∙_}
+use mathlib.Core.Bool.{Bool, true, false, cond}
+use Rattle.rules.specs.Choice.{every}
+use Rattle.rules.specs.Store.{Table, isSlot}
+use Rattle.rules.specs.Rights.{WRITE}
+use Rattle.rules.specs.Walk.{needAt, bitsAllow}
 use Rattle.rules.specs.Checks.{need}
+use Rattle.rules.specs.DecidePaths.{mayName}
+use Rattle.rules.specs.declared.ids.Slot.{Slot}
+use Rattle.rules.specs.declared.request.Subject.{Subject}
 use Rattle.rules.specs.declared.refusal.Refusal.{Refusal}
 use Rattle.rules.specs.declared.refusal.Refusal.the-variants.{BitsForbid, LabelForbids}
 use Rattle.rules.specs.declared.decision.Walk.{Walk}
@@ -55,5 +61,24 @@ module _ (b l : Bool) (p : Permission) (is : p ≡ byBoth b l) where
   pub stops : (r : Refusal) (w : Walk) (k : ℕ) → p ≡ Forbidden r → Stopped r k ≡ needAt b BitsForbid k (needAt l LabelForbids k w)
   unfolding ifAllowedAt
   stops r w k e = rw (searched-by, ← is, e)
+
+-- ---- a name of the file in s: that it is of the store is asked first, and is the bits' refusal
+
+module _ (file : Table) (who : Subject) (d s : Slot) (l r : Bool) (is : r ≡ isSlot s) where
+  pub names-stored : (p : Permission) → r ≡ true → p ≡ byBoth (bitsAllow file who d WRITE) l → p ≡ byBoth (mayName file who d s) l
+  unfolding mayName every
+  names-stored p e q = rw (sym is ∙ e) (q ∙ ap (λ (b : Bool). byBoth b l) (same (bitsAllow file who d WRITE)))
+    where
+      same : (b : Bool) → b ≡ cond b true false
+      same true = refl
+      same false = refl
+
+  pub names-other : r ≡ false → Forbidden BitsForbid ≡ byBoth (mayName file who d s) l
+  unfolding mayName every byBoth
+  names-other e = rw (sym is ∙ e) (by (bitsAllow file who d WRITE))
+    where
+      by : (b : Bool) → Forbidden BitsForbid ≡ byBoth (cond b false false) l
+      by true = refl
+      by false = refl
 
 pub ruleset asked = (grants, forbids, goes, stops, steps)

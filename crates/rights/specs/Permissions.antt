@@ -3,7 +3,9 @@ use Prim.Native.Nat.{ℕ}
 use mathlib.Core.Bool.{Bool, cond}
 use mathlib.Core.List.{List}
 use Rattle.rules.specs.Store.{Table}
+use Rattle.rules.specs.Rights.{WRITE}
 use Rattle.rules.specs.Walk.{bitsAllow, labelAllows}
+use Rattle.rules.specs.DecidePaths.{mayName}
 use Rattle.rules.specs.declared.ids.Slot.{Slot}
 use Rattle.rules.specs.declared.rights.Rights.{Rights}
 use Rattle.rules.specs.declared.request.Subject.{Subject}
@@ -18,3 +20,7 @@ byBoth bits label = cond bits (cond label Allowed (Forbidden LabelForbids)) (For
 -- the rights over slot s
 abbrev pub permitted : Table → List ℕ → Subject → Slot → Rights → Permission
 permitted file Q who s want = byBoth (bitsAllow file who s want) (labelAllows file Q who s want)
+
+-- write over directory d, of which the file in s gains or loses a name
+abbrev pub permittedToName : Table → List ℕ → Subject → (d s : Slot) → Permission
+permittedToName file Q who d s = byBoth (mayName file who d s) (labelAllows file Q who d WRITE)

@@ -1,16 +1,19 @@
 // When the bits and the labels grant a right.
 ghost use mathlib.Core.Path.{_≡_};
-ghost use Rattle.rules.specs.Layout.{FILE-WIDTH};
-ghost use Rattle.rules.specs.Store.{tab};
-ghost use Rattle.rules.specs.Rights.{stands, covers, rightsIn, bitsGrant, executable, bitsExecute, owns, labelGrants};
+ghost use Rattle.rules.specs.Choice.{implies};
+ghost use Rattle.rules.specs.Layout.{FILE-OWNER, FILE-GROUP, FILE-BITS};
+ghost use Rattle.rules.specs.Store.{isSlot, bitsAt};
+ghost use Rattle.rules.specs.Rights.{stands, covers, rightsIn, bitsGrant, asksWrite, executable, bitsExecute, owns, labelGrants};
+ghost use Rattle.rules.specs.Rom.{filesIn};
 ghost use Rattle.rules.specs.Walk.{bitsAllow, labelAllows};
 ghost use Rattle.rules.specs.DecidePaths.{bitsAllowExecute};
-ghost use Rattle.rights.specs.Permissions.{permitted};
+ghost use Rattle.rights.specs.Permissions.{permitted, permittedToName};
 use rules::ids::Slot;
 use rules::refusal::Refusal;
 use rules::request::Subject;
 use rules::rights::Bits;
 use rules::rights::Rights;
+use tables::ids::is_slot;
 
 // The answer to a subject that asks for rights over a slot.
 pub enum Permission {
@@ -111,36 +114,61 @@ fn label_grants(policy: &[u8], who: Subject, label: u32, want: Rights) -> bool
     covers_all(tables::policy::rights(policy, who.label, label), want)
 }
 
-// The bits of slot s grant the rights.
-pub fn bits_allow(files: &[u32], who: Subject, s: Slot, want: Rights) -> bool
-    ensures { λ r. ⌜ r ≡ bitsAllow (tab FILE-WIDTH (now (files .entry))) who s want ⌝ }
+fn file_grants(files: &[u32], who: Subject, s: Slot, want: Rights) -> bool
+    ensures { λ r. ⌜ r ≡ bitsGrant who (filesIn (now (files .entry)) (s .0) FILE-OWNER) (filesIn (now (files .entry)) (s .0) FILE-GROUP) (bitsAt (filesIn (now (files .entry)) (s .0) FILE-BITS)) want ⌝ }
 {
     bits_grant(
         who,
-        tables::files::owner(files, s),
-        tables::files::group(files, s),
-        tables::files::bits(files, s),
+        rom::seen::owner(files, s),
+        rom::seen::group(files, s),
+        rom::seen::bits(files, s),
         want,
     )
 }
 
+fn asks_write(want: Rights) -> bool
+    ensures { λ r. ⌜ r ≡ asksWrite want ⌝ }
+{
+    want.0 / 2 % 2 == 1
+}
+
+// What is written is of the store.
+fn written_is_stored(s: Slot, want: Rights) -> bool
+    ensures { λ r. ⌜ r ≡ implies (asksWrite want) (isSlot s) ⌝ }
+{
+    if asks_write(want) {
+        return is_slot(s);
+    }
+    true
+}
+
+// The bits of slot s grant the rights.
+pub fn bits_allow(files: &[u32], who: Subject, s: Slot, want: Rights) -> bool
+    ensures { λ r. ⌜ r ≡ bitsAllow (filesIn (now (files .entry))) who s want ⌝ }
+{
+    if !file_grants(files, who, s, want) {
+        return false;
+    }
+    written_is_stored(s, want)
+}
+
 // The bits of slot s let it be executed: by user 0 only if someone may.
 pub fn bits_allow_execute(files: &[u32], who: Subject, s: Slot) -> bool
-    ensures { λ r. ⌜ r ≡ bitsAllowExecute (tab FILE-WIDTH (now (files .entry))) who s ⌝ }
+    ensures { λ r. ⌜ r ≡ bitsAllowExecute (filesIn (now (files .entry))) who s ⌝ }
 {
     bits_execute(
         who,
-        tables::files::owner(files, s),
-        tables::files::group(files, s),
-        tables::files::bits(files, s),
+        rom::seen::owner(files, s),
+        rom::seen::group(files, s),
+        rom::seen::bits(files, s),
     )
 }
 
 // The label of slot s grants the rights.
 pub fn label_allows(files: &[u32], policy: &[u8], who: Subject, s: Slot, want: Rights) -> bool
-    ensures { λ r. ⌜ r ≡ labelAllows (tab FILE-WIDTH (now (files .entry))) (now (policy .entry)) who s want ⌝ }
+    ensures { λ r. ⌜ r ≡ labelAllows (filesIn (now (files .entry))) (now (policy .entry)) who s want ⌝ }
 {
-    label_grants(policy, who, tables::files::label(files, s), want)
+    label_grants(policy, who, rom::seen::label(files, s), want)
 }
 
 // Rights over slot s, asked of its bits (9) and then of its label (10): here alone, so that no call can leave one out or change the order.
@@ -151,7 +179,7 @@ pub fn permission_over(
     s: Slot,
     want: Rights,
 ) -> Permission
-    ensures { λ r. ⌜ r ≡ permitted (tab FILE-WIDTH (now (files .entry))) (now (policy .entry)) who s want ⌝ }
+    ensures { λ r. ⌜ r ≡ permitted (filesIn (now (files .entry))) (now (policy .entry)) who s want ⌝ }
 {
     if !bits_allow(files, who, s, want) {
         return Permission::Forbidden(Refusal::BitsForbid);
@@ -160,4 +188,20 @@ pub fn permission_over(
         return Permission::Forbidden(Refusal::LabelForbids);
     }
     Permission::Allowed
+}
+
+// Write over directory d, of which the file in s gains or loses a name: it is of the store, or bits forbid (9).
+pub fn permission_to_name(
+    files: &[u32],
+    policy: &[u8],
+    who: Subject,
+    d: Slot,
+    s: Slot,
+) -> Permission
+    ensures { λ r. ⌜ r ≡ permittedToName (filesIn (now (files .entry))) (now (policy .entry)) who d s ⌝ }
+{
+    if is_slot(s) {
+        return permission_over(files, policy, who, d, Rights::WRITE);
+    }
+    Permission::Forbidden(Refusal::BitsForbid)
 }

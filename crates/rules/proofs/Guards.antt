@@ -38,7 +38,7 @@ unlinks p path = call p 4 0 0 path
 abbrev changesBits : (process : ℕ) (path : List ℕ) (bits : ℕ) → Call
 changesBits p path bits = call p 8 0 bits path
 
-abbrev reads : (process fd : ℕ) → Call
+abbrev pub reads : (process fd : ℕ) → Call
 reads p i = call p 11 i 0 []
 
 abbrev executes : (process : ℕ) (path : List ℕ) → Call

@@ -2,11 +2,13 @@
 pub mod Choices
 pub mod Tests
 pub mod Scans
+pub mod Seen
 pub mod Lists
 pub mod Ranges
 pub mod Written
 pub mod Guards
 pub mod LinkGuards
+pub mod RomGuards
 pub mod Walks
 pub mod Passed
 pub mod Unused

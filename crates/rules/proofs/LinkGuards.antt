@@ -5,7 +5,7 @@ use mathlib.Core.Path.{_≡_, refl}
 use mathlib.Core.List.{List, [], _∷_, _++_}
 use lib.ListN.{take}
 use Rattle.rules.specs.Computing.{computing}
-use Rattle.rules.specs.Layout.{BLOCK, FILE-WIDTH, FILE-BITS, DIRENTS, PLAIN, DIRECTORY, SLASH}
+use Rattle.rules.specs.Layout.{BLOCK, FILE-WIDTH, FILE-BITS, ENTRIES, PLAIN, DIRECTORY, SLASH}
 use Rattle.rules.specs.Store.{Tree, tree, slot, entry, bitsAt, tab}
 use Rattle.rules.specs.Directories.{dirent}
 use Rattle.rules.specs.Walk.{walkPath, followPath}
@@ -111,10 +111,10 @@ depth-of-the-path = refl
 -- ---- "A directory that would lie over 8 names deep through links is refused with 15, before 13": a new name in the root, which is full, and in /d
 
 abbrev newAt : (dir depth : ℕ) → Location
-newAt d n = record { dir = slot d; dirent = entry DIRENTS; slot = slot 0; depth = n; follows = 8 }
+newAt d n = record { dir = slot d; dirent = entry ENTRIES; slot = slot 0; depth = n; follows = 8 }
 
 abbrev made : (kind : ℕ) → Location → Decision
-made kind at = createAt policy small who (newFile kind (bitsAt 7)) at
+made kind at = createAt policy (small .file) (small .shown) who (newFile kind (bitsAt 7)) at
 
 depth-not-asked : made DIRECTORY (newAt 11 9) ≡ Refused TooDeep 0
 unfolding computing

@@ -68,6 +68,14 @@ unfolding padded
 length-padded zero Y = refl
 length-padded (suc n) Y = rw (length-padded n (drop 1 Y))
 
+pub padded-at : (n : ℕ) (l : List ℕ) (k : ℕ) → k < n → getD (padded n l) k 0 ≡ getD l k 0
+unfolding padded
+padded-at zero l k h = absurd (not-suc-le-zero h)
+padded-at (suc n) l zero h = refl
+padded-at (suc n) l (suc k) h =
+    let e : 1 + k ≡ suc k = omega arith in
+    padded-at n (drop 1 l) k (omega arith) ∙ getD-drop 1 l k 0 ∙ ap (λ (j : ℕ). getD l j 0) e
+
 -- n padded bytes, and two more
 pub padded-two : (X Y : List ℕ) (at n a b : ℕ) → set (set (sets X at (padded n Y)) (at + n) a) (at + (n + 1)) b ≡ sets X at (padded n Y ++ (a ∷ b ∷ []))
 padded-two X Y at n a b = rw (sets-append, length-padded, add-one, add-suc)

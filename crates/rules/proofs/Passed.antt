@@ -1,22 +1,25 @@
 -- What a granted decision has passed: one case a call, each check that it has passed an equation. Theorems about all calls case on it.
 use Prim.Native.Nat.{ℕ, _+_, _-_, min}
-use mathlib.Core.Path.{_≡_, refl}
+use mathlib.Core.Path.{_≡_, refl, subst}
 use mathlib.Core.Bool.{Bool, true, false, cond}
 use mathlib.Core.List.{List, [], _∷_}
 use lib.Dec.{eqb, ltb, leb}
 use lib.ListN.{length}
 use Rattle.rules.specs.Choice.{every, some}
 use Rattle.rules.specs.Layout.{BLOCK, FILE-OWNER, FILE-LABEL, FILE-LENGTH, FILE-LINKS, PLAIN, DIRECTORY, OPEN-SLOT, OPEN-MODE, OPEN-OFFSET, OPEN-REFERENCES}
-use Rattle.rules.specs.Store.{Table, Tree, View, slot, isSlot, isPid, isFd, isOfd, isDirent, modeAt, subjectOf, recordOf, up, plus}
+use Rattle.rules.specs.Store.{Fixed, Table, Tree, View, slot, isSlot, isPid, isFd, isOfd, isDirent, isEntry, modeAt, subjectOf, zeros, up, plus}
 use Rattle.rules.specs.Rights.{READ, WRITE, EXECUTE, bitsOf, modeOf, modeRights, reads, writes, owns, moved}
 use Rattle.rules.specs.Directories.{freeDirent, direntRanked}
+use Rattle.rules.specs.Rom.{recordOf}
 use Rattle.rules.specs.Walk.{isDirectory, isPlain, isLink, bitsAllow, labelAllows, walkPath, followPath, walkNew}
-use Rattle.rules.specs.Calls.{Call, operation, wellFormed}
+use Rattle.rules.specs.Calls.{Call, operationOf, operation, formOk, wellFormed}
 use Rattle.rules.specs.Checks.{need, after, inUse, held, ofdHeld, isAbsent, freeSlot, freeOfd, freeFd, freePid, gains, loses, freed, unnaming, releasing}
-use Rattle.rules.specs.DecidePaths.{allowed, newOpen, truncated, opening, openRoom, openFile, openMode, decideOpen, newFile, newRecord, making, createRoom, depthOk, createAt, decideCreate, newLink, decideSymlink, unlinkAt, decideUnlink, removeAt, decideRemove}
-use Rattle.rules.specs.DecidePaths.{linkRoom, linkAt, linkTo, decideLink, listEntry, listAt, decideList, changeBitsAt, decideChangeBits, decideStat, bitsAllowExecute, executeAt, decideExecute, readLinkAt, decideReadLink}
-use Rattle.rules.specs.Decide.{decideClose, remaining, readOpen, decideRead, writeAt, placement, writeFile, writeSome, writeOpen, decideWrite, decideSeek, duplicateTo, decideDuplicate, forkTo, decideFork, decideOwn, decide}
+use Rattle.rules.specs.DecidePaths.{allowed, mayName, naming, newOpen, truncated, opening, openRoom, openFile, openMode, decideOpen, newFile, newRecord, making, createRoom, depthOk, createAt, decideCreate, newLink, decideSymlink, unlinkAt, decideUnlink, removeAt, decideRemove}
+use Rattle.rules.specs.DecidePaths.{linkRoom, linkAt, linkTo, decideLink, listEntry, listAt, decideList, mayChange, changeBitsAt, decideChangeBits, decideStat, bitsAllowExecute, executeAt, decideExecute, readLinkAt, decideReadLink}
+use Rattle.rules.specs.Decide.{decideClose, remaining, readOpen, decideRead, writeAt, placement, writeFile, writeSome, writeOpen, decideWrite, decideSeek, duplicateTo, decideDuplicate, forkTo, decideFork, decideOwn, decide, decideBorrow}
+use Rattle.rules.specs.Step.{readOf}
 use Rattle.rules.specs.declared.ids.Slot.{Slot}
+use Rattle.rules.specs.declared.ids.Pid.{Pid}
 use Rattle.rules.specs.declared.ids.Fd.{Fd}
 use Rattle.rules.specs.declared.ids.Ofd.{Ofd}
 use Rattle.rules.specs.declared.ids.Dirent.{Dirent}
@@ -43,6 +46,8 @@ use Rattle.rules.specs.declared.decision.Effect.{Effect}
 use Rattle.rules.specs.declared.decision.Effect.the-variants as effect
 use Rattle.rules.specs.declared.decision.Decision.{Decision}
 use Rattle.rules.specs.declared.decision.Decision.the-variants.{Refused, Granted}
+use Rattle.rules.proofs.Lists.{length-zeros}
+use Rattle.rules.proofs.Tests.{test}
 
 -- ---- G holds of the value, the output and the effect of a granted decision
 
@@ -81,7 +86,10 @@ module _ {G : ℕ → Output → Effect → Type 0} where
 
 -- ---- the checks, by what they are asked for
 
-module _ (Q : List ℕ) (v : View) (c : Call) where
+module _ (K : Fixed) (v : View) (c : Call) where
+  abbrev Q : List ℕ
+  Q = K .policy
+
   abbrev pub who : Subject
   who = subjectOf (v .proc) (c .process)
 
@@ -134,7 +142,7 @@ module _ (Q : List ℕ) (v : View) (c : Call) where
 
   -- how many bytes are read
   abbrev pub count : ℕ
-  count = min (length (c .buffer)) (remaining file (v .openFiles) ofd)
+  count = min (length (c .buffer)) (remaining (K .rom) file (v .openFiles) ofd)
 
   -- and of a link
   abbrev pub linkCount : Location → ℕ
@@ -159,19 +167,19 @@ module _ (Q : List ℕ) (v : View) (c : Call) where
         Passed op.Open (newest at m .fd .0) output.Nothing (effect.Truncated (newest at m) (truncated file (at .slot)))
     creates : (o : Operation) (kind : ℕ) (at : Location) (b : Bits) → Makes o kind → bitsOf (c .number) ≡ bitsNumber.Valid b → Naming (c .path) at → depthOk kind at ≡ true → isSlot (freeSlot file) ≡ true →
         Passed o (freeSlot file .0) output.Nothing (effect.Created (gains file (at .dir) (entryIn at)) (freeSlot file) (newRecord file who (newFile kind b) (at .dir) (freeSlot file)))
-    unlinks : (at : Location) → Walked at → some (isPlain file (at .slot) ∷ isLink file (at .slot) ∷ []) ≡ true → Allowed (at .dir) WRITE →
+    unlinks : (at : Location) → Walked at → some (isPlain file (at .slot) ∷ isLink file (at .slot) ∷ []) ≡ true → Allowed (at .dir) WRITE → isSlot (at .slot) ≡ true →
         Passed op.Unlink 0 output.Nothing (effect.Unlinked (loses file (at .dir) (at .dirent)) (unnaming file (v .openFiles) (at .slot)))
-    removes : (at : Location) → Walked at → isDirectory file (at .slot) ≡ true → Allowed (at .dir) WRITE → eqb (file (at .slot .0) FILE-LENGTH) 0 ≡ true →
+    removes : (at : Location) → Walked at → isDirectory file (at .slot) ≡ true → Allowed (at .dir) WRITE → isSlot (at .slot) ≡ true → eqb (file (at .slot .0) FILE-LENGTH) 0 ≡ true →
         Passed op.RemoveDirectory 0 output.Nothing (effect.Removed (loses file (at .dir) (at .dirent)) (at .slot) (freed file (at .slot)))
-    links : (old at : Location) → Walked old → isPlain file (old .slot) ≡ true → Naming (c .«data») at →
+    links : (old at : Location) → Walked old → isPlain file (old .slot) ≡ true → isSlot (old .slot) ≡ true → Naming (c .«data») at →
         Passed op.Link 0 output.Nothing (effect.Linked (gains file (at .dir) (entryIn at)) (old .slot) (up (file (old .slot .0) FILE-LINKS)))
-    lists : (at : Location) → Followed at → isDirectory file (at .slot) ≡ true → Allowed (at .slot) READ → isDirent (direntRanked (v .tree .shown (at .slot .0)) (c .number)) ≡ true →
-        Passed op.List 1 (output.Name (at .slot) (direntRanked (v .tree .shown (at .slot .0)) (c .number))) effect.Nothing
-    listsPast : (at : Location) → Followed at → isDirectory file (at .slot) ≡ true → Allowed (at .slot) READ → isDirent (direntRanked (v .tree .shown (at .slot .0)) (c .number)) ≡ false →
+    lists : (at : Location) → Followed at → isDirectory file (at .slot) ≡ true → Allowed (at .slot) READ → isEntry (direntRanked (v .tree .dirents (at .slot .0)) (c .number)) ≡ true →
+        Passed op.List 1 (output.Name (at .slot) (direntRanked (v .tree .dirents (at .slot .0)) (c .number))) effect.Nothing
+    listsPast : (at : Location) → Followed at → isDirectory file (at .slot) ≡ true → Allowed (at .slot) READ → isEntry (direntRanked (v .tree .dirents (at .slot .0)) (c .number)) ≡ false →
         Passed op.List 0 output.Nothing effect.Nothing
-    changesBits : (at : Location) (b : Bits) → bitsOf (c .number) ≡ bitsNumber.Valid b → Followed at → owns who (file (at .slot .0) FILE-OWNER) ≡ true → labelAllows file Q who (at .slot) WRITE ≡ true →
+    changesBits : (at : Location) (b : Bits) → bitsOf (c .number) ≡ bitsNumber.Valid b → Followed at → owns who (file (at .slot .0) FILE-OWNER) ≡ true → isSlot (at .slot) ≡ true → labelAllows file Q who (at .slot) WRITE ≡ true →
         Passed op.ChangeBits 0 output.Nothing (effect.BitsChanged (at .slot) b)
-    describes : (at : Location) → Walked at → Passed op.Stat 0 (output.Fields (recordOf file (at .slot))) effect.Nothing
+    describes : (at : Location) → Walked at → Passed op.Stat 0 (output.Fields (recordOf (K .rom) file (at .slot))) effect.Nothing
     closes : Holding → Passed op.Close 0 output.Nothing (effect.Closed (c .fd) (releasing file (v .openFiles) (v .desc) (c .process) (c .fd)))
     fetches : Holding → reads mode ≡ true →
         Passed op.Read count (output.Bytes (slot (v .openFiles (ofd .0) OPEN-SLOT)) (v .openFiles (ofd .0) OPEN-OFFSET) count) (effect.Moved ofd (plus (v .openFiles (ofd .0) OPEN-OFFSET) count))
@@ -206,6 +214,10 @@ module _ (Q : List ℕ) (v : View) (c : Call) where
   allowed-fit : {G : ℕ → Output → Effect → Type 0} (s : Slot) (want : Rights) (d : Decision) → (Allowed s want → Fit G d) → Fit G (allowed file Q who s want d)
   allowed-fit s want d f = need-fit (bitsAllow file who s want) _ _ (λ b. need-fit (labelAllows file Q who s want) _ _ (λ l. f (record { bits = b; label = l })))
 
+  naming-fit : {G : ℕ → Output → Effect → Type 0} (d s : Slot) (rest : Decision) → (Allowed d WRITE → isSlot s ≡ true → Fit G rest) → Fit G (naming file Q who d s rest)
+  unfolding mayName
+  naming-fit d s rest f = need-fit (mayName file who d s) _ _ (λ b. need-fit (labelAllows file Q who d WRITE) _ _ (λ l. f (record { bits = test 0 _ b; label = l }) (test 1 _ b)))
+
   open-fit : (at : Location) (m : OpenMode) (truncating : Bool) → Mode m (modeOf (c .number)) truncating → Followed at → Fit (Passed op.Open) (openFile Q file (v .openFiles) (v .desc) (c .process) who m truncating (at .slot))
   unfolding openFile openRoom opening
   open-fit at m truncating k w = need-fit _ _ _ (λ p. allowed-fit (at .slot) (modeRights m) _ (λ a. need-fit _ _ _ (λ i. need-fit _ _ _ (λ e.
@@ -234,8 +246,8 @@ module _ (Q : List ℕ) (v : View) (c : Call) where
 
   link-fit : Fit (Passed op.Link) (decideLink Q (v .tree) who (c .path) (c .«data»))
   unfolding decideLink linkTo linkAt linkRoom
-  link-fit = after-fit _ _ (λ old u. need-fit _ _ _ (λ p. after-fit _ _ (λ at w. need-fit _ _ _ (λ a. allowed-fit (at .dir) WRITE _ (λ r. need-fit _ _ _ (λ i.
-      granting _ _ _ (links old at u p (record { walked = w; absent = a; allows = r; dirent-free = i }))))))))
+  link-fit = after-fit _ _ (λ old u. need-fit _ _ _ (λ p. after-fit _ _ (λ at w. need-fit _ _ _ (λ a. naming-fit (at .dir) (old .slot) _ (λ r y. need-fit _ _ _ (λ i.
+      granting _ _ _ (links old at u p y (record { walked = w; absent = a; allows = r; dirent-free = i }))))))))
 
   list-fit : Fit (Passed op.List) (decideList Q (v .tree) who (c .number) (c .path))
   unfolding decideList listAt listEntry
@@ -243,21 +255,21 @@ module _ (Q : List ℕ) (v : View) (c : Call) where
       (λ i. granting _ _ _ (lists at w d a i)) (λ i. granting _ _ _ (listsPast at w d a i)))))
 
   bits-fit : (n : BitsNumber) → bitsOf (c .number) ≡ n → Fit (Passed op.ChangeBits) (decideChangeBits Q (v .tree) who n (c .path))
-  unfolding decideChangeBits changeBitsAt
+  unfolding decideChangeBits changeBitsAt mayChange
   bits-fit bitsNumber.OutOfRange e = refusing _ _
-  bits-fit (bitsNumber.Valid b) e = after-fit _ _ (λ at w. need-fit _ _ _ (λ o. need-fit _ _ _ (λ l. granting _ _ _ (changesBits at b e w o l))))
+  bits-fit (bitsNumber.Valid b) e = after-fit _ _ (λ at w. need-fit _ _ _ (λ o. need-fit _ _ _ (λ l. granting _ _ _ (changesBits at b e w (test 0 _ o) (test 1 _ o) l))))
 
   write-fit : Fit (Passed op.Write) (decideWrite file (v .openFiles) (v .desc) (c .process) (c .fd) (length (c .«data»)))
   unfolding decideWrite writeOpen writeSome writeFile
   write-fit = need-fit _ _ _ (λ h. need-fit _ _ _ (λ w. cond-fit _ _ _ (λ z. granting _ _ _ (storesNothing h w z)) (λ z. need-fit _ _ _ (λ l. granting _ _ _ (stores h w z l)))))
 
-  own-fit : (o : Operation) → Fit (Passed o) (decideOwn Q v c o)
+  own-fit : (o : Operation) → Fit (Passed o) (decideOwn K v c o)
   unfolding decideOwn decideOpen decideUnlink unlinkAt decideRemove removeAt decideStat decideClose decideRead readOpen decideSeek decideDuplicate duplicateTo forkTo decideExecute executeAt decideReadLink readLinkAt
   own-fit op.Open = after-fit _ _ (λ at w. mode-fit at w (modeOf (c .number)) refl)
   own-fit op.Create = create-fit plain (bitsOf (c .number)) refl
   own-fit op.MakeDirectory = create-fit directory (bitsOf (c .number)) refl
-  own-fit op.Unlink = after-fit _ _ (λ at w. need-fit _ _ _ (λ p. allowed-fit (at .dir) WRITE _ (λ a. granting _ _ _ (unlinks at w p a))))
-  own-fit op.RemoveDirectory = after-fit _ _ (λ at w. need-fit _ _ _ (λ d. allowed-fit (at .dir) WRITE _ (λ a. need-fit _ _ _ (λ z. granting _ _ _ (removes at w d a z)))))
+  own-fit op.Unlink = after-fit _ _ (λ at w. need-fit _ _ _ (λ p. naming-fit (at .dir) (at .slot) _ (λ a y. granting _ _ _ (unlinks at w p a y))))
+  own-fit op.RemoveDirectory = after-fit _ _ (λ at w. need-fit _ _ _ (λ d. naming-fit (at .dir) (at .slot) _ (λ a y. need-fit _ _ _ (λ z. granting _ _ _ (removes at w d a y z)))))
   own-fit op.Link = link-fit
   own-fit op.List = list-fit
   own-fit op.ChangeBits = bits-fit (bitsOf (c .number)) refl
@@ -274,6 +286,19 @@ module _ (Q : List ℕ) (v : View) (c : Call) where
   own-fit op.ReadLink = after-fit _ _ (λ at w. need-fit _ _ _ (λ l. granting _ _ _ (readsLink at w l)))
   own-fit op.Unknown = refusing _ _
 
-  pub permitted : Fit Permit (decide Q v c)
+  pub permitted : Fit Permit (decide K v c)
   unfolding decide
   permitted = need-fit _ _ _ (λ u. need-fit _ _ _ (λ f. fit-map (λ n o e p. record { used = u; formed = f; passed = p }) (own-fit (operation c))))
+
+-- ---- a borrowing read that is granted is a read that is, of at most 512 bytes
+
+module _ (K : Fixed) (v : View) (p : Pid) (i : Fd) (n : ℕ) where
+  pub record Borrowed (value : ℕ) (o : Output) (e : Effect) : Type 0 where
+    pub small : leb n BLOCK ≡ true
+    pub permit : Permit K v (readOf p i n) value o e
+
+  pub borrow-permitted : Fit Borrowed (decideBorrow K v p i n)
+  unfolding decideBorrow decideOwn operationOf formOk
+  borrow-permitted = need-fit _ _ _ (λ u. need-fit _ _ _ (λ s.
+      fit-map (λ value o e h. record { small = s; permit = record { used = u; formed = refl; passed = h } })
+      (subst (λ m. Fit (Passed K v (readOf p i n) op.Read) (decideRead (K .rom) (v .tree .file) (v .openFiles) (v .desc) p i m)) (length-zeros n) (own-fit K v (readOf p i n) op.Read))))

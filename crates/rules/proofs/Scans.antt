@@ -7,6 +7,8 @@ use Prim.Native.Nat.{ℕ, zero, suc, _+_, _-_, _≤_, _<_}
 use native.Mathlib.Nat.{eq-or-lt-of-le}
 use native.Mathlib.Numerals.{add-one}
 use native.Mathlib.Omega.{arith}
+use borrow.Author.Tests.{lt-ltb, le-ltb}
+use lib.Dec.{ltb}
 use Rattle.rules.specs.Scan.{turns, fold, all, any, count, total, first, iterate, repeat}
 
 pub fold-step : {A : Type 0} (f : ℕ → A → A) (i n : ℕ) (z : A) → i < n → fold f i n z ≡ f i (fold f (i + 1) n z)
@@ -199,3 +201,33 @@ all-same-from p q (suc k) i n e h = by (q i) refl (all-same-from p q k (i + 1) n
 -- two tests that agree on each number agree on all
 pub all-same : (p q : ℕ → Bool) (n : ℕ) → ((j : ℕ) → j < n → p j ≡ q j) → all p 0 n ≡ all q 0 n
 all-same p q n h = all-same-from p q (n - 0) 0 n refl h
+
+-- ---- a scan over one more
+
+-- what a scan over one more finds, where a scan has found m
+abbrev pub more : (ℕ → Bool) → (n m : ℕ) → ℕ
+more p n m = cond (ltb m n) m (cond (p n) n (n + 1))
+
+first-here : (p : ℕ → Bool) (n : ℕ) → first p n (n + 1) ≡ cond (p n) n (n + 1)
+first-here p n = by (p n) refl
+  where
+    by : (b : Bool) → p n ≡ b → first p n (n + 1) ≡ cond b n (n + 1)
+    by true e = sym (first-yes p n (n + 1) refl (omega arith) e refl)
+    by false e = sym (first-no p n (n + 1) refl (omega arith) e refl) ∙ sym (first-done p (n + 1) (n + 1) refl (omega arith))
+
+first-more-from : (p : ℕ → Bool) (k i n : ℕ) → n - i ≡ k → i ≤ n → first p i (n + 1) ≡ more p n (first p i n)
+first-more-from p zero i n e h =
+    let q : i ≡ n = omega arith in
+    let d : n ≡ first p i n = first-done p i n refl (omega arith) in
+    rw (← d, le-ltb n n (omega arith), q) (first-here p n)
+first-more-from p (suc k) i n e h = by (p i) refl (first-more-from p k (i + 1) n (omega arith) (omega arith))
+  where
+    inside : i < n
+    inside = omega arith
+
+    by : (b : Bool) → p i ≡ b → first p (i + 1) (n + 1) ≡ more p n (first p (i + 1) n) → first p i (n + 1) ≡ more p n (first p i n)
+    by true q rest = rw (← first-yes p i n refl inside q refl, lt-ltb i n inside) (sym (first-yes p i (n + 1) refl (omega (arith, inside)) q refl))
+    by false q rest = rw (← first-no p i n refl inside q refl, ← first-no p i (n + 1) refl (omega (arith, inside)) q refl) rest
+
+pub first-more : (p : ℕ → Bool) (n : ℕ) → first p 0 (n + 1) ≡ more p n (first p 0 n)
+first-more p n = first-more-from p (n - 0) 0 n refl (omega arith)

@@ -6,8 +6,8 @@ use mathlib.Core.List.{List, [], _∷_}
 use lib.Dec.{eqb, ltb}
 use Rattle.rules.specs.Choice.{every}
 use Rattle.rules.specs.Scan.{first}
-use Rattle.rules.specs.Layout.{SLOTS, OPEN-FILES, PROCESSES, DESCRIPTORS, FILE-KIND, FILE-LENGTH, FILE-LINKS, FILE-VERSION, FREE, OPEN-SLOT, OPEN-REFERENCES, PROCESS-USED, DIRENTS}
-use Rattle.rules.specs.Store.{Table, slot, pidOf, isPid, fdOf, ofdOf, isDirent, bitsAt, openBut, isOpen, up}
+use Rattle.rules.specs.Layout.{SLOTS, OPEN-FILES, PROCESSES, DESCRIPTORS, FILE-KIND, FILE-LENGTH, FILE-LINKS, FILE-VERSION, FREE, OPEN-SLOT, OPEN-REFERENCES, PROCESS-USED}
+use Rattle.rules.specs.Store.{Table, slot, isSlot, pidOf, isPid, fdOf, ofdOf, isEntry, bitsAt, openBut, isOpen, up}
 use Rattle.rules.specs.declared.ids.Slot.{Slot}
 use Rattle.rules.specs.declared.ids.Pid.{Pid}
 use Rattle.rules.specs.declared.ids.Fd.{Fd}
@@ -59,7 +59,7 @@ ofdHeld desc p i = ofdOf (desc (p .0) (i .0) - 1)
 
 -- the entry of a new name is past the entries of its parent: the name is missing
 abbrev pub isAbsent : Location → Bool
-isAbsent at = not (isDirent (at .dirent))
+isAbsent at = not (isEntry (at .dirent))
 
 -- ---- "always the lowest free"; the number past the last where none is
 
@@ -107,10 +107,10 @@ unnaming file openFiles s =
     cond (every (eqb (file (s .0) FILE-LINKS - 1) 0 ∷ not (isOpen openFiles s) ∷ [])) (unnamed.Freed s (freed file s))
     (unnamed.Kept s (file (s .0) FILE-LINKS - 1))
 
--- open file e on slot s goes: the file goes with it if it has no name and no other open file
+-- open file e on slot s goes: the file goes with it if it is of the store and has no name and no other open file
 unfoldable pub closing : (file openFiles : Table) → Ofd → Slot → Release
 closing file openFiles e s =
-    cond (every (eqb (file (s .0) FILE-LINKS) 0 ∷ not (openBut openFiles e s) ∷ [])) (release.Freed e s (freed file s))
+    cond (every (isSlot s ∷ eqb (file (s .0) FILE-LINKS) 0 ∷ not (openBut openFiles e s) ∷ [])) (release.Freed e s (freed file s))
     (release.Gone e)
 
 -- open file e loses a reference

@@ -53,5 +53,6 @@ console = consoleWith (1 ∷ 2 ∷ 3 ∷ 4 ∷ [])
 unfoldable pub consolePolicy : List ℕ
 consolePolicy = filled RIGHTS-SIZE (filled LABELS (7 ∷ []) ++ filled LABELS (7 ∷ 0 ∷ 0 ∷ 2 ∷ []) ++ filled LABELS (5 ∷ [])) ++ replicate RIGHTS-SIZE NO-TRANSITION
 
+-- the factory part is empty
 abbrev pub consoleFixed : Fixed
-consoleFixed = fixed consolePolicy
+consoleFixed = fixed consolePolicy []

@@ -5,7 +5,8 @@ use mathlib.Core.List.{List, [], _∷_}
 use lib.Dec.{eqb, ltb, leb}
 use lib.ListN.{length}
 use Rattle.rules.specs.Layout.{BLOCK, DESCRIPTORS, PROCESSES, PLAIN, DIRECTORY, FILE-LENGTH, FILE-VERSION, OPEN-SLOT, OPEN-MODE, OPEN-OFFSET, OPEN-REFERENCES, PROCESS-USER, PROCESS-LABEL}
-use Rattle.rules.specs.Store.{Table, View, slot, isPid, isFd, modeAt, subjectOf, up, plus}
+use Rattle.rules.specs.Store.{Fixed, Table, View, slot, isPid, isFd, modeAt, subjectOf, up, plus}
+use Rattle.rules.specs.Rom.{lengthIn}
 use Rattle.rules.specs.Rights.{bitsOf, reads, writes, appends}
 use Rattle.rules.specs.Calls.{Call, operation, wellFormed}
 use Rattle.rules.specs.Checks.{need, granted, inUse, held, ofdHeld, freeFd, freePid, releasing}
@@ -36,17 +37,17 @@ decideClose file openFiles desc p i = need (held desc p i) NotHeld (closed file 
 -- ---- 11. Read (4, 5): "as many bytes as it holds and the file has from the position; the position moves by that count"
 
 -- what the file of open file e has from its offset on
-abbrev pub remaining : (file openFiles : Table) → Ofd → ℕ
-remaining file openFiles e = file (openFiles (e .0) OPEN-SLOT) FILE-LENGTH - openFiles (e .0) OPEN-OFFSET
+abbrev pub remaining : List ℕ → (file openFiles : Table) → Ofd → ℕ
+remaining R file openFiles e = lengthIn R file (slot (openFiles (e .0) OPEN-SLOT)) - openFiles (e .0) OPEN-OFFSET
 
 abbrev pub fetching : Table → Ofd → ℕ → Decision
 fetching openFiles e n = Granted n (output.Bytes (slot (openFiles (e .0) OPEN-SLOT)) (openFiles (e .0) OPEN-OFFSET) n) (effect.Moved e (plus (openFiles (e .0) OPEN-OFFSET) n))
 
-unfoldable pub readOpen : (file openFiles : Table) → Ofd → (size : ℕ) → Decision
-readOpen file openFiles e size = need (reads (modeAt (openFiles (e .0) OPEN-MODE))) WrongDirection (fetching openFiles e (min size (remaining file openFiles e)))
+unfoldable pub readOpen : List ℕ → (file openFiles : Table) → Ofd → (size : ℕ) → Decision
+readOpen R file openFiles e size = need (reads (modeAt (openFiles (e .0) OPEN-MODE))) WrongDirection (fetching openFiles e (min size (remaining R file openFiles e)))
 
-unfoldable pub decideRead : (file openFiles desc : Table) → Pid → Fd → (size : ℕ) → Decision
-decideRead file openFiles desc p i size = need (held desc p i) NotHeld (readOpen file openFiles (ofdHeld desc p i) size)
+unfoldable pub decideRead : List ℕ → (file openFiles desc : Table) → Pid → Fd → (size : ℕ) → Decision
+decideRead R file openFiles desc p i size = need (held desc p i) NotHeld (readOpen R file openFiles (ofdHeld desc p i) size)
 
 -- ---- 12. Write (4, 5, 14): "all or nothing, at the position, or at the length for append; a gap is filled with 0. Position moves to the end
 -- of what was written; value is the count. Zero bytes change nothing"
@@ -115,28 +116,33 @@ abbrev pub asker : View → Call → Subject
 asker v c = subjectOf (v .proc) (c .process)
 
 -- the call's own checks. 16. Exit: "closes all, frees the process"
-unfoldable pub decideOwn : List ℕ → View → Call → Operation → Decision
-decideOwn Q v c op.Open = decideOpen Q (v .tree) (v .openFiles) (v .desc) (c .process) (asker v c) (c .number) (c .path)
-decideOwn Q v c op.Create = decideCreate Q (v .tree) (asker v c) PLAIN (bitsOf (c .number)) (c .path)
-decideOwn Q v c op.MakeDirectory = decideCreate Q (v .tree) (asker v c) DIRECTORY (bitsOf (c .number)) (c .path)
-decideOwn Q v c op.Unlink = decideUnlink Q (v .tree) (v .openFiles) (asker v c) (c .path)
-decideOwn Q v c op.RemoveDirectory = decideRemove Q (v .tree) (asker v c) (c .path)
-decideOwn Q v c op.Link = decideLink Q (v .tree) (asker v c) (c .path) (c .«data»)
-decideOwn Q v c op.List = decideList Q (v .tree) (asker v c) (c .number) (c .path)
-decideOwn Q v c op.ChangeBits = decideChangeBits Q (v .tree) (asker v c) (bitsOf (c .number)) (c .path)
-decideOwn Q v c op.Stat = decideStat Q (v .tree) (asker v c) (c .path)
-decideOwn Q v c op.Close = decideClose (v .tree .file) (v .openFiles) (v .desc) (c .process) (c .fd)
-decideOwn Q v c op.Read = decideRead (v .tree .file) (v .openFiles) (v .desc) (c .process) (c .fd) (length (c .buffer))
-decideOwn Q v c op.Write = decideWrite (v .tree .file) (v .openFiles) (v .desc) (c .process) (c .fd) (length (c .«data»))
-decideOwn Q v c op.Seek = decideSeek (v .desc) (c .process) (c .fd) (c .number)
-decideOwn Q v c op.Duplicate = decideDuplicate (v .openFiles) (v .desc) (c .process) (c .fd)
-decideOwn Q v c op.Fork = decideFork (v .proc) (c .process)
-decideOwn Q v c op.Exit = granted 0 effect.Exited
-decideOwn Q v c op.Execute = decideExecute Q (v .tree) (asker v c) (c .path)
-decideOwn Q v c op.Symlink = decideSymlink Q (v .tree) (asker v c) (length (c .«data»)) (c .path)
-decideOwn Q v c op.ReadLink = decideReadLink Q (v .tree) (asker v c) (length (c .buffer)) (c .path)
-decideOwn Q v c op.Unknown = Refused Malformed 0
+unfoldable pub decideOwn : Fixed → View → Call → Operation → Decision
+decideOwn K v c op.Open = decideOpen (K .policy) (v .tree) (v .openFiles) (v .desc) (c .process) (asker v c) (c .number) (c .path)
+decideOwn K v c op.Create = decideCreate (K .policy) (v .tree) (asker v c) PLAIN (bitsOf (c .number)) (c .path)
+decideOwn K v c op.MakeDirectory = decideCreate (K .policy) (v .tree) (asker v c) DIRECTORY (bitsOf (c .number)) (c .path)
+decideOwn K v c op.Unlink = decideUnlink (K .policy) (v .tree) (v .openFiles) (asker v c) (c .path)
+decideOwn K v c op.RemoveDirectory = decideRemove (K .policy) (v .tree) (asker v c) (c .path)
+decideOwn K v c op.Link = decideLink (K .policy) (v .tree) (asker v c) (c .path) (c .«data»)
+decideOwn K v c op.List = decideList (K .policy) (v .tree) (asker v c) (c .number) (c .path)
+decideOwn K v c op.ChangeBits = decideChangeBits (K .policy) (v .tree) (asker v c) (bitsOf (c .number)) (c .path)
+decideOwn K v c op.Stat = decideStat (K .policy) (K .rom) (v .tree) (asker v c) (c .path)
+decideOwn K v c op.Close = decideClose (v .tree .file) (v .openFiles) (v .desc) (c .process) (c .fd)
+decideOwn K v c op.Read = decideRead (K .rom) (v .tree .file) (v .openFiles) (v .desc) (c .process) (c .fd) (length (c .buffer))
+decideOwn K v c op.Write = decideWrite (v .tree .file) (v .openFiles) (v .desc) (c .process) (c .fd) (length (c .«data»))
+decideOwn K v c op.Seek = decideSeek (v .desc) (c .process) (c .fd) (c .number)
+decideOwn K v c op.Duplicate = decideDuplicate (v .openFiles) (v .desc) (c .process) (c .fd)
+decideOwn K v c op.Fork = decideFork (v .proc) (c .process)
+decideOwn K v c op.Exit = granted 0 effect.Exited
+decideOwn K v c op.Execute = decideExecute (K .policy) (v .tree) (asker v c) (c .path)
+decideOwn K v c op.Symlink = decideSymlink (K .policy) (v .tree) (asker v c) (length (c .«data»)) (c .path)
+decideOwn K v c op.ReadLink = decideReadLink (K .policy) (v .tree) (asker v c) (length (c .buffer)) (c .path)
+decideOwn K v c op.Unknown = Refused Malformed 0
 
 -- "Order: 1, 2, 3, then as each call lists"
-unfoldable pub decide : List ℕ → View → Call → Decision
-decide Q v c = need (inUse (v .proc) (c .process)) NoProcess (need (wellFormed c) Malformed (decideOwn Q v c (operation c)))
+unfoldable pub decide : Fixed → View → Call → Decision
+decide K v c = need (inUse (v .proc) (c .process)) NoProcess (need (wellFormed c) Malformed (decideOwn K v c (operation c)))
+
+-- ---- the borrowing read (paper 02, R-6): "up to a given count (over 512 is 3); checks, value and position are as in read"
+
+unfoldable pub decideBorrow : Fixed → View → Pid → Fd → (n : ℕ) → Decision
+decideBorrow K v p i n = need (inUse (v .proc) p) NoProcess (need (leb n BLOCK) Malformed (decideRead (K .rom) (v .tree .file) (v .openFiles) (v .desc) p i n))

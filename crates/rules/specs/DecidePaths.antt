@@ -5,9 +5,10 @@ use mathlib.Core.List.{List, [], _∷_}
 use lib.Dec.{eqb, ltb, leb}
 use Rattle.rules.specs.Choice.{every, some, implies}
 use Rattle.rules.specs.Layout.{SLOTS, OPEN-FILES, DESCRIPTORS, DIRENTS, FILE-OWNER, FILE-GROUP, FILE-BITS, FILE-LABEL, FILE-LENGTH, FILE-LINKS, FILE-VERSION, PLAIN, DIRECTORY, LINK, NAMES}
-use Rattle.rules.specs.Store.{Table, Tree, slot, isSlot, isFd, isOfd, isDirent, bitsAt, recordOf, up}
+use Rattle.rules.specs.Store.{Table, Tree, slot, isSlot, isFd, isOfd, isDirent, isEntry, bitsAt, up}
 use Rattle.rules.specs.Rights.{READ, WRITE, EXECUTE, bitsExecute, owns, moved, modeOf, modeRights}
 use Rattle.rules.specs.Directories.{freeDirent, direntRanked}
+use Rattle.rules.specs.Rom.{recordOf}
 use Rattle.rules.specs.Walk.{isDirectory, isPlain, isLink, bitsAllow, labelAllows, walkPath, followPath, walkNew}
 use Rattle.rules.specs.Checks.{need, granted, after, isAbsent, freeSlot, freeOfd, freeFd, gains, loses, freed, unnaming}
 use Rattle.rules.specs.declared.ids.Slot.{Slot}
@@ -40,6 +41,15 @@ abbrev pub allowed : Table → List ℕ → Subject → Slot → Rights → Deci
 allowed file Q who s want d =
     need (bitsAllow file who s want) BitsForbid
     (need (labelAllows file Q who s want) LabelForbids d)
+
+-- the same where directory d gains or loses a name of the file in s, which is then of the store: "link included"
+unfoldable pub mayName : Table → Subject → (d s : Slot) → Bool
+mayName file who d s = every (bitsAllow file who d WRITE ∷ isSlot s ∷ [])
+
+abbrev pub naming : Table → List ℕ → Subject → (d s : Slot) → Decision → Decision
+naming file Q who d s rest =
+    need (mayName file who d s) BitsForbid
+    (need (labelAllows file Q who d WRITE) LabelForbids rest)
 
 -- ---- 1. Open: "Walk; plain file (8); rights (9, 10); free descriptor and entry (13). Cutting comes last"
 
@@ -109,15 +119,15 @@ abbrev pub depthOk : (kind : ℕ) → Location → Bool
 depthOk kind at = implies (eqb kind DIRECTORY) (leb (at .depth) NAMES)
 
 -- at the new name's entry in its parent
-unfoldable pub createAt : List ℕ → Tree → Subject → NewFile → Location → Decision
-createAt Q t who new at =
+unfoldable pub createAt : List ℕ → Table → (shown : ℕ → List ℕ) → Subject → NewFile → Location → Decision
+createAt Q file shown who new at =
     need (isAbsent at) NameThere
-    (allowed (t .file) Q who (at .dir) WRITE
+    (allowed file Q who (at .dir) WRITE
     (need (depthOk (new .kind) at) TooDeep
-    (createRoom (t .file) who new (at .dir) (freeSlot (t .file)) (freeDirent (t .shown (at .dir .0))))))
+    (createRoom file who new (at .dir) (freeSlot file) (freeDirent (shown (at .dir .0))))))
 
 abbrev pub createNew : List ℕ → Tree → Subject → NewFile → List ℕ → Decision
-createNew Q t who new path = after (walkNew t Q who path) (createAt Q t who new)
+createNew Q t who new path = after (walkNew t Q who path) (createAt Q (t .file) (t .shown) who new)
 
 unfoldable pub decideCreate : List ℕ → Tree → Subject → (kind : ℕ) → BitsNumber → List ℕ → Decision
 decideCreate Q t who kind bitsNumber.OutOfRange path = Refused Malformed 0
@@ -140,7 +150,7 @@ unlinked file openFiles at = granted 0 (effect.Unlinked (loses file (at .dir) (a
 unfoldable pub unlinkAt : List ℕ → (file openFiles : Table) → Subject → Location → Decision
 unlinkAt Q file openFiles who at =
     need (some (isPlain file (at .slot) ∷ isLink file (at .slot) ∷ [])) WrongKind
-    (allowed file Q who (at .dir) WRITE
+    (naming file Q who (at .dir) (at .slot)
     (unlinked file openFiles at))
 
 unfoldable pub decideUnlink : List ℕ → Tree → (openFiles : Table) → Subject → List ℕ → Decision
@@ -157,7 +167,7 @@ removeEmpty file at = need (eqb (file (at .slot .0) FILE-LENGTH) 0) NotEmpty (re
 unfoldable pub removeAt : List ℕ → Table → Subject → Location → Decision
 removeAt Q file who at =
     need (isDirectory file (at .slot)) WrongKind
-    (allowed file Q who (at .dir) WRITE
+    (naming file Q who (at .dir) (at .slot)
     (removeEmpty file at))
 
 unfoldable pub decideRemove : List ℕ → Tree → Subject → List ℕ → Decision
@@ -171,14 +181,14 @@ linked file old d i = granted 0 (effect.Linked (gains file d i) old (up (file (o
 unfoldable pub linkRoom : Table → (old d : Slot) → Dirent → Decision
 linkRoom file old d i = need (isDirent i) TableFull (linked file old d i)
 
-unfoldable pub linkAt : List ℕ → Tree → Subject → (old : Slot) → Location → Decision
-linkAt Q t who old at =
+unfoldable pub linkAt : List ℕ → Table → (shown : ℕ → List ℕ) → Subject → (old : Slot) → Location → Decision
+linkAt Q file shown who old at =
     need (isAbsent at) NameThere
-    (allowed (t .file) Q who (at .dir) WRITE
-    (linkRoom (t .file) old (at .dir) (freeDirent (t .shown (at .dir .0)))))
+    (naming file Q who (at .dir) old
+    (linkRoom file old (at .dir) (freeDirent (shown (at .dir .0)))))
 
 abbrev pub linkNew : List ℕ → Tree → Subject → List ℕ → Slot → Decision
-linkNew Q t who new old = after (walkNew t Q who new) (linkAt Q t who old)
+linkNew Q t who new old = after (walkNew t Q who new) (linkAt Q (t .file) (t .shown) who old)
 
 unfoldable pub linkTo : List ℕ → Tree → Subject → List ℕ → Slot → Decision
 linkTo Q t who new old = need (isPlain (t .file) old) WrongKind (linkNew Q t who new old)
@@ -189,22 +199,26 @@ decideLink Q t who old new = after (walkPath t Q who old) (λ at. linkTo Q t who
 -- ---- 7. List: "walk; directory (8); read (9, 10). The k-th name in byte order, from 0, with value 1, or value 0 past the end"
 
 unfoldable pub listEntry : Slot → Dirent → Decision
-listEntry d i = cond (isDirent i) (Granted 1 (output.Name d i) effect.Nothing) (granted 0 effect.Nothing)
+listEntry d i = cond (isEntry i) (Granted 1 (output.Name d i) effect.Nothing) (granted 0 effect.Nothing)
 
 unfoldable pub listAt : List ℕ → Tree → Subject → ℕ → Slot → Decision
 listAt Q t who k d =
     need (isDirectory (t .file) d) WrongKind
     (allowed (t .file) Q who d READ
-    (listEntry d (direntRanked (t .shown (d .0)) k)))
+    (listEntry d (direntRanked (t .dirents (d .0)) k)))
 
 unfoldable pub decideList : List ℕ → Tree → Subject → ℕ → List ℕ → Decision
 decideList Q t who k path = after (followPath t Q who path) (λ at. listAt Q t who k (at .slot))
 
 -- ---- 8. Change bits: "walk; owner or user 0 (9); label write (10)"
 
+-- and of the store
+unfoldable pub mayChange : Table → Subject → Slot → Bool
+mayChange file who s = every (owns who (file (s .0) FILE-OWNER) ∷ isSlot s ∷ [])
+
 unfoldable pub changeBitsAt : List ℕ → Table → Subject → Bits → Slot → Decision
 changeBitsAt Q file who bits s =
-    need (owns who (file (s .0) FILE-OWNER)) BitsForbid
+    need (mayChange file who s) BitsForbid
     (need (labelAllows file Q who s WRITE) LabelForbids
     (granted 0 (effect.BitsChanged s bits)))
 
@@ -214,11 +228,11 @@ decideChangeBits Q t who (bitsNumber.Valid bits) path = after (followPath t Q wh
 
 -- ---- 9. Stat: "walk. Kind, owner, bits, label, length, names, stamp"
 
-abbrev pub described : Table → Slot → Decision
-described file s = Granted 0 (output.Fields (recordOf file s)) effect.Nothing
+abbrev pub described : List ℕ → Table → Slot → Decision
+described R file s = Granted 0 (output.Fields (recordOf R file s)) effect.Nothing
 
-unfoldable pub decideStat : List ℕ → Tree → Subject → List ℕ → Decision
-decideStat Q t who path = after (walkPath t Q who path) (λ at. described (t .file) (at .slot))
+unfoldable pub decideStat : (Q R : List ℕ) → Tree → Subject → List ℕ → Decision
+decideStat Q R t who path = after (walkPath t Q who path) (λ at. described R (t .file) (at .slot))
 
 -- ---- 17. Execute: "walk; plain (8); execute (9, 10). The label moves by the transition, if any"
 

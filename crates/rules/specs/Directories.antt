@@ -1,5 +1,5 @@
 -- "Directories": 16 entries (the paper's places) of 16 bytes: the name padded to 14 with 0, the slot, then 0.
--- D is what the view shows of a directory: its bytes.
+-- D is what is seen of a directory: its entries. The root is seen with one more.
 use Prim.Native.Nat.{ℕ, zero, suc, _*_, _%_}
 use mathlib.Core.Bool.{Bool, true, false, cond, not}
 use mathlib.Core.List.{List, [], _∷_, _++_}
@@ -7,7 +7,7 @@ use lib.Dec.{eqb, ltb}
 use lib.ListN.{getD, take, drop}
 use Rattle.rules.specs.Choice.{every}
 use Rattle.rules.specs.Scan.{count, first}
-use Rattle.rules.specs.Layout.{NAME, DIRENT-WIDTH, DIRENTS}
+use Rattle.rules.specs.Layout.{NAME, DIRENT-WIDTH, DIRENTS, ENTRIES}
 use Rattle.rules.specs.Store.{entry}
 use Rattle.rules.specs.Paths.{Name, sameName}
 use Rattle.rules.specs.declared.ids.Slot.{Slot}
@@ -27,9 +27,9 @@ isEmpty D i = eqb (direntSlot D i) 0
 unfoldable pub hasName : List ℕ → Name → ℕ → Bool
 hasName D name i = sameName (direntAt D i) name
 
--- the entry that has the name, 16 where none has
+-- the entry that has the name, 17 where none has
 abbrev pub direntOf : List ℕ → Name → Dirent
-direntOf D name = entry (first (hasName D name) 0 DIRENTS)
+direntOf D name = entry (first (hasName D name) 0 ENTRIES)
 
 -- the lowest free entry, 16 where there is none
 abbrev pub freeDirent : List ℕ → Dirent
@@ -54,11 +54,11 @@ isBefore D i j = every (not (isEmpty D j) ∷ precedes (direntAt D j) (direntAt 
 
 -- entry i has the k-th name
 unfoldable pub isRanked : List ℕ → ℕ → ℕ → Bool
-isRanked D k i = every (not (isEmpty D i) ∷ eqb (count (isBefore D i) 0 DIRENTS) k ∷ [])
+isRanked D k i = every (not (isEmpty D i) ∷ eqb (count (isBefore D i) 0 ENTRIES) k ∷ [])
 
--- the entry of the k-th name, 16 where there are not so many
+-- the entry of the k-th name, 17 where there are not so many
 abbrev pub direntRanked : List ℕ → ℕ → Dirent
-direntRanked D k = entry (first (isRanked D k) 0 DIRENTS)
+direntRanked D k = entry (first (isRanked D k) 0 ENTRIES)
 
 unfoldable pub isPadding : Name → ℕ → Bool
 isPadding n k = eqb (getD n k 0) 0

@@ -4,7 +4,7 @@ use Prim.Native.Nat.{ℕ, _+_, _*_}
 use mathlib.Core.List.{List, [], _∷_, _++_}
 use Rattle.rules.specs.Scan.{repeat}
 use Rattle.rules.specs.Layout.{DIRENT-WIDTH, DESCRIPTORS, FILE-BITS, FILE-LENGTH, FILE-LINKS, FILE-VERSION, OPEN-OFFSET, OPEN-REFERENCES, PROCESS-LABEL}
-use Rattle.rules.specs.Store.{Store, View, view, fdOf, up, zeros, Change, fileWord, fileTo, clearTo, bytesTo, openWord, openTo, openZero, descTo, procWord, procTo, procZero, applyAll}
+use Rattle.rules.specs.Store.{Store, View, view, words, fdOf, up, zeros, Change, fileWord, fileTo, clearTo, bytesTo, openWord, openTo, openZero, descTo, procWord, procTo, procZero, applyAll}
 use Rattle.rules.specs.Paths.{Name, names, lastName}
 use Rattle.rules.specs.Directories.{dirent}
 use Rattle.rules.specs.Calls.{Call}
@@ -26,9 +26,6 @@ use Rattle.rules.specs.declared.decision.Share.{Share}
 use Rattle.rules.specs.declared.decision.Share.the-variants as share
 use Rattle.rules.specs.declared.decision.Effect.{Effect}
 use Rattle.rules.specs.declared.decision.Effect.the-variants as effect
-
-abbrev pub words : Record → List ℕ
-words r = r .kind ∷ r .owner ∷ r .group ∷ r .bits .0 ∷ r .label ∷ r .length ∷ r .links ∷ r .version ∷ []
 
 -- ---- names
 

@@ -17,6 +17,17 @@ DIRENTS = 16
 abbrev pub DIRENT-WIDTH : ℕ
 DIRENT-WIDTH = 16
 
+-- the entries that lookups and lists go through: in the root one more, that of /rom; in every other directory the bytes there are 0
+abbrev pub ENTRIES : ℕ
+ENTRIES = DIRENTS + 1
+
+-- prompts of the factory part, which have the numbers from SLOTS on; and the number of their directory, /rom
+abbrev pub PROMPTS : ℕ
+PROMPTS = 16
+
+abbrev pub ROM : ℕ
+ROM = SLOTS + PROMPTS
+
 -- open files (the paper's open entries)
 abbrev pub OPEN-FILES : ℕ
 OPEN-FILES = 32

@@ -7,6 +7,7 @@ pub mod Rights
 pub mod Store
 pub mod Paths
 pub mod Directories
+pub mod Rom
 pub mod Walk
 pub mod Sound
 pub mod Calls

@@ -122,6 +122,10 @@ rightsIn who owner group b = cond (eqb (who .user) owner) (record { 0 = b .0 / 6
 unfoldable pub bitsGrant : Subject → (owner group : ℕ) → Bits → Rights → Bool
 bitsGrant who owner group b want = some (eqb (who .user) 0 ∷ covers (rightsIn who owner group b) want ∷ [])
 
+-- write is among the rights asked
+unfoldable pub asksWrite : Rights → Bool
+asksWrite want = eqb (want .0 / 2 % 2) 1
+
 -- one of the three execute bits is set
 unfoldable pub executable : Bits → Bool
 executable b = some (stands (b .0 / 64) (EXECUTE .0) ∷ stands (b .0 / 8) (EXECUTE .0) ∷ stands (b .0) (EXECUTE .0) ∷ [])

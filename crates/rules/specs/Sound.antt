@@ -6,13 +6,14 @@ use lib.Dec.{eqb, ltb, leb}
 use lib.ListN.{length, getD, drop}
 use Rattle.rules.specs.Choice.{every, some, implies}
 use Rattle.rules.specs.Scan.{all, any, count, total, first}
-use Rattle.rules.specs.Layout.{SLOTS, BLOCK, DIRENT-WIDTH, DIRENTS, NAME, NAMES, OPEN-FILES, PROCESSES, DESCRIPTORS, FILE-WIDTH, OPEN-FILE-WIDTH, PROCESS-WIDTH, RIGHTS-SIZE, NO-TRANSITION, SLASH}
+use Rattle.rules.specs.Layout.{SLOTS, BLOCK, DIRENT-WIDTH, DIRENTS, PROMPTS, NAME, NAMES, OPEN-FILES, PROCESSES, DESCRIPTORS, FILE-WIDTH, OPEN-FILE-WIDTH, PROCESS-WIDTH, RIGHTS-SIZE, NO-TRANSITION, SLASH}
 use Rattle.rules.specs.Layout.{FILE-KIND, FILE-OWNER, FILE-GROUP, FILE-BITS, FILE-LABEL, FILE-LENGTH, FILE-LINKS, FILE-VERSION, FREE, OPEN-SLOT, OPEN-MODE, OPEN-OFFSET, OPEN-REFERENCES, PROCESS-USED, PROCESS-USER, PROCESS-GROUP, PROCESS-LABEL}
 use Rattle.rules.specs.Layout.{KIND-MAX, USER-MAX, GROUP-MAX, LABEL-MAX, WORD-MAX}
-use Rattle.rules.specs.Store.{Store, Fixed, Table, Tree, View, view, slot, isOpen}
-use Rattle.rules.specs.Rights.{rightsKnown, bitsKnown, modeOf, modeKept}
+use Rattle.rules.specs.Store.{Store, Fixed, Table, Tree, View, view, slot, isSlot, isOpen}
+use Rattle.rules.specs.Rights.{MODE-READ, rightsKnown, bitsKnown, modeOf, modeKept}
 use Rattle.rules.specs.Paths.{Name, isDots, sameName, pathOk}
-use Rattle.rules.specs.Directories.{direntAt, direntSlot, isEmpty, isPadding}
+use Rattle.rules.specs.Directories.{direntAt, direntSlot, isEmpty, isPadding, hasName}
+use Rattle.rules.specs.Rom.{ROM-NAME, romSound, promptCount}
 use Rattle.rules.specs.Walk.{isDirectory, isPlain, isLink, linkText}
 
 -- ---- sizes: "Lent tables of another size are 1"
@@ -180,9 +181,9 @@ holders desc e = total (holdersIn desc e) 0 PROCESSES
 unfoldable pub openFree : Table → ℕ → Bool
 openFree openFiles e = every (eqb (openFiles e OPEN-SLOT) 0 ∷ eqb (openFiles e OPEN-MODE) 0 ∷ eqb (openFiles e OPEN-OFFSET) 0 ∷ [])
 
--- "open entries only on plain files"
+-- "open entries only on plain files", or on prompts in mode 1
 unfoldable pub onPlainFile : (file openFiles : Table) → ℕ → Bool
-onPlainFile file openFiles e = every (ltb (openFiles e OPEN-SLOT) SLOTS ∷ isPlain file (slot (openFiles e OPEN-SLOT)) ∷ [])
+onPlainFile file openFiles e = cond (isSlot (slot (openFiles e OPEN-SLOT))) (isPlain file (slot (openFiles e OPEN-SLOT))) (eqb (openFiles e OPEN-MODE) (MODE-READ .0))
 
 -- and the mode and the position in range
 unfoldable pub openUsed : (file openFiles : Table) → ℕ → Bool
@@ -192,6 +193,13 @@ openUsed file openFiles e = every (onPlainFile file openFiles e ∷ modeKept (mo
 unfoldable pub openSound : (file openFiles desc : Table) → ℕ → Bool
 openSound file openFiles desc e =
     every (eqb (openFiles e OPEN-REFERENCES) (holders desc e) ∷ cond (eqb (openFiles e OPEN-REFERENCES) 0) (openFree openFiles e) (openUsed file openFiles e) ∷ [])
+
+-- not "past the last prompt"
+unfoldable pub openWithin : (R : List ℕ) (openFiles : Table) → ℕ → Bool
+openWithin R openFiles e = ltb (openFiles e OPEN-SLOT) (SLOTS + promptCount PROMPTS R)
+
+unfoldable pub opensWithin : (R : List ℕ) (openFiles : Table) → Bool
+opensWithin R openFiles = all (openWithin R openFiles) 0 OPEN-FILES
 
 -- ---- processes
 
@@ -220,17 +228,24 @@ procSound proc desc p = cond (eqb (proc p PROCESS-USED) 0) (procFree proc desc p
 
 -- ---- all of it
 
--- the root is a directory, and every slot is sound
+-- ""rom" in the root is reserved: .. a store that holds it is unsound": D is the root
+unfoldable pub isNotRom : List ℕ → ℕ → Bool
+isNotRom D i = not (hasName D ROM-NAME i)
+
+unfoldable pub romAbsent : List ℕ → Bool
+romAbsent D = all (isNotRom D) 0 DIRENTS
+
+-- the root is a directory without that name, and every slot is sound
 unfoldable pub treeSound : Tree → (openFiles : Table) → Bool
-treeSound t openFiles = every (isDirectory (t .file) (slot 0) ∷ all (slotSound t openFiles) 0 SLOTS ∷ [])
+treeSound t openFiles = every (isDirectory (t .file) (slot 0) ∷ romAbsent (t .shown 0) ∷ all (slotSound t openFiles) 0 SLOTS ∷ [])
 
 unfoldable pub tablesSound : View → Bool
 tablesSound v =
     every (treeSound (v .tree) (v .openFiles)
     ∷ all (openSound (v .tree .file) (v .openFiles) (v .desc)) 0 OPEN-FILES ∷ all (procSound (v .proc) (v .desc)) 0 PROCESSES ∷ [])
 
-unfoldable pub storeSound : Store → Bool
-storeSound s = cond (sizesSound s) (tablesSound (view s)) false
+unfoldable pub storeSound : (R : List ℕ) → Store → Bool
+storeSound R s = cond (sizesSound s) (every (tablesSound (view s) ∷ opensWithin R (view s .openFiles) ∷ [])) false
 
 unfoldable pub sound : Fixed → Store → Bool
-sound K s = every (policySound (K .policy) ∷ storeSound s ∷ [])
+sound K s = every (policySound (K .policy) ∷ romSound (K .rom) ∷ storeSound (K .rom) s ∷ [])

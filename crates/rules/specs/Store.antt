@@ -7,7 +7,7 @@ use lib.ListN.{length, getD, take, drop, set, replicate}
 use lib.Seq.{sets}
 use Rattle.rules.specs.Choice.{every}
 use Rattle.rules.specs.Scan.{any}
-use Rattle.rules.specs.Layout.{OPEN-SLOT, OPEN-REFERENCES, SLOTS, OPEN-FILES, PROCESSES, DIRENTS, BLOCK, FILE-WIDTH, FILE-KIND, FILE-OWNER, FILE-GROUP, FILE-BITS, FILE-LABEL, FILE-LENGTH, FILE-LINKS, FILE-VERSION, PLAIN, OPEN-FILE-WIDTH, PROCESS-WIDTH, PROCESS-DESCRIPTOR, PROCESS-USER, PROCESS-GROUP, PROCESS-LABEL, DESCRIPTORS}
+use Rattle.rules.specs.Layout.{OPEN-SLOT, OPEN-REFERENCES, SLOTS, OPEN-FILES, PROCESSES, DIRENTS, ENTRIES, BLOCK, FILE-WIDTH, FILE-KIND, FILE-LENGTH, PLAIN, OPEN-FILE-WIDTH, PROCESS-WIDTH, PROCESS-DESCRIPTOR, PROCESS-USER, PROCESS-GROUP, PROCESS-LABEL, DESCRIPTORS}
 use Rattle.rules.specs.declared.decision.Record.{Record}
 use Rattle.rules.specs.declared.ids.Slot.{Slot}
 use Rattle.rules.specs.declared.ids.Pid.{Pid}
@@ -18,12 +18,13 @@ use Rattle.rules.specs.declared.rights.Bits.{Bits}
 use Rattle.rules.specs.declared.rights.OpenMode.{OpenMode}
 use Rattle.rules.specs.declared.request.Subject.{Subject}
 
--- What no call changes, and so stands beside the store: the policy.
+-- What no call changes, and so stands beside the store: the policy, and the factory part.
 pub record Fixed : Type 0 where
   pub policy : List ℕ
+  pub rom : List ℕ
 
-abbrev pub fixed : List ℕ → Fixed
-fixed Q = record { policy = Q }
+abbrev pub fixed : (Q R : List ℕ) → Fixed
+fixed Q R = record { policy = Q; rom = R }
 
 -- "Files", "Contents", "Open entries", "Processes".
 pub record Store : Type 0 where
@@ -40,6 +41,7 @@ store F C E P = record { files = F; contents = C; openFiles = E; processes = P }
 abbrev pub slot : ℕ → Slot
 slot n = record { 0 = n }
 
+-- a slot of the store: a file of the factory part has no slot
 abbrev pub isSlot : Slot → Bool
 isSlot s = ltb (s .0) SLOTS
 
@@ -67,6 +69,10 @@ entry n = record { 0 = n }
 abbrev pub isDirent : Dirent → Bool
 isDirent i = ltb (i .0) DIRENTS
 
+-- or the one more that the root is seen with
+abbrev pub isEntry : Dirent → Bool
+isEntry i = ltb (i .0) ENTRIES
+
 -- bits and a mode as they stand in a table
 abbrev pub bitsAt : ℕ → Bits
 bitsAt n = record { 0 = n }
@@ -80,10 +86,12 @@ modeAt n = record { 0 = n }
 abbrev pub Table : Type 0
 Table = ℕ → ℕ → ℕ
 
--- the files and directories: what the path rules look at
+-- The files and directories: what the path rules look at. `dirents` are the entries that a directory is seen with: its bytes, and what the factory part
+-- adds to them.
 pub record Tree : Type 0 where
   pub file : Table
   pub shown : ℕ → List ℕ
+  pub dirents : ℕ → List ℕ
 
 -- Only the answer of a read looks at a plain file's bytes: every rule takes the view.
 pub record View : Type 0 where
@@ -117,7 +125,7 @@ unfoldable pub shownOf : List ℕ → List ℕ → ℕ → List ℕ
 shownOf F C s = drop (hidden F s) (block C s)
 
 abbrev pub tree : (F C : List ℕ) → Tree
-tree F C = record { file = tab FILE-WIDTH F; shown = shownOf F C }
+tree F C = record { file = tab FILE-WIDTH F; shown = shownOf F C; dirents = shownOf F C }
 
 abbrev pub view : Store → View
 view s = record { tree = tree (s .files) (s .contents); openFiles = tab OPEN-FILE-WIDTH (s .openFiles); proc = procOf (s .processes); desc = descOf (s .processes) }
@@ -140,17 +148,9 @@ isOpen openFiles s = openBut openFiles (ofdOf OPEN-FILES) s
 abbrev pub subjectOf : Table → Pid → Subject
 subjectOf proc p = record { user = proc (p .0) PROCESS-USER; group = proc (p .0) PROCESS-GROUP; label = proc (p .0) PROCESS-LABEL }
 
-abbrev pub recordOf : Table → Slot → Record
-recordOf file s = record {
-  kind = file (s .0) FILE-KIND;
-  owner = file (s .0) FILE-OWNER;
-  group = file (s .0) FILE-GROUP;
-  bits = bitsAt (file (s .0) FILE-BITS);
-  label = file (s .0) FILE-LABEL;
-  length = file (s .0) FILE-LENGTH;
-  links = file (s .0) FILE-LINKS;
-  version = file (s .0) FILE-VERSION;
-}
+-- a record by its words
+abbrev pub words : Record → List ℕ
+words r = r .kind ∷ r .owner ∷ r .group ∷ r .bits .0 ∷ r .label ∷ r .length ∷ r .links ∷ r .version ∷ []
 
 -- ---- counters are words of 32 bits
 

@@ -4,10 +4,10 @@ use mathlib.Core.Bool.{Bool, true, false, cond}
 use mathlib.Core.List.{List, [], _∷_}
 use lib.Dec.{eqb, ltb, leb}
 use lib.ListN.{take}
-use Rattle.rules.specs.Choice.{every}
-use Rattle.rules.specs.Layout.{FILE-KIND, FILE-OWNER, FILE-GROUP, FILE-BITS, FILE-LABEL, FILE-LENGTH, DIRECTORY, PLAIN, LINK, DIRENTS, NAMES, FOLLOWS}
-use Rattle.rules.specs.Store.{Table, Tree, slot, entry, isDirent, bitsAt}
-use Rattle.rules.specs.Rights.{EXECUTE, bitsGrant, labelGrants}
+use Rattle.rules.specs.Choice.{every, implies}
+use Rattle.rules.specs.Layout.{FILE-KIND, FILE-OWNER, FILE-GROUP, FILE-BITS, FILE-LABEL, FILE-LENGTH, DIRECTORY, PLAIN, LINK, NAMES, FOLLOWS}
+use Rattle.rules.specs.Store.{Table, Tree, slot, isSlot, entry, isEntry, bitsAt}
+use Rattle.rules.specs.Rights.{EXECUTE, bitsGrant, asksWrite, labelGrants}
 use Rattle.rules.specs.Paths.{Name, names}
 use Rattle.rules.specs.Directories.{direntOf, direntSlot}
 use Rattle.rules.specs.declared.ids.Slot.{Slot}
@@ -32,9 +32,11 @@ isPlain file s = eqb (file (s .0) FILE-KIND) PLAIN
 abbrev pub isLink : Table → Slot → Bool
 isLink file s = eqb (file (s .0) FILE-KIND) LINK
 
--- the subject has the rights over slot s, by its bits and by its label
-abbrev pub bitsAllow : Table → Subject → Slot → Rights → Bool
-bitsAllow file who s want = bitsGrant who (file (s .0) FILE-OWNER) (file (s .0) FILE-GROUP) (bitsAt (file (s .0) FILE-BITS)) want
+-- the subject has the rights over slot s, by its bits and by its label. "Whatever would change /rom or its files .. gets 9 for user 0 too, where bits are
+-- asked"
+unfoldable pub bitsAllow : Table → Subject → Slot → Rights → Bool
+bitsAllow file who s want =
+    every (bitsGrant who (file (s .0) FILE-OWNER) (file (s .0) FILE-GROUP) (bitsAt (file (s .0) FILE-BITS)) want ∷ implies (asksWrite want) (isSlot s) ∷ [])
 
 abbrev pub labelAllows : Table → List ℕ → Subject → Slot → Rights → Bool
 labelAllows file Q who s want = labelGrants Q who (file (s .0) FILE-LABEL) want
@@ -63,14 +65,14 @@ deeper d = cond (leb d NAMES) (d + 1) d
 abbrev pub reached : List ℕ → Location → Dirent → Walk
 reached D at i = Reached (record { dir = at .slot; dirent = i; slot = slot (direntSlot D (i .0)); depth = deeper (at .depth); follows = at .follows })
 
--- "and hold the name (6)", but for a new name, whose entry is 16 where it is missing
+-- "and hold the name (6)", but for a new name, whose entry is 17 where it is missing
 unfoldable pub entered : Intent → List ℕ → Location → ℕ → Dirent → Walk
-entered Find D at k i = needAt (isDirent i) NameMissing k (reached D at i)
-entered Follow D at k i = needAt (isDirent i) NameMissing k (reached D at i)
+entered Find D at k i = needAt (isEntry i) NameMissing k (reached D at i)
+entered Follow D at k i = needAt (isEntry i) NameMissing k (reached D at i)
 entered Create D at k i = reached D at i
 
 abbrev pub found : Intent → Tree → Location → Name → ℕ → Walk
-found intent t at name k = entered intent (t .shown (at .slot .0)) at k (direntOf (t .shown (at .slot .0)) name)
+found intent t at name k = entered intent (t .dirents (at .slot .0)) at k (direntOf (t .dirents (at .slot .0)) name)
 
 -- the k-th name is looked for in the directory at a location
 unfoldable pub lookup : Intent → Tree → List ℕ → Subject → Name → ℕ → Location → Walk

@@ -41,6 +41,14 @@ written c = record { process = c .process; call = c .call; fd = c .fd; number = 
 abbrev pub served : Written → (buffer : List ℕ) → Call
 served w buffer = record { process = w .process; call = w .call; fd = w .fd; number = w .number; path = w .path; «data» = w .«data»; buffer = buffer }
 
+-- the number of read
+abbrev pub READ-CALL : ℕ
+READ-CALL = 11
+
+-- a borrowing read (paper 02, R-6): "written down, it is a read"
+abbrev pub borrowWritten : Pid → Fd → (n : ℕ) → Written
+borrowWritten p i n = record { process = p; call = READ-CALL; fd = i; number = n; path = []; «data» = [] }
+
 -- the parts that it uses
 abbrev pub partsOf : Written → Parts
 partsOf w = uses (operationOf (w .call))

@@ -13,13 +13,14 @@ use lib.Seq.{length-take-le, take-all}
 use Rattle.rules.specs.Choice.{every}
 use Rattle.rules.specs.Layout.{BLOCK, PROCESSES, DESCRIPTORS, PATH, OPEN-MODE}
 use Rattle.rules.specs.Rights.{writes}
-use Rattle.rules.specs.Store.{Store, Fixed, Table, pidOf, fdOf, modeAt, view, descOf}
+use Rattle.rules.specs.Store.{Store, Fixed, Table, View, pidOf, fdOf, modeAt, view, descOf}
+use Rattle.rules.specs.Rom.{seen}
 use Rattle.rules.specs.Paths.{sizeOk, shapeOk, pathOk}
 use Rattle.rules.specs.Calls.{Call, operationOf, uses, Agree, formOk, pathBelowRoot}
 use Rattle.rules.specs.Written.{Written}
 use Rattle.rules.specs.Checks.{need, inUse, held, ofdHeld}
 use Rattle.rules.specs.Decide.{decideClose, decideRead, decideWrite, writeOpen, writeSome, writeFile, decideSeek, decideDuplicate, decideOwn, decide}
-use Rattle.rules.specs.Step.{replyTo, storeAfter, outcomeOf, act, step}
+use Rattle.rules.specs.Step.{replyTo, storeAfter, outcomeOf, into, act, step}
 use Rattle.rules.specs.declared.ids.Ofd.{Ofd}
 use Rattle.rules.specs.declared.refusal.Refusal.the-variants.{NoProcess, Malformed, NotHeld, WrongDirection, TooLong}
 use Rattle.rules.specs.declared.request.Operation.{Operation}
@@ -99,15 +100,19 @@ module _ (K : Fixed) (s : Store) (k : ℕ) (path buffer : List ℕ) where
   abbrev asks : (p n i : ℕ) → List ℕ → Call
   asks p n i b = record { process = pidOf p; call = n; fd = fdOf i; number = k; path = path; «data» = b; buffer = buffer }
 
+  -- what calls are decided on
+  abbrev v : View
+  v = seen (K .rom) (view s)
+
   -- a call's form, and then its own checks
   abbrev formed : Call → Operation → Decision
-  formed c o = need (formOk o k path (c .«data»)) Malformed (decideOwn (K .policy) (view s) c o)
+  formed c o = need (formOk o k path (c .«data»)) Malformed (decideOwn K v c o)
 
   -- nothing is granted
   abbrev Refuses : Decision → Type 0
   Refuses x = Fit (λ n o e. ⊥) x
 
-  refused-same : (c d : Call) (x : Decision) → c .buffer ≡ d .buffer → Refuses x → outcomeOf s c x ≡ outcomeOf s d x
+  refused-same : (c d : Call) (x : Decision) → c .buffer ≡ d .buffer → Refuses x → outcomeOf (K .rom) s c (into (c .buffer)) x ≡ outcomeOf (K .rom) s d (into (d .buffer)) x
   unfolding outcomeOf replyTo storeAfter
   refused-same c d x e (granting n o f g) = absurd g
   refused-same c d x e (refusing r j) = rw e
@@ -120,11 +125,11 @@ module _ (K : Fixed) (s : Store) (k : ℕ) (path buffer : List ℕ) where
   alike-same : (p n m i j : ℕ) (a b : List ℕ) (o : Operation) → operationOf n ≡ o → operationOf m ≡ o → Alike (asks p n i a) (asks p m j b) o → step K s (asks p n i a) ≡ step K s (asks p m j b)
   unfolding step act decide
   alike-same p n m i j a b o e f (agree h) = unused-unseen K s _ _ (rw e h)
-  alike-same p n m i j a b o e f (refuse x r g h) = rw (e, f, g, h, refused-same (asks p n i a) (asks p m j b) _ refl (need-fit (inUse (view s .proc) (pidOf p)) NoProcess x (λ _. r)))
+  alike-same p n m i j a b o e f (refuse x r g h) = rw (e, f, g, h, refused-same (asks p n i a) (asks p m j b) _ refl (need-fit (inUse (v .proc) (pidOf p)) NoProcess x (λ _. r)))
 
   -- ---- the process, and the call's number
 
-  no-process : (p : ℕ) → Large p → inUse (view s .proc) (pidOf p) ≡ false
+  no-process : (p : ℕ) → Large p → inUse (v .proc) (pidOf p) ≡ false
   unfolding inUse every
   no-process p h = rw (le-ltb p PROCESSES (omega arith))
 
@@ -140,13 +145,13 @@ module _ (K : Fixed) (s : Store) (k : ℕ) (path buffer : List ℕ) where
 
   -- ---- the descriptor, and the last text
 
-  not-held : (p i : ℕ) → Large i → held (view s .desc) (pidOf p) (fdOf i) ≡ false
+  not-held : (p i : ℕ) → Large i → held (v .desc) (pidOf p) (fdOf i) ≡ false
   unfolding held descOf
   not-held p i h = rw (le-ltb i DESCRIPTORS (omega arith))
 
   -- what becomes of a write of too much
   unwritten : (p i : ℕ) → Decision
-  unwritten p i = need (held (view s .desc) (pidOf p) (fdOf i)) NotHeld (need (writes (modeAt (view s .openFiles (ofdHeld (view s .desc) (pidOf p) (fdOf i) .0) OPEN-MODE))) WrongDirection (Refused TooLong 0))
+  unwritten p i = need (held (v .desc) (pidOf p) (fdOf i)) NotHeld (need (writes (modeAt (v .openFiles (ofdHeld (v .desc) (pidOf p) (fdOf i) .0) OPEN-MODE))) WrongDirection (Refused TooLong 0))
 
   unwritten-refuses : (p i : ℕ) → Refuses (unwritten p i)
   unfolding unwritten

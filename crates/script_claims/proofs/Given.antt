@@ -2,11 +2,11 @@
 use Prim.Native.Nat.{ℕ, zero, suc, _≤_}
 use mathlib.Core.Path.{_≡_, refl, ap}
 use mathlib.Core.Bool.{false}
-use mathlib.Core.List.{List, [], _∷_}
+use mathlib.Core.List.{List, [], _∷_, map}
 use native.Mathlib.Omega.{arith}
 use lib.ListN.{length, length-append}
 use Rattle.rules.specs.Store.{Fixed}
-use Rattle.rules.specs.Step.{answers}
+use Rattle.rules.specs.Step.{Calls, serve, answers}
 use Rattle.script_rules.specs.Blocks.{blockOk, blocks, afterBlocks}
 use Rattle.script_rules.specs.Replay.{nextCall}
 use Rattle.script_claims.specs.Claims.{Ended, Unbroken, texts, asked}
@@ -21,10 +21,10 @@ none-broken (suc k) S b u = ap length (rw b at u)
 
 module _ (K : Fixed) where
   abbrev Whole : OfRuns K
-  Whole n S at room s r = (k : ℕ) → Unbroken k S → k ≤ n → length (texts (answers K s (asked (blocks k S)))) ≤ room → Ended r × (r .calls ≡ asked (blocks k S))
+  Whole n S at room s r = (k : ℕ) → Unbroken k S → k ≤ n → length (texts (answers K s (map Calls (asked (blocks k S))))) ≤ room → Ended r × (r .calls ≡ asked (blocks k S))
 
   stops : WhereStopped K Whole
-  unfolding afterBlocks blocks asked texts answers
+  unfolding afterBlocks blocks asked texts answers serve
   stops n S at room s why (ended e) zero u l f = (refl, refl)
   stops n S at room s why (ended e) (suc k) u l f = (refl, rw (e, no-block))
   stops n S at room s why (spent x) zero u l f = absurd (x (ap length u))
@@ -34,7 +34,7 @@ module _ (K : Fixed) where
   stops n S at room s why (full b x) (suc k) u l f = absurd (omega (arith, simp length-append at (rw b at f)))
 
   takes : WhereTaken K Whole
-  unfolding afterBlocks blocks asked texts answers
+  unfolding afterBlocks blocks asked texts answers serve
   takes n S at room s b h ih zero u l f = absurd (omega (arith, ap length u, block-kept S [] b .shorter))
   takes n S at room s b h ih (suc k) u l f =
       let r = ih k (rw b at u) (omega arith) (omega (arith, simp length-append at (rw b at f))) in

@@ -1,4 +1,4 @@
--- What may be relied on of a script's run, for every K (what no call changes: the policy), script, store s, allowance and room: the record `Claims`
+-- What may be relied on of a script's run, for every K (what no call changes: policy and factory part), script, store s, allowance and room: the record `Claims`
 -- below, which proofs/Proved.antt proves. A run is `run n K S at room s` (script_rules): n calls allowed, the script S, which begins at `at`, so many
 -- bytes of output.
 use Prim.Native.Nat.{ℕ, _+_, _-_, _≤_}
@@ -9,7 +9,7 @@ use lib.ListN.{length, drop}
 use Rattle.rules.specs.Store.{Store, Fixed, zeros}
 use Rattle.rules.specs.Calls.{Call}
 use Rattle.rules.specs.Written.{Written, normal}
-use Rattle.rules.specs.Step.{Reply, step, answers, final}
+use Rattle.rules.specs.Step.{Reply, step, Calls, answers, final}
 use Rattle.script_rules.specs.Blocks.{printed, Scriptable, blocks, afterBlocks}
 use Rattle.script_rules.specs.Replay.{Run, run, UNKNOWN, readsTooMuch, roomFor, askedBy, replyText}
 use Rattle.script_rules.specs.declared.replayed.Reason.the-variants as reason
@@ -94,12 +94,12 @@ pub record Claims : Type 0 where
   -- store is what the rules' own run of them leaves. No more calls than allowed, no more bytes than there is room for.
   pub run-calls : (n : ℕ) (K : Fixed) (S : List ℕ) (at room : ℕ) (s : Store) → let r = run n K S at room s in r .calls ≡ asked (blocks (length (r .calls)) S)
   pub run-next : (n : ℕ) (K : Fixed) (S : List ℕ) (at room : ℕ) (s : Store) → let r = run n K S at room s in r .next + length (afterBlocks (length (r .calls)) S) ≡ at + length S
-  pub run-text : (n : ℕ) (K : Fixed) (S : List ℕ) (at room : ℕ) (s : Store) → let r = run n K S at room s in r .text ≡ texts (answers K s (r .calls))
-  pub run-store : (n : ℕ) (K : Fixed) (S : List ℕ) (at room : ℕ) (s : Store) → let r = run n K S at room s in r .store ≡ final K s (r .calls)
+  pub run-text : (n : ℕ) (K : Fixed) (S : List ℕ) (at room : ℕ) (s : Store) → let r = run n K S at room s in r .text ≡ texts (answers K s (map Calls (r .calls)))
+  pub run-store : (n : ℕ) (K : Fixed) (S : List ℕ) (at room : ℕ) (s : Store) → let r = run n K S at room s in r .store ≡ final K s (map Calls (r .calls))
   pub run-allowed : (n : ℕ) (K : Fixed) (S : List ℕ) (at room : ℕ) (s : Store) → length (run n K S at room s .calls) ≤ n
   pub run-fits : (n : ℕ) (K : Fixed) (S : List ℕ) (at room : ℕ) (s : Store) → length (run n K S at room s .text) ≤ room
   -- Given room and allowance, the run of an unbroken script gets to its end, and takes the calls of all its blocks.
-  pub whole-run : (n k : ℕ) (K : Fixed) (S : List ℕ) (at room : ℕ) (s : Store) → Unbroken k S → k ≤ n → length (texts (answers K s (asked (blocks k S)))) ≤ room →
+  pub whole-run : (n k : ℕ) (K : Fixed) (S : List ℕ) (at room : ℕ) (s : Store) → Unbroken k S → k ≤ n → length (texts (answers K s (map Calls (asked (blocks k S))))) ≤ room →
       let r = run n K S at room s in Ended r × (r .calls ≡ asked (blocks k S))
   -- 3. What is printed from calls is read back: all of them, each in its normal form, and nothing is left or broken.
   pub printed-back : (n : ℕ) (ws : List Written) → AllScriptable ws → length ws ≤ n → blocks n (printed ws) ≡ map normal ws

@@ -3,13 +3,13 @@
 use Prim.Native.Nat.{ℕ, suc, _+_, _-_}
 use mathlib.Core.Path.{_≡_, refl, sym, ap, _∙_, subst}
 use mathlib.Core.Bool.{Bool, true, cond, not}
-use mathlib.Core.List.{List, _∷_}
+use mathlib.Core.List.{List, [], _∷_}
 use lib.Dec.{eqb, ltb}
 use lib.ListN.{length}
 use Rattle.rules.specs.Store.{Store, Fixed}
 use Rattle.rules.specs.Step.{Outcome, act, step}
 use Rattle.rules.specs.Console.{console, consoleFixed}
-use Rattle.cases.proofs.Quick.{quick, quickSound, sound-of, step-act}
+use Rattle.cases.proofs.Quick.{quick, quickSound, no-prompts, sound-of, step-act}
 use Rattle.cases.proofs.Cases.{policy-sound, console-sound}
 use Rattle.script_rules.specs.Computing.{computing}
 use Rattle.script_rules.specs.Blocks.{blockOk, afterBlock}
@@ -61,15 +61,15 @@ unfoldable computed : Bool
 unfolding computing turned quick
 computed = true
 
-opened-sound : quickSound (opened .store) ≡ true
+opened-sound : quickSound [] (opened .store) ≡ true
 unfolding computed
 opened-sound = refl
 
 opens : step consoleFixed console (nextCall SCRIPT) ≡ opened
-opens = step-act consoleFixed console (nextCall SCRIPT) (sound-of consoleFixed policy-sound console console-sound)
+opens = step-act consoleFixed console (nextCall SCRIPT) (sound-of consoleFixed policy-sound no-prompts console console-sound)
 
 reads : step consoleFixed (opened .store) (nextCall REST) ≡ read
-reads = step-act consoleFixed (opened .store) (nextCall REST) (sound-of consoleFixed policy-sound (opened .store) opened-sound)
+reads = step-act consoleFixed (opened .store) (nextCall REST) (sound-of consoleFixed policy-sound no-prompts (opened .store) opened-sound)
 
 abbrev room : ℕ
 room = length OUTPUT

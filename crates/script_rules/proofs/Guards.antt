@@ -210,7 +210,7 @@ abbrev shown : Run → List ℕ
 shown r = length (r .calls) ∷ r .next ∷ reasonNumber (r .reason) ∷ r .text
 
 ran : (allowance : ℕ) → List ℕ → (room : ℕ) → List ℕ
-ran n S room = shown (run n (fixed []) S 0 room (store [] [] [] []))
+ran n S room = shown (run n (fixed [] []) S 0 room (store [] [] [] []))
 
 -- 23 bytes
 REFUSED : List ℕ

@@ -1,11 +1,11 @@
--- Demand 3 of a script's runs, proved. A run sees nothing of a store but its answers, so on two stores that answer every list of calls alike it is the same.
+-- Demand 3 of a script's runs, proved. A run sees nothing of a store but its answers, so on two stores that answer every list alike it is the same.
 use mathlib.Core.Path.{_≡_, ap}
-use mathlib.Core.List.{List, [], _∷_}
+use mathlib.Core.List.{List, [], _∷_, map}
 use borrow.Author.Tests.{ne-eqb}
 use lib.ListN.{length, getD, drop}
 use Rattle.rules.specs.Store.{Store, Fixed}
 use Rattle.rules.specs.Calls.{Call}
-use Rattle.rules.specs.Step.{Reply, step, answers, final}
+use Rattle.rules.specs.Step.{Reply, step, Action, Calls, serve, answers, final}
 use Rattle.script_rules.specs.Replay.{Run, run, took, nextCall, nextText, replyText}
 use Rattle.script_claims.proofs.Runs.{OfRuns, WhereStopped, WhereTaken, Always, ended, spent, broken, full, run-none, run-full, run-takes, every-run}
 use Rattle.script_claims.proofs.Proved.{claims}
@@ -18,18 +18,18 @@ abbrev leaving : Store → Run → Run
 leaving t r = record { calls = r .calls; text = r .text; next = r .next; reason = r .reason; store = t }
 
 module _ (K : Fixed) where
-  -- every list of calls has the same answers
+  -- every list has the same answers
   abbrev Alike : Store → Store → Type 0
-  Alike s s′ = (cs : List Call) → answers K s cs ≡ answers K s′ cs
+  Alike s s′ = (xs : List Action) → answers K s xs ≡ answers K s′ xs
 
   module _ (s s′ : Store) (alike : Alike s s′) (c : Call) where
     same-reply : step K s c .reply ≡ step K s′ c .reply
-    unfolding answers
-    same-reply = ap (λ (rs : List Reply). getD rs 0 (step K s c .reply)) (alike (c ∷ []))
+    unfolding answers serve
+    same-reply = ap (λ (rs : List Reply). getD rs 0 (step K s c .reply)) (alike (Calls c ∷ []))
 
     alike-after : Alike (step K s c .store) (step K s′ c .store)
-    unfolding answers
-    alike-after cs = ap (λ (rs : List Reply). drop 1 rs) (alike (c ∷ cs))
+    unfolding answers serve
+    alike-after xs = ap (λ (rs : List Reply). drop 1 rs) (alike (Calls c ∷ xs))
 
   -- the run r on s is the run on a store that is alike
   abbrev SameRun : OfRuns K
@@ -69,16 +69,16 @@ script-secrecy K f s s′ h n S at room = record {
     r′ = run n K S at room s′
 
     same : leaving s r ≡ leaving s r′
-    same = same-run K n S at room s s′ s (λ cs. secrecy K f s s′ h cs .same-answers)
+    same = same-run K n S at room s s′ s (λ xs. secrecy K f s s′ h xs .same-answers)
 
     calls : r .calls ≡ r′ .calls
     calls = ap (λ (x : Run). x .calls) same
 
-    claimed : Claimed K f s s′ (r .calls)
-    claimed = secrecy K f s s′ h (r .calls)
+    claimed : Claimed K f s s′ (map Calls (r .calls))
+    claimed = secrecy K f s s′ h (map Calls (r .calls))
 
-    store : r .store ≡ final K s (r .calls)
+    store : r .store ≡ final K s (map Calls (r .calls))
     store = claims .run-store n K S at room s
 
-    store′ : r′ .store ≡ final K s′ (r .calls)
+    store′ : r′ .store ≡ final K s′ (map Calls (r .calls))
     store′ = rw calls (claims .run-store n K S at room s′)

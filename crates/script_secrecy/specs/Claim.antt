@@ -4,8 +4,9 @@ use Prim.Native.Nat.{ℕ}
 use mathlib.Core.Path.{_≡_}
 use mathlib.Core.Bool.{true}
 use mathlib.Core.Logic.{_⊎_}
-use mathlib.Core.List.{List}
+use mathlib.Core.List.{List, map}
 use Rattle.rules.specs.Store.{Store, Fixed}
+use Rattle.rules.specs.Step.{Calls}
 use Rattle.script_rules.specs.Replay.{Run, run}
 use Rattle.secrecy.specs.Claim.{DifferInBytes, Supposed, freed}
 
@@ -17,7 +18,7 @@ pub record SameRuns (K : Fixed) (f : ℕ) (s : Store) (r r′ : Run) : Type 0 wh
   pub same-next : r .next ≡ r′ .next
   pub same-reason : r .reason ≡ r′ .reason
   pub same-stores : (r .store ≡ r′ .store) ⊎ DifferInBytes f (r .store) (r′ .store)
-  pub equal-once-freed : freed K f s (r .calls) ≡ true → r .store ≡ r′ .store
+  pub equal-once-freed : freed K f s (map Calls (r .calls)) ≡ true → r .store ≡ r′ .store
 
 -- n calls are allowed, the script S begins at `at` (`replay` has 0), the output has room for so many bytes. What is supposed is what demand 3 supposes;
 -- S may be any bytes

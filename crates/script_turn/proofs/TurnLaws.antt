@@ -15,7 +15,7 @@ use Rattle.rules.specs.Layout.{BLOCK}
 use Rattle.rules.specs.Store.{Store, Fixed, zeros}
 use Rattle.rules.specs.Written.{Written as Asked}
 use Rattle.rules.specs.Calls.{Call}
-use Rattle.rules.specs.Step.{storeAfter, outcomeOf, answerOf}
+use Rattle.rules.specs.Step.{storeAfter, outcomeOf, into, answerOf}
 use Rattle.rules.specs.declared.decision.Decision.{Decision}
 use Rattle.rules.specs.declared.answer.Answer.{Answer}
 use Rattle.reply.specs.Answers.{Said, said}
@@ -41,13 +41,13 @@ pub text-some : (a : Answer) (buffer : List ℕ) → 1 ≤ length (answerText a 
 text-some a buffer = omega (arith, text-length a buffer)
 
 module _ (fit : Bool) (K : Fixed) (out : List ℕ) (at : ℕ) (s : Store) (c : Call) (d : Decision) (j : d ≡ judged fit K s c) where
-  module _ (a : Answer) (b : List ℕ) (said-so : said a b ≡ answeredBy s d (c .buffer)) where
+  module _ (a : Answer) (b : List ℕ) (said-so : said a b ≡ answeredBy (K .rom) s d (c .buffer)) where
     abbrev text : List ℕ
     text = replyText (actIf fit K s c .reply)
 
     same-text : answerText a b ≡ text
     same-text =
-        let p : said a b ≡ said (answerOf (outcomeOf s c d .reply)) (outcomeOf s c d .reply .buffer) = said-so ∙ reply-answered s c d in
+        let p : said a b ≡ said (answerOf (outcomeOf (K .rom) s c (into (c .buffer)) d .reply)) (outcomeOf (K .rom) s c (into (c .buffer)) d .reply .buffer) = said-so ∙ reply-answered (K .rom) s c d in
         rw (← j, ap (λ (r : Said). r .answer) p, ap (λ (r : Said). r .buffer) p)
 
     module _ (n : ℕ) (after : List ℕ) (w : writes n after ≡ written out at (answerText a b)) where

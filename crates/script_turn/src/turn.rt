@@ -40,6 +40,7 @@ fn serve(
     open_files: &mut [u32],
     processes: &mut [u32],
     policy: &[u8],
+    rom: &[u8],
     c: Request,
     path: &[u8],
     data: &[u8],
@@ -47,7 +48,7 @@ fn serve(
     output: &mut [u8],
     at: usize,
 ) -> usize
-    ensures { λ r. ⌜ served r (now (output .exit)) (store (now (files .exit)) (now (contents .exit)) (now («open_files» .exit)) (now (processes .exit))) ≡ servedBy fit (fixed (now (policy .entry))) (now (output .entry)) at (store (now (files .entry)) (now (contents .entry)) (now («open_files» .entry)) (now (processes .entry))) (callOf c (now (path .entry)) (now («data» .entry)) (now (buffer .entry))) ⌝ }
+    ensures { λ r. ⌜ served r (now (output .exit)) (store (now (files .exit)) (now (contents .exit)) (now («open_files» .exit)) (now (processes .exit))) ≡ servedBy fit (fixed (now (policy .entry)) (now (rom .entry))) (now (output .entry)) at (store (now (files .entry)) (now (contents .entry)) (now («open_files» .entry)) (now (processes .entry))) (callOf c (now (path .entry)) (now («data» .entry)) (now (buffer .entry))) ⌝ }
 {
     let d = judge(
         fit,
@@ -56,12 +57,13 @@ fn serve(
         open_files,
         processes,
         policy,
+        rom,
         c,
         path,
         data,
         buffer,
     );
-    let a = answer(files, contents, open_files, processes, buffer, d);
+    let a = answer(files, contents, open_files, processes, rom, buffer, d);
     let n = write_answer(output, at, a, buffer);
     let full = n == 0;
     if full {
@@ -79,13 +81,14 @@ fn serve_block(
     open_files: &mut [u32],
     processes: &mut [u32],
     policy: &[u8],
+    rom: &[u8],
     n: Numbers,
     p: &[u8],
     d: &[u8],
     output: &mut [u8],
     at: usize,
 ) -> usize
-    ensures { λ r. ⌜ served r (now (output .exit)) (store (now (files .exit)) (now (contents .exit)) (now («open_files» .exit)) (now (processes .exit))) ≡ blockServed fit (fixed (now (policy .entry))) n (now (p .entry)) (now (d .entry)) (now (output .entry)) at (store (now (files .entry)) (now (contents .entry)) (now («open_files» .entry)) (now (processes .entry))) ⌝ }
+    ensures { λ r. ⌜ served r (now (output .exit)) (store (now (files .exit)) (now (contents .exit)) (now («open_files» .exit)) (now (processes .exit))) ≡ blockServed fit (fixed (now (policy .entry)) (now (rom .entry))) n (now (p .entry)) (now (d .entry)) (now (output .entry)) at (store (now (files .entry)) (now (contents .entry)) (now («open_files» .entry)) (now (processes .entry))) ⌝ }
 {
     let mut data = [0u8; BLOCK + 1];
     let count = read_bytes(text(d, Line::Data), &mut data);
@@ -98,6 +101,7 @@ fn serve_block(
         open_files,
         processes,
         policy,
+        rom,
         request_for(n),
         text(p, Line::Path),
         upto(&data, count),
@@ -131,6 +135,7 @@ fn take_block(
     open_files: &mut [u32],
     processes: &mut [u32],
     policy: &[u8],
+    rom: &[u8],
     s: &[u8],
     n: Numbers,
     p: &[u8],
@@ -138,7 +143,7 @@ fn take_block(
     output: &mut [u8],
     at: usize,
 ) -> Turn
-    ensures { λ r. ⌜ turned r (now (output .exit)) (store (now (files .exit)) (now (contents .exit)) (now («open_files» .exit)) (now (processes .exit))) ≡ blockTurn fit (fixed (now (policy .entry))) (now (s .entry)) n (now (p .entry)) (now (d .entry)) (now (output .entry)) at (store (now (files .entry)) (now (contents .entry)) (now («open_files» .entry)) (now (processes .entry))) ⌝ }
+    ensures { λ r. ⌜ turned r (now (output .exit)) (store (now (files .exit)) (now (contents .exit)) (now («open_files» .exit)) (now (processes .exit))) ≡ blockTurn fit (fixed (now (policy .entry)) (now (rom .entry))) (now (s .entry)) n (now (p .entry)) (now (d .entry)) (now (output .entry)) at (store (now (files .entry)) (now (contents .entry)) (now («open_files» .entry)) (now (processes .entry))) ⌝ }
 {
     if !block_ok(n, p, d) {
         return Turn::Stopped(Reason::Broken);
@@ -151,6 +156,7 @@ fn take_block(
         open_files,
         processes,
         policy,
+        rom,
         n,
         p,
         d,
@@ -172,12 +178,13 @@ pub fn take_turn(
     open_files: &mut [u32],
     processes: &mut [u32],
     policy: &[u8],
+    rom: &[u8],
     s: &[u8],
     n: u32,
     output: &mut [u8],
     at: usize,
 ) -> Turn
-    ensures { λ r. ⌜ turned r (now (output .exit)) (store (now (files .exit)) (now (contents .exit)) (now («open_files» .exit)) (now (processes .exit))) ≡ turnOf fit n (fixed (now (policy .entry))) (now (s .entry)) (now (output .entry)) at (store (now (files .entry)) (now (contents .entry)) (now («open_files» .entry)) (now (processes .entry))) ⌝ }
+    ensures { λ r. ⌜ turned r (now (output .exit)) (store (now (files .exit)) (now (contents .exit)) (now («open_files» .exit)) (now (processes .exit))) ≡ turnOf fit n (fixed (now (policy .entry)) (now (rom .entry))) (now (s .entry)) (now (output .entry)) at (store (now (files .entry)) (now (contents .entry)) (now («open_files» .entry)) (now (processes .entry))) ⌝ }
 {
     let ended = s.len() == 0;
     if ended {
@@ -196,6 +203,7 @@ pub fn take_turn(
         open_files,
         processes,
         policy,
+        rom,
         s,
         read_numbers(s),
         p,

@@ -11,8 +11,10 @@ use lib.Dec.{ltb}
 use lib.ListN.{length, getD, List·getD-eq-default}
 use Rattle.rules.specs.Layout.{SLOTS, BLOCK, FILE-WIDTH, OPEN-FILES, OPEN-FILE-WIDTH, PROCESSES, PROCESS-WIDTH, PROCESS-DESCRIPTOR, LABELS, LABEL-MAX, FILE-KIND, FILE-LABEL, FILE-LENGTH, PLAIN, DESCRIPTORS}
 use Rattle.rules.specs.Store.{Store, Fixed, view, tab, descOf}
+use Rattle.rules.specs.Rom.{seen, seenFile}
 use Rattle.rules.specs.Sound.{sound, storeSound, slotsSized, sizesSound, treeSound, tablesSound, slotSound, accessSound, fieldsSound, recordSound, kindSound, plainSound}
 use Rattle.rules.proofs.Scans.{all-at}
+use Rattle.rules.proofs.Seen.{seen-stored, factory-label}
 use Rattle.rules.proofs.Tests.{test, both}
 use Rattle.secrecy.proofs.Fit.{Based}
 
@@ -28,7 +30,7 @@ desc-eight P p i ne = go (ltb i DESCRIPTORS) refl ne
 module _ (K : Fixed) (s : Store) (h : sound K s ≡ true) where
   parts : (sizesSound s ≡ true) × (tablesSound (view s) ≡ true)
   unfolding sound storeSound
-  parts = both _ _ (test 1 _ h)
+  parts = let w = both _ _ (test 2 _ h) in (w .0, test 0 _ (w .1))
 
   pub files-size : length (s .files) ≡ SLOTS * FILE-WIDTH
   unfolding sizesSound slotsSized
@@ -46,30 +48,28 @@ module _ (K : Fixed) (s : Store) (h : sound K s ≡ true) where
   unfolding tablesSound
   tree-sound = test 0 _ (parts .1)
 
-  pub based : Based (view s)
-  unfolding treeSound
+  pub based : Based (seen (K .rom) (view s))
+  unfolding treeSound seenFile
   based = record { root = test 0 _ tree-sound; eight = desc-eight (s .processes) }
 
   slot-sound : (t : ℕ) → t < SLOTS → slotSound (view s .tree) (view s .openFiles) t ≡ true
   unfolding treeSound
-  slot-sound t lt = all-at (slotSound (view s .tree) (view s .openFiles)) 0 SLOTS (test 1 _ tree-sound) t (omega arith) lt
+  slot-sound t lt = all-at (slotSound (view s .tree) (view s .openFiles)) 0 SLOTS (test 2 _ tree-sound) t (omega arith) lt
 
   record-sound : (t : ℕ) → t < SLOTS → recordSound (view s .tree .file) t ≡ true
   unfolding slotSound
   record-sound t lt = test 0 _ (slot-sound t lt)
 
   -- every program label is one of the sixteen
-  pub small-label : (t : ℕ) → tab FILE-WIDTH (s .files) t FILE-LABEL < LABELS
+  pub small-label : (t : ℕ) → seenFile (tab FILE-WIDTH (s .files)) t FILE-LABEL < LABELS
   unfolding recordSound fieldsSound accessSound
   small-label t = go (decLt t SLOTS)
     where
-      go : Dec (t < SLOTS) → tab FILE-WIDTH (s .files) t FILE-LABEL < LABELS
+      go : Dec (t < SLOTS) → seenFile (tab FILE-WIDTH (s .files)) t FILE-LABEL < LABELS
       go (yes lt) =
           let l : tab FILE-WIDTH (s .files) t FILE-LABEL ≤ LABEL-MAX = leb-true _ _ (test 2 _ (test 1 _ (test 0 _ (record-sound t lt)))) in
-          omega arith
-      go (no ge) =
-          let z : tab FILE-WIDTH (s .files) t FILE-LABEL ≡ 0 = List·getD-eq-default (s .files) 0 (omega (arith, files-size)) in
-          omega arith
+          rw (seen-stored (tab FILE-WIDTH (s .files)) t FILE-LABEL lt) (omega arith)
+      go (no ge) = let z : seenFile (tab FILE-WIDTH (s .files)) t FILE-LABEL ≡ 0 = factory-label (tab FILE-WIDTH (s .files)) t (omega arith) in omega arith
 
   module _ (f : ℕ) (plain : tab FILE-WIDTH (s .files) f FILE-KIND ≡ PLAIN) where
     -- a plain file is in one of the slots

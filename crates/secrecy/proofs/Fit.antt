@@ -7,13 +7,14 @@ use Prim.Native.Nat.{ℕ, _≤_, _<_, max}
 use native.Mathlib.Omega.{arith}
 use borrow.Author.Tests.{ltb-true, eqb-true, eqb-false, not-true}
 use Rattle.rules.specs.Layout.{SLOTS, PROCESSES, DESCRIPTORS, FILE-LABEL, FILE-LENGTH, OPEN-SLOT, OPEN-MODE, PROCESS-USED}
-use Rattle.rules.specs.Store.{Tree, View, slot, isSlot, modeAt, subjectOf}
+use Rattle.rules.specs.Store.{Fixed, Tree, View, slot, isSlot, modeAt, subjectOf}
 use Rattle.rules.specs.Rights.{reads, labelGrants, moved, modeRights}
 use Rattle.rules.specs.Paths.{Name, names}
 use Rattle.rules.specs.Walk.{isDirectory, isLink, linkText, entered, lookup, follows, walkBy, walk, ROOT}
 use Rattle.rules.specs.Checks.{inUse, held, slotFree, freeSlot}
 use Rattle.rules.specs.Calls.{Call, operation}
-use Rattle.rules.specs.Decide.{decide}
+use Rattle.rules.specs.Decide.{decide, decideBorrow}
+use Rattle.rules.specs.Step.{readOf}
 use Rattle.rules.specs.declared.ids.Slot.{Slot}
 use Rattle.rules.specs.declared.ids.Pid.{Pid}
 use Rattle.rules.specs.declared.ids.Fd.{Fd}
@@ -40,7 +41,7 @@ use Rattle.rules.specs.declared.decision.Effect.the-variants as effect
 use Rattle.rules.proofs.Scans.{first-passes}
 use Rattle.rules.proofs.Walks.{WalkFit, reached, needAt-fit, fit-at, any-names, Kept, walk-fit}
 use Rattle.rules.proofs.Passed as passed
-use Rattle.rules.proofs.Passed.{Fit, fit-map, Passed, Opening, newest, permitted}
+use Rattle.rules.proofs.Passed.{Fit, fit-map, Passed, Opening, newest, Permit, permitted, borrow-permitted}
 use Rattle.rules.proofs.Tests.{test}
 
 -- ---- the facts
@@ -127,12 +128,12 @@ module _ (Q : List ℕ) (t : Tree) (who : Subject) where
 
 -- ---- a call
 
-module _ (Q : List ℕ) (v : View) (b : Based v) (c : Call) where
+module _ (K : Fixed) (v : View) (b : Based v) (c : Call) where
   -- the parent of a path's last name
-  parent : (intent : Intent) → follows intent ≡ false → (path : List ℕ) (at : Location) → walk intent (v .tree) Q (subjectOf (v .proc) (c .process)) ROOT 1 (names path) ≡ Reached at → InDirectory (v .tree) at
-  parent intent stays path at w = fit-at (in-directory Q (v .tree) (subjectOf (v .proc) (c .process)) intent stays (names path) (b .root)) at w
+  parent : (intent : Intent) → follows intent ≡ false → (path : List ℕ) (at : Location) → walk intent (v .tree) (K .policy) (subjectOf (v .proc) (c .process)) ROOT 1 (names path) ≡ Reached at → InDirectory (v .tree) at
+  parent intent stays path at w = fit-at (in-directory (K .policy) (v .tree) (subjectOf (v .proc) (c .process)) intent stays (names path) (b .root)) at w
 
-  open-fit : (at : Location) (m : OpenMode) → Opening Q v c at m → OpenFit Q v (c .process) (newest Q v c at m)
+  open-fit : (at : Location) (m : OpenMode) → Opening K v c at m → OpenFit (K .policy) v (c .process) (newest K v c at m)
   open-fit at m h = record { eight = ltb-true _ _ (h .fd-free); rights = h .allows .label }
 
   held-small : held (v .desc) (c .process) (c .fd) ≡ true → c .fd .0 < DESCRIPTORS
@@ -147,17 +148,17 @@ module _ (Q : List ℕ) (v : View) (b : Based v) (c : Call) where
   free-slot s = first-passes (slotFree (v .tree .file)) SLOTS (ltb-true _ _ s)
 
   -- one case a call
-  own-fit : (o : Operation) {n : ℕ} {out : Output} {e : Effect} → Passed Q v c o n out e → OutputFit v out × EffectFit Q v (c .process) e
+  own-fit : (o : Operation) {n : ℕ} {out : Output} {e : Effect} → Passed K v c o n out e → OutputFit v out × EffectFit (K .policy) v (c .process) e
   unfolding follows
   own-fit _ (passed.opens at m t k h q) = (silent, opened _ (open-fit at m h))
   own-fit _ (passed.opensTruncating at m t k h q) = (silent, truncates _ _ (open-fit at m h))
   own-fit _ (passed.creates o kind at bits k e h d s) = (silent, created _ _ _ (parent Create refl (c .path) at (h .walked)) (free-slot s))
-  own-fit _ (passed.unlinks at w p a) = (silent, unlinked _ _ (parent Find refl (c .path) at w))
-  own-fit _ (passed.removes at w d a z) = (silent, removed _ _ _ (parent Find refl (c .path) at w))
-  own-fit _ (passed.links old at w p h) = (silent, linked _ _ _ (parent Create refl (c .«data») at (h .walked)))
+  own-fit _ (passed.unlinks at w p a y) = (silent, unlinked _ _ (parent Find refl (c .path) at w))
+  own-fit _ (passed.removes at w d a y z) = (silent, removed _ _ _ (parent Find refl (c .path) at w))
+  own-fit _ (passed.links old at w p y h) = (silent, linked _ _ _ (parent Create refl (c .«data») at (h .walked)))
   own-fit _ (passed.lists at w d a i) = (listed _ _, nothing)
   own-fit _ (passed.listsPast at w d a i) = (silent, nothing)
-  own-fit _ (passed.changesBits at bits e w o l) = (silent, rebitted _ _)
+  own-fit _ (passed.changesBits at bits e w o y l) = (silent, rebitted _ _)
   own-fit _ (passed.describes at w) = (described _, nothing)
   own-fit _ (passed.closes h) = (silent, closed _ _ (held-small h))
   own-fit _ (passed.fetches h m) = (fetched _ _ _ (record { ofd = _; mode = m; names = refl }), shifted _ _)
@@ -171,8 +172,16 @@ module _ (Q : List ℕ) (v : View) (b : Based v) (c : Call) where
   own-fit _ (passed.symlinks at h s) = (silent, symlinked _ _ _ (parent Create refl (c .path) at (h .walked)) (free-slot s))
   own-fit _ (passed.readsLink at w l) = (texted _ _ _ l, nothing)
 
-  pub decide-fit : Fit (Grant Q v (c .process)) (decide Q v c)
+  grant : (n : ℕ) (o : Output) (e : Effect) → Permit K v c n o e → Grant (K .policy) v (c .process) n o e
   unfolding inUse
-  decide-fit = fit-map (λ n o e p.
-      let f : OutputFit v o × EffectFit Q v (c .process) e = own-fit (operation c) (p .passed) in
-      record { caller = record { small = ltb-true _ _ (test 0 _ (p .used)); used = eqb-true _ _ (test 1 _ (p .used)) }; output-fit = f .0; effect-fit = f .1 }) (permitted Q v c)
+  grant n o e p =
+      let f : OutputFit v o × EffectFit (K .policy) v (c .process) e = own-fit (operation c) (p .passed) in
+      record { caller = record { small = ltb-true _ _ (test 0 _ (p .used)); used = eqb-true _ _ (test 1 _ (p .used)) }; output-fit = f .0; effect-fit = f .1 }
+
+  pub decide-fit : Fit (Grant (K .policy) v (c .process)) (decide K v c)
+  decide-fit = fit-map grant (permitted K v c)
+
+-- ---- a borrowing read, as the read that it is
+
+pub borrow-fit : (K : Fixed) (v : View) → Based v → (p : Pid) (i : Fd) (n : ℕ) → Fit (Grant (K .policy) v p) (decideBorrow K v p i n)
+borrow-fit K v b p i n = fit-map (λ value o e h. grant K v b (readOf p i n) value o e (h .permit)) (borrow-permitted K v p i n)

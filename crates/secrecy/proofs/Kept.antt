@@ -3,22 +3,22 @@ use mathlib.Core.Path.{_≡_, refl, sym, ap, _∙_, subst}
 use mathlib.Core.Bool.{Bool, true, false, false≢true, cond}
 use mathlib.Core.List.{List, [], _∷_}
 use mathlib.Core.Logic.{_≢_}
-use Prim.Native.Nat.{ℕ, _/_, _%_, _≤_, _<_}
+use Prim.Native.Nat.{ℕ, _-_, _/_, _%_, _≤_, _<_}
 use native.Mathlib.Omega.{arith}
 use borrow.Author.Tests.{eqb-true}
 use lib.Dec.{eqb}
 use lib.ListN.{length, take, drop}
-use lib.Seq.{sets}
 use Rattle.rules.specs.Choice.{every, some, implies}
-use Rattle.rules.specs.Layout.{DESCRIPTORS, LABELS, FILE-WIDTH, FILE-KIND, FILE-BITS, FILE-LABEL, FILE-LENGTH, FILE-LINKS, FILE-VERSION, FREE, PLAIN, DIRECTORY, LINK, PROCESS-LABEL}
+use Rattle.rules.specs.Layout.{SLOTS, DESCRIPTORS, LABELS, FILE-WIDTH, FILE-KIND, FILE-BITS, FILE-LABEL, FILE-LENGTH, FILE-LINKS, FILE-VERSION, FREE, PLAIN, DIRECTORY, LINK, PROCESS-LABEL}
 use Rattle.rules.specs.Rights.{READ, READ-WRITE, WRITE, MODE-READ, MODE-BOTH, reads, stands, covers, labelGrants, modeRights, moved}
-use Rattle.rules.specs.Store.{Store, View, view, tab, block, slot, clearTo, fdOf}
+use Rattle.rules.specs.Store.{Store, Fixed, View, view, tab, isSlot, words, clearTo, fdOf}
+use Rattle.rules.specs.Rom.{seen, seenFile, prompt}
 use Rattle.rules.specs.Paths.{Name}
 use Rattle.rules.specs.Walk.{isDirectory, isLink}
 use Rattle.rules.specs.Calls.{Call}
 use Rattle.rules.specs.Checks.{slotFree, releasing, shareOf}
-use Rattle.rules.specs.Effects.{nameChanges, unnameChanges, createChanges, symlinkChanges, linkChanges, unnamedChanges, unlinkChanges, removeChanges, openChanges, truncateChanges, releaseChanges, closeChanges, storeChanges, duplicateChanges, shareChanges, shared, sharedAll, released, releasedAll, forkChanges, carryOut, dirWords, words}
-use Rattle.rules.specs.Step.{nameOut, bufferOut}
+use Rattle.rules.specs.Effects.{nameChanges, unnameChanges, createChanges, symlinkChanges, linkChanges, unnamedChanges, unlinkChanges, removeChanges, openChanges, truncateChanges, releaseChanges, closeChanges, storeChanges, duplicateChanges, shareChanges, shared, sharedAll, released, releasedAll, forkChanges, carryOut, dirWords}
+use Rattle.rules.specs.Step.{nameOut, bytesOf, bytesOut}
 use Rattle.rules.specs.declared.ids.Slot.{Slot}
 use Rattle.rules.specs.declared.ids.Pid.{Pid}
 use Rattle.rules.specs.declared.ids.Fd.{Fd}
@@ -37,6 +37,7 @@ use Rattle.rules.specs.declared.decision.Share.{Share}
 use Rattle.rules.specs.declared.decision.Share.the-variants as share
 use Rattle.rules.specs.declared.decision.Output.{Output}
 use Rattle.rules.specs.declared.decision.Effect.{Effect}
+use Rattle.rules.proofs.Seen.{seen-stored}
 use Rattle.secrecy.specs.Claim.{mayRead}
 use Rattle.secrecy.proofs.Tables.{OwnWord}
 use Rattle.secrecy.proofs.Agree.{agree-block}
@@ -112,72 +113,80 @@ module _ (reach : ℕ → Type 0) (f n : ℕ) where
 
 -- ---- what a granted call does keeps two stores related
 
-module _ (Q : List ℕ) (reach : ℕ → Type 0) (f n L : ℕ) (no-right : (l : ℕ) → reach l → mayRead Q l L ≡ false)
-    (closed-under : (l m : ℕ) → m < LABELS → reach l → reach (moved Q l m)) where
-  module _ (s s′ : Store) (a : Apart f n s s′) (z : Secret reach f n L s) (small : (t : ℕ) → tab FILE-WIDTH (s .files) t FILE-LABEL < LABELS) where
-    -- a slot of another kind is not f
-    other-kind : (t kind : ℕ) → eqb (view s .tree .file t FILE-KIND) kind ≡ true → kind ≢ PLAIN → t ≢ f
-    other-kind t kind d ne e = ne (sym (eqb-true _ _ d) ∙ ap (λ (x : ℕ). tab FILE-WIDTH (s .files) x FILE-KIND) e ∙ z .own .plain)
+module _ (K : Fixed) (reach : ℕ → Type 0) (f n L : ℕ) (no-right : (l : ℕ) → reach l → mayRead (K .policy) l L ≡ false)
+    (closed-under : (l m : ℕ) → m < LABELS → reach l → reach (moved (K .policy) l m)) where
+  module _ (s s′ : Store) (a : Apart f n s s′) (z : Secret reach f n L s) (small : (t : ℕ) → seenFile (tab FILE-WIDTH (s .files)) t FILE-LABEL < LABELS) where
+    -- what the call was decided on
+    abbrev v : View
+    v = seen (K .rom) (view s)
 
-    not-directory : (t : Slot) → isDirectory (view s .tree .file) t ≡ true → t .0 ≢ f
+    -- the file's own words are seen as they are stored
+    own-seen : (k t : ℕ) → t ≡ f → v .tree .file t k ≡ tab FILE-WIDTH (s .files) f k
+    own-seen k t e = ap (λ (x : ℕ). v .tree .file x k) e ∙ seen-stored (tab FILE-WIDTH (s .files)) f k (z .own .slot)
+
+    -- a slot of another kind is not f
+    other-kind : (t kind : ℕ) → eqb (v .tree .file t FILE-KIND) kind ≡ true → kind ≢ PLAIN → t ≢ f
+    other-kind t kind d ne e = ne (sym (eqb-true _ _ d) ∙ own-seen FILE-KIND t e ∙ z .own .plain)
+
+    not-directory : (t : Slot) → isDirectory (v .tree .file) t ≡ true → t .0 ≢ f
     not-directory t d = other-kind (t .0) DIRECTORY d (λ e. omega arith)
 
-    not-link : (t : Slot) → isLink (view s .tree .file) t ≡ true → t .0 ≢ f
+    not-link : (t : Slot) → isLink (v .tree .file) t ≡ true → t .0 ≢ f
     not-link t d = other-kind (t .0) LINK d (λ e. omega arith)
 
-    not-free : (t : ℕ) → slotFree (view s .tree .file) t ≡ true → t ≢ f
+    not-free : (t : ℕ) → slotFree (v .tree .file) t ≡ true → t ≢ f
     unfolding slotFree
     not-free t d = other-kind t FREE d (λ e. omega arith)
 
-    dir-keep : (d : DirChange) → isDirectory (view s .tree .file) (d .dir) ≡ true → KeepsAll reach f n L (dirWords d)
+    dir-keep : (d : DirChange) → isDirectory (v .tree .file) (d .dir) ≡ true → KeepsAll reach f n L (dirWords d)
     unfolding KeepsAll Keeps
     dir-keep d h = ((omega arith, λ e. absurd (not-directory (d .dir) h e)), ((omega arith, λ e. absurd (not-directory (d .dir) h e)), tt))
 
-    name-keep : (nm : Name) (t : Slot) (d : DirChange) → isDirectory (view s .tree .file) (d .dir) ≡ true → KeepsAll reach f n L (nameChanges nm t d)
+    name-keep : (nm : Name) (t : Slot) (d : DirChange) → isDirectory (v .tree .file) (d .dir) ≡ true → KeepsAll reach f n L (nameChanges nm t d)
     unfolding nameChanges KeepsAll Keeps
     name-keep nm t d h = (tt, dir-keep d h)
 
-    unname-keep : (d : DirChange) → isDirectory (view s .tree .file) (d .dir) ≡ true → KeepsAll reach f n L (unnameChanges d)
+    unname-keep : (d : DirChange) → isDirectory (v .tree .file) (d .dir) ≡ true → KeepsAll reach f n L (unnameChanges d)
     unfolding unnameChanges KeepsAll Keeps
     unname-keep d h = (tt, dir-keep d h)
 
     -- an open file that reads f needs a label that may
-    unreadable : (p : Pid) (w : NewOpen) → reach (view s .proc (p .0) PROCESS-LABEL) → OpenFit Q (view s) p w → reads (w .mode) ≡ true → w .slot .0 ≡ f → ⊥
+    unreadable : (p : Pid) (w : NewOpen) → reach (v .proc (p .0) PROCESS-LABEL) → OpenFit (K .policy) v p w → reads (w .mode) ≡ true → w .slot .0 ≡ f → ⊥
     unfolding labelGrants
     unreadable p w r o rd e =
-        let l : tab FILE-WIDTH (s .files) (w .slot .0) FILE-LABEL ≡ L = ap (λ (x : ℕ). tab FILE-WIDTH (s .files) x FILE-LABEL) e ∙ z .own .label in
+        let l : v .tree .file (w .slot .0) FILE-LABEL ≡ L = own-seen FILE-LABEL (w .slot .0) e ∙ z .own .label in
         false≢true (sym (no-right _ r) ∙ mode-asked (w .mode) _ rd (rw l at (o .rights)))
 
-    open-keep : (p : Pid) (w : NewOpen) → reach (view s .proc (p .0) PROCESS-LABEL) → OpenFit Q (view s) p w → KeepsAll reach f n L (openChanges p w)
+    open-keep : (p : Pid) (w : NewOpen) → reach (v .proc (p .0) PROCESS-LABEL) → OpenFit (K .policy) v p w → KeepsAll reach f n L (openChanges p w)
     unfolding openChanges KeepsAll Keeps
     open-keep p w r o = ((refl, unreadable p w r o), (o .eight, tt))
 
-    truncate-keep : (p : Pid) (w : NewOpen) (x : Record) → reach (view s .proc (p .0) PROCESS-LABEL) → OpenFit Q (view s) p w → KeepsAll reach f n L (truncateChanges p w x)
+    truncate-keep : (p : Pid) (w : NewOpen) (x : Record) → reach (v .proc (p .0) PROCESS-LABEL) → OpenFit (K .policy) v p w → KeepsAll reach f n L (truncateChanges p w x)
     unfolding truncateChanges
     truncate-keep p w x r o = append-keep reach f n L (openChanges p w) _ (open-keep p w r o) (clear-keep reach f n L (w .slot) x)
 
-    create-keep : (nm : Name) (d : DirChange) (t : Slot) (x : Record) → isDirectory (view s .tree .file) (d .dir) ≡ true → slotFree (view s .tree .file) (t .0) ≡ true → KeepsAll reach f n L (createChanges nm d t x)
+    create-keep : (nm : Name) (d : DirChange) (t : Slot) (x : Record) → isDirectory (v .tree .file) (d .dir) ≡ true → slotFree (v .tree .file) (t .0) ≡ true → KeepsAll reach f n L (createChanges nm d t x)
     unfolding createChanges KeepsAll Keeps
     create-keep nm d t x h g = ((refl, not-free (t .0) g), name-keep nm t d h)
 
-    symlink-keep : (nm : Name) (text : List ℕ) (d : DirChange) (t : Slot) (x : Record) → isDirectory (view s .tree .file) (d .dir) ≡ true → slotFree (view s .tree .file) (t .0) ≡ true → KeepsAll reach f n L (symlinkChanges nm text d t x)
+    symlink-keep : (nm : Name) (text : List ℕ) (d : DirChange) (t : Slot) (x : Record) → isDirectory (v .tree .file) (d .dir) ≡ true → slotFree (v .tree .file) (t .0) ≡ true → KeepsAll reach f n L (symlinkChanges nm text d t x)
     unfolding symlinkChanges KeepsAll Keeps
     symlink-keep nm text d t x h g = ((refl, not-free (t .0) g), (tt, name-keep nm t d h))
 
-    link-keep : (nm : Name) (d : DirChange) (t : Slot) (links : ℕ) → isDirectory (view s .tree .file) (d .dir) ≡ true → KeepsAll reach f n L (linkChanges nm d t links)
+    link-keep : (nm : Name) (d : DirChange) (t : Slot) (links : ℕ) → isDirectory (v .tree .file) (d .dir) ≡ true → KeepsAll reach f n L (linkChanges nm d t links)
     unfolding linkChanges KeepsAll Keeps
     link-keep nm d t links h = ((omega arith, λ _. word reach f n FILE-LINKS links (λ e. omega arith) (λ e. omega arith) (λ e. omega arith)), name-keep nm t d h)
 
-    unlink-keep : (d : DirChange) (u : Unnamed) → isDirectory (view s .tree .file) (d .dir) ≡ true → KeepsAll reach f n L (unlinkChanges d u)
+    unlink-keep : (d : DirChange) (u : Unnamed) → isDirectory (v .tree .file) (d .dir) ≡ true → KeepsAll reach f n L (unlinkChanges d u)
     unfolding unlinkChanges
     unlink-keep d u h = append-keep reach f n L (unnameChanges d) (unnamedChanges u) (unname-keep d h) (unnamed-keep reach f n L u)
 
-    remove-keep : (d : DirChange) (t : Slot) (x : Record) → isDirectory (view s .tree .file) (d .dir) ≡ true → KeepsAll reach f n L (removeChanges d t x)
+    remove-keep : (d : DirChange) (t : Slot) (x : Record) → isDirectory (v .tree .file) (d .dir) ≡ true → KeepsAll reach f n L (removeChanges d t x)
     unfolding removeChanges
     remove-keep d t x h = append-keep reach f n L (unnameChanges d) _ (unname-keep d h) (clear-keep reach f n L t x)
 
     -- a write never makes a file shorter
-    store-keep : (bs : List ℕ) (w : Placement) → view s .tree .file (w .slot .0) FILE-LENGTH ≤ w .length → KeepsAll reach f n L (storeChanges bs w)
+    store-keep : (bs : List ℕ) (w : Placement) → v .tree .file (w .slot .0) FILE-LENGTH ≤ w .length → KeepsAll reach f n L (storeChanges bs w)
     unfolding storeChanges KeepsAll Keeps
     store-keep bs w h = (
       tt,
@@ -186,7 +195,7 @@ module _ (Q : List ℕ) (reach : ℕ → Type 0) (f n L : ℕ) (no-right : (l : 
       where
         longer : w .slot .0 ≡ f → OwnWord n FILE-LENGTH (w .length)
         longer e =
-            let g : n ≤ tab FILE-WIDTH (s .files) (w .slot .0) FILE-LENGTH = subst (λ (x : ℕ). n ≤ tab FILE-WIDTH (s .files) x FILE-LENGTH) (sym e) (z .own .within) in
+            let g : n ≤ v .tree .file (w .slot .0) FILE-LENGTH = rw (own-seen FILE-LENGTH (w .slot .0) e) (z .own .within) in
             record { kind = λ q. omega arith; label = λ q. omega arith; length = λ _. omega arith }
 
     duplicate-keep : (p : Pid) (i : Fd) (e : Ofd) (refs : ℕ) → i .0 < DESCRIPTORS → KeepsAll reach f n L (duplicateChanges p i e refs)
@@ -197,7 +206,7 @@ module _ (Q : List ℕ) (reach : ℕ → Type 0) (f n L : ℕ) (no-right : (l : 
     unfolding forkChanges KeepsAll Keeps
     fork-keep q who r = ((refl, λ _. r), tt)
 
-    pub effect-keep : (c : Call) (e : Effect) → reach (view s .proc (c .process .0) PROCESS-LABEL) → EffectFit Q (view s) (c .process) e → Related reach f n L (carryOut c e s) (carryOut c e s′)
+    pub effect-keep : (c : Call) (e : Effect) → reach (v .proc (c .process .0) PROCESS-LABEL) → EffectFit (K .policy) v (c .process) e → Related reach f n L (carryOut c e s) (carryOut c e s′)
     unfolding carryOut KeepsAll Keeps
     effect-keep c _ r nothing = apart a z
     effect-keep c _ r (opened w o) = all-keep reach f n L _ s s′ (open-keep (c .process) w r o) (apart a z)
@@ -216,17 +225,18 @@ module _ (Q : List ℕ) (reach : ℕ → Type 0) (f n L : ℕ) (no-right : (l : 
     effect-keep c _ r (relabelled t label h) = all-keep reach f n L _ s s′ ((refl, subst reach h (closed-under _ _ (small t) r)), tt) (apart a z)
     effect-keep c _ r (symlinked d t x h g) = all-keep reach f n L _ s s′ (symlink-keep _ (c .«data») d t x h g) (apart a z)
 
-    bytes-same : (t : Slot) (from m : ℕ) → t .0 ≢ f → (buffer : List ℕ) → sets buffer 0 (take m (drop from (block (s .contents) (t .0)))) ≡ sets buffer 0 (take m (drop from (block (s′ .contents) (t .0))))
-    bytes-same t from m ne buffer = ap (λ (l : List ℕ). sets buffer 0 (take m (drop from l))) (agree-block f n (s .contents) (s′ .contents) (a .contents) (a .small) (t .0) ne)
+    -- the answer: only reads and a read link look at bytes, and not at those of f
+    bytes-of : (t : Slot) → t .0 ≢ f → bytesOf (K .rom) (s .contents) t ≡ bytesOf (K .rom) (s′ .contents) t
+    unfolding bytesOf
+    bytes-of t ne = ap (λ (l : List ℕ). cond (isSlot t) l (prompt (K .rom) (t .0 - SLOTS))) (agree-block f n (s .contents) (s′ .contents) (a .contents) (a .small) (t .0) ne)
 
-    -- the answer: only a read and a read link look at bytes, and not at those of f
-    pub buffer-same : (o : Output) → OutputFit (view s) o → (buffer : List ℕ) → bufferOut s o buffer ≡ bufferOut s′ o buffer
-    unfolding bufferOut
-    buffer-same _ silent buffer = refl
-    buffer-same _ (listed d i) buffer = refl
-    buffer-same _ (described x) buffer = refl
-    buffer-same _ (fetched t from m h) buffer = bytes-same t from m (λ e. z .unread (h .ofd .0) (h .mode) (h .names ∙ e)) buffer
-    buffer-same _ (texted t from m l) buffer = bytes-same t from m (not-link t l) buffer
+    pub bytes-same : (o : Output) → OutputFit v o → bytesOut (K .rom) (s .contents) o ≡ bytesOut (K .rom) (s′ .contents) o
+    unfolding bytesOut
+    bytes-same _ silent = refl
+    bytes-same _ (listed d i) = refl
+    bytes-same _ (described x) = refl
+    bytes-same _ (fetched t from m h) = ap (λ (l : List ℕ). take m (drop from l)) (bytes-of t (λ e. z .unread (h .ofd .0) (h .mode) (h .names ∙ e)))
+    bytes-same _ (texted t from m l) = ap (λ (l : List ℕ). take m (drop from l)) (bytes-of t (not-link t l))
 
-    pub name-same : (o : Output) → nameOut (view s .tree) o ≡ nameOut (view s′ .tree) o
-    name-same o = ap (λ (v : View). nameOut (v .tree) o) (view-same f n L s s′ a (z .own))
+    pub name-same : (o : Output) → nameOut (v .tree) o ≡ nameOut (seen (K .rom) (view s′) .tree) o
+    name-same o = ap (λ (u : View). nameOut (seen (K .rom) u .tree) o) (view-same f n L s s′ a (z .own))

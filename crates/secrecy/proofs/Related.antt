@@ -54,7 +54,7 @@ view-same f n L s s′ a o =
     let e : shownOf (s .files) (s .contents) ≡ shownOf (s′ .files) (s′ .contents)
     = shown-same f n (s .files) (s .contents) (s′ .contents) (a .contents) (a .small) (o .plain) (o .within) ∙ ap (λ (F : List ℕ). shownOf F (s′ .contents)) (a .files) in
     λ i. record {
-      tree = record { file = tab FILE-WIDTH (a .files i); shown = e i };
+      tree = record { file = tab FILE-WIDTH (a .files i); shown = e i; dirents = e i };
       openFiles = tab OPEN-FILE-WIDTH (a .openFiles i);
       proc = procOf (a .processes i);
       desc = descOf (a .processes i);

@@ -13,16 +13,15 @@ use Rattle.rules.specs.Choice.{every, some}
 use Rattle.rules.specs.Layout.{SLOTS, BLOCK, FILE-WIDTH, OPEN-FILES, OPEN-FILE-WIDTH, PROCESSES, LABELS, FILE-KIND, FILE-LABEL, FILE-LENGTH, PLAIN, NO-TRANSITION, OPEN-MODE}
 use Rattle.rules.specs.Rights.{transition, moved}
 use Rattle.rules.specs.Store.{Store, Fixed, view, tab, pidOf, ofdOf}
-use Rattle.rules.specs.Calls.{Call}
 use Rattle.rules.specs.Checks.{inUse, slotFree}
 use Rattle.rules.specs.Sound.{sound}
-use Rattle.rules.specs.Step.{Reply, step, answers, final}
+use Rattle.rules.specs.Step.{Reply, Action, serve, answers, final}
 use Rattle.secrecy.specs.Claim.{DifferInBytes, Reached, held, given, mayRead, OpenForReading, Supposed, freed, Claimed, Secrecy}
 use Rattle.secrecy.proofs.Agree.{agree-block, agree-rest, agree-of-blocks}
 use Rattle.secrecy.proofs.Tables.{Own, Unread, no-mode, Labels}
 use Rattle.secrecy.proofs.Related.{Apart, Related, apart, same}
 use Rattle.secrecy.proofs.Facts.{files-size, open-files-size, processes-size, plain-slot, plain-length}
-use Rattle.secrecy.proofs.Alike.{Alike, step-alike}
+use Rattle.secrecy.proofs.Alike.{Alike, serve-alike}
 
 -- ---- from what is supposed to the relation that the calls keep
 
@@ -55,7 +54,7 @@ start K f s s′ h =
     let slot : f < SLOTS = plain-slot K s (h .sound-one) f plain in
     apart (apart-of f s s′ (plain-length K s (h .sound-one) f plain) (h .differ))
     (record {
-      own = record { plain = plain; label = refl; within = omega arith; room = omega (arith, files-size K s (h .sound-one)) };
+      own = record { plain = plain; label = refl; within = omega arith; room = omega (arith, files-size K s (h .sound-one)); slot = slot };
       unread = unread-of K s f (h .sound-one) (h .not-open);
       labels = labels-of K s (h .sound-one);
     })
@@ -69,7 +68,7 @@ reach-closed Q s l m h r = go (eqb (transition Q l m) NO-TRANSITION) refl
     go true e = r
     go false e = given l m h (eqb-false _ _ e) r
 
--- ---- a list of calls
+-- ---- a list of calls and borrowing reads
 
 -- two stores that are apart differ in the file's bytes only
 pub differ-of : (f n L : ℕ) (s s′ : Store) → Apart f n s s′ → Own f n L (s .files) → DifferInBytes f s s′
@@ -94,31 +93,31 @@ last false e = e
 
 module _ (K : Fixed) (reach : ℕ → Type 0) (f n L : ℕ) (no-right : (l : ℕ) → reach l → mayRead (K .policy) l L ≡ false)
     (closed-under : (l m : ℕ) → m < LABELS → reach l → reach (moved (K .policy) l m)) where
-  from-equal : (cs : List Call) (s s′ : Store) → s ≡ s′ → Claimed K f s s′ cs
-  from-equal cs s s′ e = subst (λ (t : Store). Claimed K f s t cs) e (record { same-answers = refl; same-stores = inl refl; equal-once-freed = λ _. refl })
+  from-equal : (xs : List Action) (s s′ : Store) → s ≡ s′ → Claimed K f s s′ xs
+  from-equal xs s s′ e = subst (λ (t : Store). Claimed K f s t xs) e (record { same-answers = refl; same-stores = inl refl; equal-once-freed = λ _. refl })
 
-  run-alike : (cs : List Call) (s s′ : Store) → Related reach f n L s s′ → Claimed K f s s′ cs
+  run-alike : (xs : List Action) (s s′ : Store) → Related reach f n L s s′ → Claimed K f s s′ xs
   unfolding answers final freed some
   run-alike [] s s′ (same e) = from-equal [] s s′ e
   run-alike [] s s′ (apart a z) = record { same-answers = refl; same-stores = inr (differ-of f n L s s′ a (z .own)); equal-once-freed = λ b. absurd (false≢true b) }
-  run-alike (c ∷ cs) s s′ r =
-      let x : Alike reach f n L (step K s c) (step K s′ c) = step-alike K reach f n L no-right closed-under c s s′ r in
-      go x (run-alike cs (step K s c .store) (step K s′ c .store) (x .stores))
+  run-alike (x ∷ xs) s s′ r =
+      let w : Alike reach f n L (serve K s x) (serve K s′ x) = serve-alike K reach f n L no-right closed-under x s s′ r in
+      go w (run-alike xs (serve K s x .store) (serve K s′ x .store) (w .stores))
     where
-      go : Alike reach f n L (step K s c) (step K s′ c) → Claimed K f (step K s c .store) (step K s′ c .store) cs → Claimed K f s s′ (c ∷ cs)
-      go x o = record {
-        same-answers = ap₂ (λ (y : Reply) (ys : List Reply). y ∷ ys) (x .replies) (o .same-answers);
+      go : Alike reach f n L (serve K s x) (serve K s′ x) → Claimed K f (serve K s x .store) (serve K s′ x .store) xs → Claimed K f s s′ (x ∷ xs)
+      go w o = record {
+        same-answers = ap₂ (λ (y : Reply) (ys : List Reply). y ∷ ys) (w .replies) (o .same-answers);
         same-stores = o .same-stores;
-        equal-once-freed = once (x .stores);
+        equal-once-freed = once (w .stores);
       }
         where
-          once : Related reach f n L (step K s c .store) (step K s′ c .store)
-              → cond (slotFree (view (step K s c .store) .tree .file) f) true (cond (freed K f (step K s c .store) cs) true false) ≡ true
-              → final K (step K s c .store) cs ≡ final K (step K s′ c .store) cs
-          once (same e) b = ap (λ (t : Store). final K t cs) e
-          once (apart a z) b = o .equal-once-freed (last (freed K f (step K s c .store) cs) (rw (not-freed f n L (step K s c .store) (z .own)) at b))
+          once : Related reach f n L (serve K s x .store) (serve K s′ x .store)
+              → cond (slotFree (view (serve K s x .store) .tree .file) f) true (cond (freed K f (serve K s x .store) xs) true false) ≡ true
+              → final K (serve K s x .store) xs ≡ final K (serve K s′ x .store) xs
+          once (same e) b = ap (λ (t : Store). final K t xs) e
+          once (apart a z) b = o .equal-once-freed (last (freed K f (serve K s x .store) xs) (rw (not-freed f n L (serve K s x .store) (z .own)) at b))
 
 -- ---- demand 3
 
 pub secrecy : Secrecy
-secrecy K f s s′ h cs = run-alike K (Reached (K .policy) s) f (tab FILE-WIDTH (s .files) f FILE-LENGTH) (tab FILE-WIDTH (s .files) f FILE-LABEL) (h .no-reader) (reach-closed (K .policy) s) cs s s′ (start K f s s′ h)
+secrecy K f s s′ h xs = run-alike K (Reached (K .policy) s) f (tab FILE-WIDTH (s .files) f FILE-LENGTH) (tab FILE-WIDTH (s .files) f FILE-LABEL) (h .no-reader) (reach-closed (K .policy) s) xs s s′ (start K f s s′ h)

@@ -9,7 +9,7 @@ use native.Mathlib.Decide.{decLt, ℕ-discrete}
 use lib.ListN.{length, getD, set, length-set, List·getD-eq-default}
 use lib.Seq.{sets, length-sets, getD-set-same, getD-set-other}
 use Rattle.rules.specs.Choice.{some}
-use Rattle.rules.specs.Layout.{FILE-WIDTH, FILE-KIND, FILE-LABEL, FILE-LENGTH, PLAIN, OPEN-FILE-WIDTH, OPEN-SLOT, OPEN-MODE, PROCESSES, PROCESS-WIDTH, PROCESS-DESCRIPTOR, DESCRIPTORS, PROCESS-USED, PROCESS-LABEL}
+use Rattle.rules.specs.Layout.{SLOTS, FILE-WIDTH, FILE-KIND, FILE-LABEL, FILE-LENGTH, PLAIN, OPEN-FILE-WIDTH, OPEN-SLOT, OPEN-MODE, PROCESSES, PROCESS-WIDTH, PROCESS-DESCRIPTOR, DESCRIPTORS, PROCESS-USED, PROCESS-LABEL}
 use Rattle.rules.specs.Rights.{reads}
 use Rattle.rules.specs.Store.{tab, procOf, modeAt, puts, zeros}
 use Rattle.rules.proofs.Lists.{puts-sets, length-zeros}
@@ -22,6 +22,7 @@ pub record Own (f n L : ℕ) (F : List ℕ) : Type 0 where
   pub label : tab FILE-WIDTH F f FILE-LABEL ≡ L
   pub within : n ≤ tab FILE-WIDTH F f FILE-LENGTH
   pub room : FILE-WIDTH * f + FILE-WIDTH ≤ length F
+  pub slot : f < SLOTS
 
 -- a word of the file's own record that may be put anew
 pub record OwnWord (n k x : ℕ) : Type 0 where
@@ -38,6 +39,7 @@ own-word f n L F t k x h w o = record {
   label = word-other F t k x f FILE-LABEL h (omega arith) (λ e q. w e .label q) ∙ o .label;
   within = go (ℕ-discrete t f) (ℕ-discrete k FILE-LENGTH);
   room = rw length-set (o .room);
+  slot = o .slot;
 }
   where
     go : Dec (t ≡ f) → Dec (k ≡ FILE-LENGTH) → n ≤ getD (set F (FILE-WIDTH * t + k) x) (FILE-WIDTH * f + FILE-LENGTH) 0
@@ -61,6 +63,7 @@ own-record f n L F t ws w ne o = record {
   label = record-other F t f FILE-LABEL ws w ne (omega arith) ∙ o .label;
   within = rw (record-other F t f FILE-LENGTH ws w ne (omega arith)) (o .within);
   room = rw (puts-sets, length-sets) (o .room);
+  slot = o .slot;
 }
 
 -- ---- the open files: none that reads is on slot f

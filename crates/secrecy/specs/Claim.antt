@@ -1,5 +1,5 @@
--- Demand 3, stated: what it supposes where the list of calls starts, and what it claims of the list. `secrecy` of proofs/Secrecy.antt proves it.
--- What no call changes, K, stands beside the store: the policy is one and the same for both stores.
+-- Demand 3, stated: what it supposes where the list of calls and borrowing reads starts, and what it claims of the list. `secrecy` of proofs/Secrecy.antt
+-- proves it. What none of them changes, K, stands beside the store: policy and factory part are one and the same for both stores.
 use Prim.Native.Nat.{ℕ, _<_}
 use mathlib.Core.Path.{_≡_}
 use mathlib.Core.Bool.{Bool, true, false}
@@ -10,10 +10,9 @@ use Rattle.rules.specs.Choice.{some}
 use Rattle.rules.specs.Layout.{OPEN-FILES, LABELS, NO-TRANSITION, FILE-KIND, FILE-LABEL, FILE-LENGTH, PLAIN, OPEN-SLOT, OPEN-MODE}
 use Rattle.rules.specs.Rights.{READ, reads, covers, policyRights, transition}
 use Rattle.rules.specs.Store.{Store, Fixed, view, block, modeAt, subjectOf}
-use Rattle.rules.specs.Calls.{Call}
 use Rattle.rules.specs.Checks.{inUse, slotFree}
 use Rattle.rules.specs.Sound.{sound}
-use Rattle.rules.specs.Step.{step, answers, final}
+use Rattle.rules.specs.Step.{Action, serve, answers, final}
 use Rattle.rules.specs.declared.ids.Pid.{Pid}
 use Rattle.rules.specs.declared.ids.Ofd.{Ofd}
 
@@ -73,17 +72,18 @@ pub record Supposed (K : Fixed) (f : ℕ) (s s′ : Store) : Type 0 where
 -- ---- what is claimed of the list
 
 -- a call of the list has freed slot f. "The file is freed by the first call that frees its slot"
-unfoldable pub freed : Fixed → ℕ → Store → List Call → Bool
+unfoldable pub freed : Fixed → ℕ → Store → List Action → Bool
 freed K f s [] = false
-freed K f s (c ∷ cs) = some (slotFree (view (step K s c .store) .tree .file) f ∷ freed K f (step K s c .store) cs ∷ [])
+freed K f s (a ∷ xs) = some (slotFree (view (serve K s a .store) .tree .file) f ∷ freed K f (serve K s a .store) xs ∷ [])
 
 -- "a single claim about the list and not one for each call: all the answers in order, and both stores at the end"; "the stores are equal from
 -- then on, also where the slot is given out again": after every list in which the file is freed, whatever comes after that call
-pub record Claimed (K : Fixed) (f : ℕ) (s s′ : Store) (cs : List Call) : Type 0 where
-  pub same-answers : answers K s cs ≡ answers K s′ cs
-  pub same-stores : (final K s cs ≡ final K s′ cs) ⊎ DifferInBytes f (final K s cs) (final K s′ cs)
-  pub equal-once-freed : freed K f s cs ≡ true → final K s cs ≡ final K s′ cs
+pub record Claimed (K : Fixed) (f : ℕ) (s s′ : Store) (xs : List Action) : Type 0 where
+  pub same-answers : answers K s xs ≡ answers K s′ xs
+  pub same-stores : (final K s xs ≡ final K s′ xs) ⊎ DifferInBytes f (final K s xs) (final K s′ xs)
+  pub equal-once-freed : freed K f s xs ≡ true → final K s xs ≡ final K s′ xs
 
--- "Demand 3's list may hold any of the seventeen calls, in any order and by any processes, refused and unknown ones included": any list
+-- "Demand 3's list may hold any of the seventeen calls, in any order and by any processes, refused and unknown ones included", and borrowing reads: any list.
+-- The answer of a borrowing read has the bytes that it hands back, as a call's has its buffer
 abbrev pub Secrecy : Type 0
-Secrecy = (K : Fixed) (f : ℕ) (s s′ : Store) → Supposed K f s s′ → (cs : List Call) → Claimed K f s s′ cs
+Secrecy = (K : Fixed) (f : ℕ) (s s′ : Store) → Supposed K f s s′ → (xs : List Action) → Claimed K f s s′ xs

@@ -15,13 +15,13 @@ use Rattle.rules.specs.Layout.{SLOTS, BLOCK, FILE-WIDTH, OPEN-FILES, OPEN-FILE-
 use Rattle.rules.specs.Rights.{transition}
 use Rattle.rules.specs.Store.{view, tab, procOf, zeros, slot, pidOf}
 use Rattle.rules.specs.Directories.{dirent}
-use Rattle.rules.specs.Calls.{Call}
 use Rattle.rules.specs.Checks.{inUse}
 use Rattle.rules.specs.Sound.{sound}
+use Rattle.rules.specs.Step.{Action}
 use Rattle.rules.specs.Console.{FARES, NOW, KEY, filled, consoleContents, consoleWith, consoleFixed, consolePolicy}
 use Rattle.rules.specs.declared.ids.Pid.{Pid}
 use Rattle.rules.proofs.Scans.{all-at}
-use Rattle.cases.proofs.Quick.{sound-of}
+use Rattle.cases.proofs.Quick.{no-prompts, sound-of}
 use Rattle.cases.proofs.Cases.{policy-sound}
 use Rattle.secrecy.specs.Claim.{Reached, held, given, mayRead, OpenForReading, Supposed, Claimed}
 use Rattle.secrecy_cases.specs.Needed.{KEY-ONE, KEY-OTHER}
@@ -95,12 +95,12 @@ console-apart k k′ e e′ = record { files = refl; openFiles = refl; processes
 
 console-own : (k : List ℕ) → Own 3 4 3 (consoleWith k .files)
 unfolding computing
-console-own k = record { plain = refl; label = refl; within = omega arith; room = omega arith }
+console-own k = record { plain = refl; label = refl; within = omega arith; room = omega arith; slot = omega arith }
 
 sound-with : (k : List ℕ) → length k ≡ 4 → sound consoleFixed (consoleWith k) ≡ true
 sound-with k e =
     sym (sound-same consoleFixed 3 4 3 (consoleWith KEY-ONE) (consoleWith k) (console-apart KEY-ONE k refl e) (console-own KEY-ONE))
-    ∙ sound-of consoleFixed policy-sound (consoleWith KEY-ONE) key-one-sound
+    ∙ sound-of consoleFixed policy-sound no-prompts (consoleWith KEY-ONE) key-one-sound
 
 -- ---- who may read: the labels in use are 0, 1 and 2, there are no transitions, and none of the three has right 4 over label 3
 
@@ -177,9 +177,9 @@ console-supposed k k′ e e′ = record {
   not-open = nothing-open k;
 }
 
--- so the answers to no list of calls depend on the key
-pub console-secrecy : (k k′ : List ℕ) → length k ≡ 4 → length k′ ≡ 4 → (cs : List Call) → Claimed consoleFixed 3 (consoleWith k) (consoleWith k′) cs
-console-secrecy k k′ e e′ cs = secrecy consoleFixed 3 (consoleWith k) (consoleWith k′) (console-supposed k k′ e e′) cs
+-- so the answers to no list of calls and borrowing reads depend on the key
+pub console-secrecy : (k k′ : List ℕ) → length k ≡ 4 → length k′ ≡ 4 → (xs : List Action) → Claimed consoleFixed 3 (consoleWith k) (consoleWith k′) xs
+console-secrecy k k′ e e′ xs = secrecy consoleFixed 3 (consoleWith k) (consoleWith k′) (console-supposed k k′ e e′) xs
 
 -- two keys that differ in every byte
 pub keys-supposed : Supposed consoleFixed 3 (consoleWith KEY-ONE) (consoleWith KEY-OTHER)

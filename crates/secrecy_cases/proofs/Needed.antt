@@ -12,132 +12,153 @@ use Rattle.rules.specs.Scan.{all}
 use Rattle.rules.specs.Layout.{LABELS}
 use Rattle.rules.specs.Rights.{moved}
 use Rattle.rules.specs.Computing.{computing}
-use Rattle.rules.specs.Store.{Store, Fixed, fixed}
-use Rattle.rules.specs.Calls.{Call}
+use Rattle.rules.specs.Store.{Store, Fixed}
+use Rattle.rules.specs.Rom.{romSound}
 use Rattle.rules.specs.Sound.{sound, policySound}
 use Rattle.rules.specs.Refusals.{GRANTED, refusalNumber}
-use Rattle.rules.specs.Step.{Reply, Outcome, act, step, answers, refusedReply}
+use Rattle.rules.specs.Step.{Reply, Outcome, Action, serve, answers}
 use Rattle.rules.specs.Console.{consoleWith, console, consoleFixed}
-use Rattle.rules.specs.declared.refusal.Refusal.the-variants.{Unsound}
-use Rattle.cases.proofs.Quick.{quick, quickSound, sound-of, step-act}
+use Rattle.cases.proofs.Quick.{quick, quickSound, no-prompts, sound-of}
 use Rattle.cases.proofs.Cases.{policy-sound, console-sound}
 use Rattle.secrecy.specs.Claim.{mayRead, Claimed}
-use Rattle.secrecy_cases.specs.Needed.{KEY-ONE, KEY-OTHER, firstBytes, heldPolicy, heldCalls, reachedPolicy, reachedCalls, opened, openedCalls}
+use Rattle.secrecy.proofs.Alike.{attempt, unsound, serve-is}
+use Rattle.secrecy_cases.specs.Needed.{KEY-ONE, KEY-OTHER, firstBytes, heldPolicy, heldFixed, heldCalls, heldBorrows, reachedPolicy, reachedFixed, reachedCalls, opened, openedCalls}
 use Rattle.rules.proofs.Tests.{test, both}
 
--- ---- a run without the soundness test, and that test at each store that a call after the first finds
+-- ---- a run without the soundness test, and that test at each store that an action after the first finds
 
-unfoldable actAnswers : Fixed → Store → List Call → List Reply
+unfoldable actAnswers : Fixed → Store → List Action → List Reply
 actAnswers K s [] = []
-actAnswers K s (c ∷ cs) = let x = act K s c in x .reply ∷ actAnswers K (x .store) cs
+actAnswers K s (x ∷ xs) = let o = attempt K s x in o .reply ∷ actAnswers K (o .store) xs
 
-unfoldable soundAfter : Fixed → Store → List Call → Bool
+unfoldable soundAfter : Fixed → Store → List Action → Bool
 soundAfter K s [] = true
-soundAfter K s (c ∷ []) = true
-soundAfter K s (c ∷ d ∷ cs) = let t = act K s c .store in cond (quickSound t) (soundAfter K t (d ∷ cs)) false
+soundAfter K s (x ∷ []) = true
+soundAfter K s (x ∷ y ∷ xs) = let t = attempt K s x .store in cond (quickSound (K .rom) t) (soundAfter K t (y ∷ xs)) false
 
-answers-act : (K : Fixed) → policySound (K .policy) ≡ true → (cs : List Call) (s : Store) → quickSound s ≡ true → soundAfter K s cs ≡ true → answers K s cs ≡ actAnswers K s cs
-unfolding answers actAnswers soundAfter
-answers-act K policy [] s e h = refl
-answers-act K policy (c ∷ []) s e h = ap (λ (x : Outcome). x .reply ∷ []) (step-act K s c (sound-of K policy s e))
-answers-act K policy (c ∷ d ∷ cs) s e h =
-    let g : (quickSound (act K s c .store) ≡ true) × (soundAfter K (act K s c .store) (d ∷ cs) ≡ true) = both _ _ h in
-    ap (λ (x : Outcome). x .reply ∷ answers K (x .store) (d ∷ cs)) (step-act K s c (sound-of K policy s e))
-    ∙ ap (λ (rs : List Reply). act K s c .reply ∷ rs) (answers-act K policy (d ∷ cs) (act K s c .store) (g .0) (g .1))
+serve-act : (K : Fixed) (s : Store) (x : Action) → sound K s ≡ true → serve K s x ≡ attempt K s x
+serve-act K s x e = rw (serve-is K s x, e)
 
--- ---- a run whose calls are all granted needs no soundness test: an unsound store refuses
+module _ (K : Fixed) (policy : policySound (K .policy) ≡ true) (rom : romSound (K .rom) ≡ true) where
+  answers-act : (xs : List Action) (s : Store) → quickSound (K .rom) s ≡ true → soundAfter K s xs ≡ true → answers K s xs ≡ actAnswers K s xs
+  unfolding answers actAnswers soundAfter
+  answers-act [] s e h = refl
+  answers-act (x ∷ []) s e h = ap (λ (o : Outcome). o .reply ∷ []) (serve-act K s x (sound-of K policy rom s e))
+  answers-act (x ∷ y ∷ xs) s e h =
+      let g : (quickSound (K .rom) (attempt K s x .store) ≡ true) × (soundAfter K (attempt K s x .store) (y ∷ xs) ≡ true) = both _ _ h in
+      ap (λ (o : Outcome). o .reply ∷ answers K (o .store) (y ∷ xs)) (serve-act K s x (sound-of K policy rom s e))
+      ∙ ap (λ (rs : List Reply). attempt K s x .reply ∷ rs) (answers-act (y ∷ xs) (attempt K s x .store) (g .0) (g .1))
+
+-- ---- a run whose actions are all granted needs no soundness test: an unsound store refuses
 
 unfoldable allGranted : List Reply → Bool
 allGranted [] = true
 allGranted (r ∷ rs) = cond (eqb (r .refusal) GRANTED) (allGranted rs) false
 
-granted-act : (K : Fixed) (s : Store) (c : Call) → step K s c .reply .refusal ≡ GRANTED → step K s c ≡ act K s c
-unfolding step refusalNumber
-granted-act K s c h = go (sound K s) h
+granted-act : (K : Fixed) (s : Store) (x : Action) → serve K s x .reply .refusal ≡ GRANTED → serve K s x ≡ attempt K s x
+unfolding refusalNumber
+granted-act K s x h = serve-is K s x ∙ go (sound K s) (rw (serve-is K s x) at h)
   where
-    unsound : Outcome
-    unsound = record { reply = refusedReply Unsound 0 c; store = s }
-
-    go : (b : Bool) → cond b (act K s c) unsound .reply .refusal ≡ 0 → cond b (act K s c) unsound ≡ act K s c
+    go : (b : Bool) → cond b (attempt K s x) (unsound x s) .reply .refusal ≡ 0 → cond b (attempt K s x) (unsound x s) ≡ attempt K s x
     go true e = refl
     go false e = absurd (omega arith)
 
-granted-answers : (K : Fixed) (cs : List Call) (s : Store) → allGranted (answers K s cs) ≡ true → answers K s cs ≡ actAnswers K s cs
+granted-answers : (K : Fixed) (xs : List Action) (s : Store) → allGranted (answers K s xs) ≡ true → answers K s xs ≡ actAnswers K s xs
 unfolding answers actAnswers allGranted
 granted-answers K [] s h = refl
-granted-answers K (c ∷ cs) s h =
-    let g : (eqb (step K s c .reply .refusal) GRANTED ≡ true) × (allGranted (answers K (step K s c .store) cs) ≡ true) = both _ _ h in
-    let e : step K s c ≡ act K s c = granted-act K s c (eqb-true _ _ (g .0)) in
-    ap (λ (rs : List Reply). step K s c .reply ∷ rs) (granted-answers K cs (step K s c .store) (g .1))
-    ∙ ap (λ (x : Outcome). x .reply ∷ actAnswers K (x .store) cs) e
+granted-answers K (x ∷ xs) s h =
+    let g : (eqb (serve K s x .reply .refusal) GRANTED ≡ true) × (allGranted (answers K (serve K s x .store) xs) ≡ true) = both _ _ h in
+    let e : serve K s x ≡ attempt K s x = granted-act K s x (eqb-true _ _ (g .0)) in
+    ap (λ (rs : List Reply). serve K s x .reply ∷ rs) (granted-answers K xs (serve K s x .store) (g .1))
+    ∙ ap (λ (o : Outcome). o .reply ∷ actAnswers K (o .store) xs) e
 
--- ---- so the claim does not hold where one run, sound at each of its stores and granted, gives a byte and the other another
+-- ---- so the answers are not the same where one run, sound at each of its stores and granted, gives a byte and the other another
 
-different : (K : Fixed) (f : ℕ) (s s′ : Store) (cs : List Call) (k : ℕ) (xs ys : List ℕ)
-    → policySound (K .policy) ≡ true → quickSound s ≡ true → soundAfter K s cs ≡ true → allGranted (actAnswers K s cs) ≡ true
-    → firstBytes (actAnswers K s cs) ≡ xs → firstBytes (actAnswers K s′ cs) ≡ ys → (getD xs k 0 ≡ getD ys k 0 → ⊥) → Claimed K f s s′ cs → ⊥
-different K f s s′ cs k xs ys policy start along all p q ne c =
-    let one : answers K s cs ≡ actAnswers K s cs = answers-act K policy cs s start along in
-    let other : answers K s′ cs ≡ actAnswers K s′ cs = granted-answers K cs s′ (ap allGranted (sym (c .same-answers) ∙ one) ∙ all) in
-    ne (ap (λ (l : List ℕ). getD l k 0) (sym p ∙ ap firstBytes (sym one ∙ c .same-answers ∙ other) ∙ q))
+different : (K : Fixed) (s s′ : Store) (xs : List Action) (k : ℕ) (bs bs′ : List ℕ)
+    → policySound (K .policy) ≡ true → romSound (K .rom) ≡ true → quickSound (K .rom) s ≡ true → soundAfter K s xs ≡ true → allGranted (actAnswers K s xs) ≡ true
+    → firstBytes (actAnswers K s xs) ≡ bs → firstBytes (actAnswers K s′ xs) ≡ bs′ → (getD bs k 0 ≡ getD bs′ k 0 → ⊥) → answers K s xs ≡ answers K s′ xs → ⊥
+different K s s′ xs k bs bs′ policy rom start along all p q ne c =
+    let one : answers K s xs ≡ actAnswers K s xs = answers-act K policy rom xs s start along in
+    let other : answers K s′ xs ≡ actAnswers K s′ xs = granted-answers K xs s′ (ap allGranted (sym c ∙ one) ∙ all) in
+    ne (ap (λ (l : List ℕ). getD l k 0) (sym p ∙ ap firstBytes (sym one ∙ c ∙ other) ∙ q))
 
 policies-sound : every (policySound heldPolicy ∷ policySound reachedPolicy ∷ []) ≡ true
 unfolding computing heldPolicy reachedPolicy
 policies-sound = refl
 
 -- the cases' console has the first key
-pub key-one-sound : quickSound (consoleWith KEY-ONE) ≡ true
+pub key-one-sound : quickSound [] (consoleWith KEY-ONE) ≡ true
 unfolding console
 key-one-sound = console-sound
 
 -- ---- each run gives the first byte of the key
 
 -- a held label may read
-held-along : soundAfter (fixed heldPolicy) (consoleWith KEY-ONE) heldCalls ≡ true
+held-along : soundAfter heldFixed (consoleWith KEY-ONE) heldCalls ≡ true
 unfolding computing quick soundAfter heldPolicy
 held-along = refl
 
-held-granted : allGranted (actAnswers (fixed heldPolicy) (consoleWith KEY-ONE) heldCalls) ≡ true
+held-granted : allGranted (actAnswers heldFixed (consoleWith KEY-ONE) heldCalls) ≡ true
 unfolding computing actAnswers allGranted heldPolicy
 held-granted = refl
 
-held-one : firstBytes (actAnswers (fixed heldPolicy) (consoleWith KEY-ONE) heldCalls) ≡ 0 ∷ 1 ∷ []
+held-one : firstBytes (actAnswers heldFixed (consoleWith KEY-ONE) heldCalls) ≡ 0 ∷ 1 ∷ []
 unfolding computing actAnswers firstBytes heldPolicy
 held-one = refl
 
-held-other : firstBytes (actAnswers (fixed heldPolicy) (consoleWith KEY-OTHER) heldCalls) ≡ 0 ∷ 5 ∷ []
+held-other : firstBytes (actAnswers heldFixed (consoleWith KEY-OTHER) heldCalls) ≡ 0 ∷ 5 ∷ []
 unfolding computing actAnswers firstBytes heldPolicy
 held-other = refl
 
-pub held-needed : Claimed (fixed heldPolicy) 3 (consoleWith KEY-ONE) (consoleWith KEY-OTHER) heldCalls → ⊥
-held-needed = different (fixed heldPolicy) 3 (consoleWith KEY-ONE) (consoleWith KEY-OTHER) heldCalls 1 _ _ (test 0 _ policies-sound) key-one-sound held-along held-granted held-one held-other (λ e. omega arith)
+pub held-needed : Claimed heldFixed 3 (consoleWith KEY-ONE) (consoleWith KEY-OTHER) heldCalls → ⊥
+held-needed c = different heldFixed (consoleWith KEY-ONE) (consoleWith KEY-OTHER) heldCalls 1 _ _ (test 0 _ policies-sound) no-prompts key-one-sound held-along held-granted held-one held-other (λ e. omega arith) (c .same-answers)
+
+-- and borrow: the bytes that a borrowing read hands back are in its answer
+borrowed-along : soundAfter heldFixed (consoleWith KEY-ONE) heldBorrows ≡ true
+unfolding computing quick soundAfter heldPolicy
+borrowed-along = refl
+
+borrowed-granted : allGranted (actAnswers heldFixed (consoleWith KEY-ONE) heldBorrows) ≡ true
+unfolding computing actAnswers allGranted heldPolicy
+borrowed-granted = refl
+
+borrowed-one : firstBytes (actAnswers heldFixed (consoleWith KEY-ONE) heldBorrows) ≡ 0 ∷ 1 ∷ []
+unfolding computing actAnswers firstBytes heldPolicy
+borrowed-one = refl
+
+borrowed-other : firstBytes (actAnswers heldFixed (consoleWith KEY-OTHER) heldBorrows) ≡ 0 ∷ 5 ∷ []
+unfolding computing actAnswers firstBytes heldPolicy
+borrowed-other = refl
+
+pub borrowed-bytes-are-answers : answers heldFixed (consoleWith KEY-ONE) heldBorrows ≡ answers heldFixed (consoleWith KEY-OTHER) heldBorrows → ⊥
+borrowed-bytes-are-answers = different heldFixed (consoleWith KEY-ONE) (consoleWith KEY-OTHER) heldBorrows 1 _ _ (test 0 _ policies-sound) no-prompts key-one-sound borrowed-along borrowed-granted borrowed-one borrowed-other (λ e. omega arith)
 
 -- a label that two transitions give may read, and none that is held (0, 1, 2) or that one transition gives
 pub one-step-no-right : all (λ l. all (λ m. not (mayRead reachedPolicy (moved reachedPolicy l m) 3)) 0 LABELS) 0 3 ≡ true
 unfolding computing reachedPolicy
 one-step-no-right = refl
 
-reached-along : soundAfter (fixed reachedPolicy) (consoleWith KEY-ONE) reachedCalls ≡ true
+reached-along : soundAfter reachedFixed (consoleWith KEY-ONE) reachedCalls ≡ true
 unfolding computing quick soundAfter reachedPolicy
 reached-along = refl
 
-reached-granted : allGranted (actAnswers (fixed reachedPolicy) (consoleWith KEY-ONE) reachedCalls) ≡ true
+reached-granted : allGranted (actAnswers reachedFixed (consoleWith KEY-ONE) reachedCalls) ≡ true
 unfolding computing actAnswers allGranted reachedPolicy
 reached-granted = refl
 
-reached-one : firstBytes (actAnswers (fixed reachedPolicy) (consoleWith KEY-ONE) reachedCalls) ≡ 0 ∷ 0 ∷ 0 ∷ 1 ∷ []
+reached-one : firstBytes (actAnswers reachedFixed (consoleWith KEY-ONE) reachedCalls) ≡ 0 ∷ 0 ∷ 0 ∷ 1 ∷ []
 unfolding computing actAnswers firstBytes reachedPolicy
 reached-one = refl
 
-reached-other : firstBytes (actAnswers (fixed reachedPolicy) (consoleWith KEY-OTHER) reachedCalls) ≡ 0 ∷ 0 ∷ 0 ∷ 5 ∷ []
+reached-other : firstBytes (actAnswers reachedFixed (consoleWith KEY-OTHER) reachedCalls) ≡ 0 ∷ 0 ∷ 0 ∷ 5 ∷ []
 unfolding computing actAnswers firstBytes reachedPolicy
 reached-other = refl
 
-pub reached-needed : Claimed (fixed reachedPolicy) 3 (consoleWith KEY-ONE) (consoleWith KEY-OTHER) reachedCalls → ⊥
-reached-needed = different (fixed reachedPolicy) 3 (consoleWith KEY-ONE) (consoleWith KEY-OTHER) reachedCalls 3 _ _ (test 1 _ policies-sound) key-one-sound reached-along reached-granted reached-one reached-other (λ e. omega arith)
+pub reached-needed : Claimed reachedFixed 3 (consoleWith KEY-ONE) (consoleWith KEY-OTHER) reachedCalls → ⊥
+reached-needed c = different reachedFixed (consoleWith KEY-ONE) (consoleWith KEY-OTHER) reachedCalls 3 _ _ (test 1 _ policies-sound) no-prompts key-one-sound reached-along reached-granted reached-one reached-other (λ e. omega arith) (c .same-answers)
 
 -- the file is open in mode 1
-opened-sound : quickSound (opened 1 KEY-ONE) ≡ true
+opened-sound : quickSound [] (opened 1 KEY-ONE) ≡ true
 unfolding computing quick opened
 opened-sound = refl
 
@@ -158,10 +179,10 @@ unfolding computing actAnswers firstBytes opened
 opened-other = refl
 
 pub opened-needed : Claimed consoleFixed 3 (opened 1 KEY-ONE) (opened 1 KEY-OTHER) openedCalls → ⊥
-opened-needed = different consoleFixed 3 (opened 1 KEY-ONE) (opened 1 KEY-OTHER) openedCalls 0 _ _ policy-sound opened-sound opened-along opened-granted opened-one opened-other (λ e. omega arith)
+opened-needed c = different consoleFixed (opened 1 KEY-ONE) (opened 1 KEY-OTHER) openedCalls 0 _ _ policy-sound no-prompts opened-sound opened-along opened-granted opened-one opened-other (λ e. omega arith) (c .same-answers)
 
 -- and in mode 3
-mode-3-sound : quickSound (opened 3 KEY-ONE) ≡ true
+mode-3-sound : quickSound [] (opened 3 KEY-ONE) ≡ true
 unfolding computing quick opened
 mode-3-sound = refl
 
@@ -182,4 +203,4 @@ unfolding computing actAnswers firstBytes opened
 mode-3-other = refl
 
 pub mode-3-needed : Claimed consoleFixed 3 (opened 3 KEY-ONE) (opened 3 KEY-OTHER) openedCalls → ⊥
-mode-3-needed = different consoleFixed 3 (opened 3 KEY-ONE) (opened 3 KEY-OTHER) openedCalls 0 _ _ policy-sound mode-3-sound mode-3-along mode-3-granted mode-3-one mode-3-other (λ e. omega arith)
+mode-3-needed c = different consoleFixed (opened 3 KEY-ONE) (opened 3 KEY-OTHER) openedCalls 0 _ _ policy-sound no-prompts mode-3-sound mode-3-along mode-3-granted mode-3-one mode-3-other (λ e. omega arith) (c .same-answers)

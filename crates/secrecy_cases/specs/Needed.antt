@@ -1,12 +1,11 @@
--- That each supposition is needed: runs that leave one out, and whose answers give the file's bytes. The file is /key of the test console, slot 3, label 3.
+-- That each supposition is needed: runs that leave one out, and whose answers give the file's bytes, to a read and to a borrowing read. The file is /key of the test console, slot 3, label 3.
 use Prim.Native.Nat.{ℕ, _+_, _*_}
 use mathlib.Core.List.{List, [], _∷_, _++_}
 use lib.ListN.{getD, set}
 use Rattle.rules.specs.Layout.{SLASH, LABELS, RIGHTS-SIZE, OPEN-FILE-WIDTH, OPEN-FILES, PROCESS-WIDTH, PROCESS-DESCRIPTOR}
 use Rattle.rules.specs.Rights.{READ, MODE-READ}
-use Rattle.rules.specs.Store.{Store, store, pidOf, fdOf}
-use Rattle.rules.specs.Calls.{Call}
-use Rattle.rules.specs.Step.{Reply}
+use Rattle.rules.specs.Store.{Store, Fixed, fixed, store, pidOf, fdOf}
+use Rattle.rules.specs.Step.{Reply, Action, Calls, Borrows}
 use Rattle.rules.specs.Console.{FARES, NOW, KEY, filled, consoleWith, consolePolicy}
 
 -- two keys
@@ -24,17 +23,20 @@ keyPath = SLASH ∷ KEY
 abbrev pub nowPath : List ℕ
 nowPath = (SLASH ∷ FARES) ++ (SLASH ∷ NOW)
 
--- open /key for reading, execute /fares/now, read one byte by descriptor 0
-abbrev pub opensKey : ℕ → Call
-opensKey p = record { process = pidOf p; call = 1; fd = fdOf 0; number = MODE-READ .0; path = keyPath; «data» = []; buffer = [] }
+-- open /key for reading, execute /fares/now, read one byte by descriptor 0, borrow it
+abbrev pub opensKey : ℕ → Action
+opensKey p = Calls (record { process = pidOf p; call = 1; fd = fdOf 0; number = MODE-READ .0; path = keyPath; «data» = []; buffer = [] })
 
-abbrev pub executesNow : ℕ → Call
-executesNow p = record { process = pidOf p; call = 17; fd = fdOf 0; number = 0; path = nowPath; «data» = []; buffer = [] }
+abbrev pub executesNow : ℕ → Action
+executesNow p = Calls (record { process = pidOf p; call = 17; fd = fdOf 0; number = 0; path = nowPath; «data» = []; buffer = [] })
 
-abbrev pub readsByte : ℕ → Call
-readsByte p = record { process = pidOf p; call = 11; fd = fdOf 0; number = 0; path = []; «data» = []; buffer = 0 ∷ [] }
+abbrev pub readsByte : ℕ → Action
+readsByte p = Calls (record { process = pidOf p; call = 11; fd = fdOf 0; number = 0; path = []; «data» = []; buffer = 0 ∷ [] })
 
--- the first byte of each buffer afterwards, 0 where it is empty
+abbrev pub borrowsByte : ℕ → Action
+borrowsByte p = Borrows (pidOf p) (fdOf 0) 1
+
+-- the first byte of each buffer afterwards, or of what is handed back; 0 where there is none
 unfoldable pub firstBytes : List Reply → List ℕ
 firstBytes [] = []
 firstBytes (r ∷ rs) = getD (r .buffer) 0 0 ∷ firstBytes rs
@@ -53,8 +55,15 @@ withTransition Q l m label = set Q (RIGHTS-SIZE + (LABELS * l + m)) label
 unfoldable pub heldPolicy : List ℕ
 heldPolicy = withRights consolePolicy 1 3 (READ .0)
 
-abbrev pub heldCalls : List Call
+-- the factory part is empty, as the console's is
+abbrev pub heldFixed : Fixed
+heldFixed = fixed heldPolicy []
+
+abbrev pub heldCalls : List Action
 heldCalls = opensKey 1 ∷ readsByte 1 ∷ []
+
+abbrev pub heldBorrows : List Action
+heldBorrows = opensKey 1 ∷ borrowsByte 1 ∷ []
 
 -- ---- a label that two transitions give may read, and none that is held or that one transition gives: executing /fares/now, whose label is 0,
 -- takes label 1 to label 4, and that to label 5, which has right 4 over label 3
@@ -63,7 +72,10 @@ unfoldable pub reachedPolicy : List ℕ
 reachedPolicy =
     withTransition (withTransition (withRights (withRights (withRights consolePolicy 4 0 7) 5 0 7) 5 3 (READ .0)) 1 0 4) 4 0 5
 
-abbrev pub reachedCalls : List Call
+abbrev pub reachedFixed : Fixed
+reachedFixed = fixed reachedPolicy []
+
+abbrev pub reachedCalls : List Action
 reachedCalls = executesNow 1 ∷ executesNow 1 ∷ opensKey 1 ∷ readsByte 1 ∷ []
 
 -- ---- /key is open: descriptor 0 of process 2, whose label may not read it, holds open file 0
@@ -73,5 +85,5 @@ opened mode key =
     store (consoleWith key .files) (consoleWith key .contents) (filled (OPEN-FILES * OPEN-FILE-WIDTH) (3 ∷ mode ∷ 0 ∷ 1 ∷ []))
     (set (consoleWith key .processes) (PROCESS-WIDTH * 2 + PROCESS-DESCRIPTOR) 1)
 
-abbrev pub openedCalls : List Call
+abbrev pub openedCalls : List Action
 openedCalls = readsByte 2 ∷ []

@@ -5,37 +5,24 @@ use mathlib.Core.List.{List, []}
 use Prim.Native.Nat.{ℕ, zero, suc, _+_, _-_, _≤_, _<_}
 use native.Mathlib.Omega.{arith}
 use borrow.Author.Tests.{eqb-false}
+use mir.Syntax.{w32}
+use mir.Val.{Fits}
 use lib.Dec.{eqb}
 use lib.ListN.{getD}
 use Rattle.rules.specs.Choice.{some}
 use Rattle.rules.specs.Scan.{all}
-use Rattle.rules.specs.Layout.{SLOTS, NAME, NAMES, OPEN-FILES, FILE-LINKS}
+use Rattle.rules.specs.Layout.{SLOTS, PROMPTS, NAME, NAMES, OPEN-FILES, FILE-LINKS}
 use Rattle.rules.specs.Store.{Tree, Table}
 use Rattle.rules.specs.Paths.{sameAt, sameName}
 use Rattle.rules.specs.Directories.{isEmpty, isPadding}
-use Rattle.rules.specs.Sound.{differs, isNew, linksTo, linksSound, isParent, parentOf, climbs, directorySound, kindSound, slotSound, holders, openSound}
-use Rattle.rules.proofs.Scans.{all-yes, all-no, all-done, all-of}
+use Rattle.rules.specs.Rom.{promptCount}
+use Rattle.rules.specs.Sound.{differs, isNew, linksTo, linksSound, isParent, parentOf, climbs, directorySound, kindSound, slotSound, holders, openSound, openWithin, opensWithin}
+use Rattle.rules.proofs.Scans.{all-same, all-of}
 use Rattle.counts.specs.Counts.{SLOTS-AND-NONE, links, parents, held}
-use Rattle.soundness.specs.Counted.{otherThan, linksSoundBy, climbsBy, directorySoundBy, kindSoundBy, slotSoundBy, openSoundBy}
+use Rattle.soundness.specs.Counted.{otherThan, linksSoundBy, climbsBy, directorySoundBy, kindSoundBy, slotSoundBy, openSoundBy, openBelow}
 use Rattle.counts.proofs.Counting.{first-le}
+use Rattle.rom.proofs.Prompts.{count-most}
 use Rattle.counts.proofs.Counts.{links-at, parents-at, held-at}
-
--- two tests that agree on each number agree on all
-all-same-from : (p q : ℕ → Bool) (k i n : ℕ) → n - i ≡ k → ((j : ℕ) → j < n → p j ≡ q j) → all p i n ≡ all q i n
-all-same-from p q zero i n e h =
-    let a : n ≤ i = omega arith in
-    sym (all-done p i n refl a) ∙ all-done q i n refl a
-all-same-from p q (suc k) i n e h = by (q i) refl (all-same-from p q k (i + 1) n (omega arith) h)
-  where
-    inside : i < n
-    inside = omega arith
-
-    by : (b : Bool) → q i ≡ b → all p (i + 1) n ≡ all q (i + 1) n → all p i n ≡ all q i n
-    by true c rest = sym (all-yes p i n refl inside (h i inside ∙ c) refl) ∙ rest ∙ all-yes q i n refl inside c refl
-    by false c rest = sym (all-no p i n refl inside (h i inside ∙ c) refl) ∙ all-no q i n refl inside c refl
-
-pub all-same : (p q : ℕ → Bool) (n : ℕ) → ((j : ℕ) → j < n → p j ≡ q j) → all p 0 n ≡ all q 0 n
-all-same p q n h = all-same-from p q (n - 0) 0 n refl h
 
 climbs-by : (t : Tree) (n d : ℕ) → d < SLOTS-AND-NONE → climbsBy (parents t) n d ≡ climbs t n d
 unfolding climbsBy climbs
@@ -94,3 +81,13 @@ empty-new D i r q e = sym (all-of (differs D i) 0 i (λ j a b. rw (sym q ∙ e))
 pub named-new : (D : List ℕ) (i : ℕ) (r z : Bool) → r ≡ isEmpty D i → r ≡ false → z ≡ all (otherThan D i) 0 i → z ≡ isNew D i
 unfolding isNew differs otherThan some
 named-new D i r z q e v = v ∙ all-same (otherThan D i) (differs D i) i (λ j a. rw (sym q ∙ e))
+
+-- ---- the number after the last prompt's
+
+pub end-fits : (R : List ℕ) (z : ℕ) → z ≡ promptCount PROMPTS R → Fits w32 (SLOTS + z)
+end-fits R z e = record { fits = omega (arith, count-most PROMPTS R, e) }
+
+pub within-by : (R : List ℕ) (openFiles : Table) (end : ℕ) (r : Bool) → end ≡ SLOTS + promptCount PROMPTS R → r ≡ all (openBelow openFiles end) 0 OPEN-FILES
+    → r ≡ opensWithin R openFiles
+unfolding opensWithin openWithin openBelow
+within-by R openFiles end r a e = rw a at e

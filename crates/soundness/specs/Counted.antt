@@ -1,11 +1,12 @@
--- The rules' tests of a slot and of an open file, with the counted links L, parents P and holders H; and of an entry whose name is looked for.
+-- The rules' tests of a slot and of an open file, with the counted links L, parents P and holders H, and the number after the last prompt's; and of an
+-- entry whose name is looked for.
 use Prim.Native.Nat.{ℕ, zero, suc, _+_}
 use mathlib.Core.Bool.{Bool, true, cond, not}
 use mathlib.Core.List.{List, [], _∷_}
-use lib.Dec.{eqb}
+use lib.Dec.{eqb, ltb}
 use lib.ListN.{getD}
 use Rattle.rules.specs.Choice.{every, some}
-use Rattle.rules.specs.Layout.{NAMES, FILE-LENGTH, FILE-LINKS, OPEN-REFERENCES}
+use Rattle.rules.specs.Layout.{NAMES, FILE-LENGTH, FILE-LINKS, OPEN-SLOT, OPEN-REFERENCES}
 use Rattle.rules.specs.Store.{Tree, Table, slot}
 use Rattle.rules.specs.Paths.{sameName}
 use Rattle.rules.specs.Directories.{direntAt, isEmpty}
@@ -44,3 +45,7 @@ slotSoundBy t openFiles L P s = every (recordSound (t .file) s ∷ linksSoundBy 
 unfoldable pub openSoundBy : (file openFiles : Table) → List ℕ → ℕ → Bool
 openSoundBy file openFiles H e =
     every (eqb (openFiles e OPEN-REFERENCES) (getD H (e + 1) 0) ∷ cond (eqb (openFiles e OPEN-REFERENCES) 0) (openFree openFiles e) (openUsed file openFiles e) ∷ [])
+
+-- the file of open file e has a number below `end`
+unfoldable pub openBelow : (openFiles : Table) → (end : ℕ) → ℕ → Bool
+openBelow openFiles end e = ltb (openFiles e OPEN-SLOT) end

@@ -1,6 +1,6 @@
 // "Sound": the test that runs before every call, or once before a script's, of the store and of the policy apart.
 mod bytes;
-mod directories;
+mod dirents;
 mod fields;
 mod files;
 mod links;

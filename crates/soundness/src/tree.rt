@@ -8,7 +8,7 @@ ghost use Rattle.rules.specs.Layout.{FILE-WIDTH, FILE-LINKS, FILE-LENGTH};
 ghost use Rattle.rules.specs.Store.{tab, tree, shownOf, slot};
 ghost use Rattle.rules.specs.Sound.{direntsSound};
 ghost use Rattle.soundness.specs.Counted.{linksSoundBy, climbsBy, directorySoundBy};
-use crate::directories::dirents_sound;
+use crate::dirents::dirents_sound;
 use crate::fields::is_word;
 use rules::ids::Slot;
 use tables::files::length;

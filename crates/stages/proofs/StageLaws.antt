@@ -1,10 +1,12 @@
 -- The stages of a call, put together, are the rules' call.
 use mathlib.Core.Path.{_≡_, refl}
 use mathlib.Core.Bool.{Bool, true, false}
+use mathlib.Core.List.{List}
+use Prim.Native.Nat.{ℕ}
 use Rattle.rules.specs.Store.{Store, Fixed}
 use Rattle.rules.specs.Sound.{sound}
 use Rattle.rules.specs.Calls.{Call}
-use Rattle.rules.specs.Step.{replyTo, storeAfter, outcomeOf, act, step, answerOf}
+use Rattle.rules.specs.Step.{replyTo, storeAfter, outcomeOf, into, act, step, answerOf}
 use Rattle.rules.specs.declared.decision.Decision.{Decision}
 use Rattle.rules.specs.declared.decision.Decision.the-variants.{Refused, Granted}
 use Rattle.reply.specs.Answers.{said, saidOf}
@@ -19,7 +21,7 @@ step-judged K s c = by (sound K s) refl
     by true e = rw e
     by false e = rw e
 
-pub reply-answered : (s : Store) (c : Call) (d : Decision) → answeredBy s d (c .buffer) ≡ said (answerOf (outcomeOf s c d .reply)) (outcomeOf s c d .reply .buffer)
+pub reply-answered : (R : List ℕ) (s : Store) (c : Call) (d : Decision) → answeredBy R s d (c .buffer) ≡ said (answerOf (outcomeOf R s c (into (c .buffer)) d .reply)) (outcomeOf R s c (into (c .buffer)) d .reply .buffer)
 unfolding answeredBy saidOf outcomeOf replyTo
-reply-answered s c (Refused r k) = refl
-reply-answered s c (Granted n o e) = refl
+reply-answered R s c (Refused r k) = refl
+reply-answered R s c (Granted n o e) = refl

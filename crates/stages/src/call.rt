@@ -25,12 +25,13 @@ pub fn judge(
     open_files: &[u32],
     processes: &[u32],
     policy: &[u8],
+    rom: &[u8],
     c: Request,
     path: &[u8],
     data: &[u8],
     buffer: &[u8],
 ) -> Decision
-    ensures { λ r. ⌜ r ≡ judged fit (fixed (now (policy .entry))) (store (now (files .entry)) (now (contents .entry)) (now («open_files» .entry)) (now (processes .entry))) (callOf c (now (path .entry)) (now («data» .entry)) (now (buffer .entry))) ⌝ }
+    ensures { λ r. ⌜ r ≡ judged fit (fixed (now (policy .entry)) (now (rom .entry))) (store (now (files .entry)) (now (contents .entry)) (now («open_files» .entry)) (now (processes .entry))) (callOf c (now (path .entry)) (now («data» .entry)) (now (buffer .entry))) ⌝ }
 {
     if !fit {
         return Decision::Refused(Refusal::Unsound, 0);
@@ -41,6 +42,7 @@ pub fn judge(
         open_files,
         processes,
         policy,
+        rom,
         c,
         path,
         data,
@@ -49,15 +51,16 @@ pub fn judge(
 }
 
 // What is answered, and the reader's buffer.
-pub fn answer(
+pub fn answer<'a>(
     files: &[u32],
-    contents: &[u8],
+    contents: &'a [u8],
     open_files: &[u32],
     processes: &[u32],
+    rom: &'a [u8],
     buffer: &mut [u8],
     d: Decision,
 ) -> Answer
-    ensures { λ r. ⌜ said r (now (buffer .exit)) ≡ answeredBy (store (now (files .entry)) (now (contents .entry)) (now («open_files» .entry)) (now (processes .entry))) d (now (buffer .entry)) ⌝ }
+    ensures { λ r. ⌜ said r (now (buffer .exit)) ≡ answeredBy (now (rom .entry)) (store (now (files .entry)) (now (contents .entry)) (now («open_files» .entry)) (now (processes .entry))) d (now (buffer .entry)) ⌝ }
 {
     match d {
         Decision::Refused(why, stop) => refused_answer(why, stop),
@@ -66,6 +69,7 @@ pub fn answer(
             contents,
             open_files,
             processes,
+            rom,
             buffer,
             value,
             o,

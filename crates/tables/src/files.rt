@@ -2,7 +2,7 @@
 ghost use mathlib.Core.Path.{_≡_};
 ghost use lib.Dec.{eqb};
 ghost use Rattle.rules.specs.Layout.{FILE-WIDTH, FILE-KIND, FILE-OWNER, FILE-GROUP, FILE-BITS, FILE-LABEL, FILE-LENGTH, FILE-LINKS, FILE-VERSION, FREE, PLAIN, DIRECTORY, LINK};
-ghost use Rattle.rules.specs.Store.{tab, bitsAt, block, hidden, shownOf, recordOf, tree};
+ghost use Rattle.rules.specs.Store.{tab, bitsAt, block, hidden, shownOf, tree};
 ghost use Rattle.rules.specs.Walk.{linkText};
 use crate::layout::BLOCK;
 use crate::layout::DIRECTORY;
@@ -21,7 +21,6 @@ use crate::layout::PLAIN;
 use crate::parts::after;
 use crate::parts::upto;
 use crate::words::get;
-use rules::decision::Record;
 use rules::ids::Slot;
 use rules::rights::Bits;
 
@@ -71,21 +70,6 @@ pub fn version(files: &[u32], s: Slot) -> u32
     ensures { λ r. ⌜ r ≡ tab FILE-WIDTH (now (files .entry)) (s .0) FILE-VERSION ⌝ }
 {
     get(files, FILE_WIDTH * (s.0 as usize) + FILE_VERSION)
-}
-
-pub fn record(files: &[u32], s: Slot) -> Record
-    ensures { λ r. ⌜ r ≡ recordOf (tab FILE-WIDTH (now (files .entry))) s ⌝ }
-{
-    Record {
-        kind: kind(files, s),
-        owner: owner(files, s),
-        group: group(files, s),
-        bits: bits(files, s),
-        label: label(files, s),
-        length: length(files, s),
-        links: links(files, s),
-        version: version(files, s),
-    }
 }
 
 pub fn is_free(files: &[u32], s: Slot) -> bool

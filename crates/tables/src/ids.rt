@@ -1,8 +1,9 @@
 // Whether a number is that of one there is: a search gives the number past the last where it finds none.
 ghost use mathlib.Core.Path.{_≡_};
-ghost use Rattle.rules.specs.Store.{isSlot, isPid, isFd, isOfd, isDirent};
+ghost use Rattle.rules.specs.Store.{isSlot, isPid, isFd, isOfd, isDirent, isEntry};
 use crate::layout::DESCRIPTORS;
 use crate::layout::DIRENTS;
+use crate::layout::ENTRIES;
 use crate::layout::OPEN_FILES;
 use crate::layout::PROCESSES;
 use crate::layout::SLOTS;
@@ -40,4 +41,10 @@ pub fn is_dirent(i: Dirent) -> bool
     ensures { λ r. ⌜ r ≡ isDirent i ⌝ }
 {
     i.0 < DIRENTS
+}
+
+pub fn is_entry(i: Dirent) -> bool
+    ensures { λ r. ⌜ r ≡ isEntry i ⌝ }
+{
+    i.0 < ENTRIES
 }

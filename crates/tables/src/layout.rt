@@ -11,6 +11,14 @@ pub const DIRENTS: u32 = 16;
 
 pub const DIRENT_WIDTH: usize = 16;
 
+// The entries that lookups and lists go through: in the root one more, that of /rom.
+pub const ENTRIES: u32 = DIRENTS + 1;
+
+// Prompts of the factory part, which have the numbers from SLOTS on; and the number of their directory, /rom.
+pub const PROMPTS: u32 = 16;
+
+pub const ROM: u32 = SLOTS + PROMPTS;
+
 // Open files (the paper's open entries).
 pub const OPEN_FILES: u32 = 32;
 

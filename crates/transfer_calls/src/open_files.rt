@@ -1,7 +1,8 @@
 // What an open file is open for, and its file's length.
 ghost use mathlib.Core.Path.{_≡_};
-ghost use Rattle.rules.specs.Layout.{FILE-WIDTH, OPEN-FILE-WIDTH, FILE-LENGTH, OPEN-SLOT, OPEN-MODE};
+ghost use Rattle.rules.specs.Layout.{OPEN-FILE-WIDTH, FILE-LENGTH, OPEN-SLOT, OPEN-MODE};
 ghost use Rattle.rules.specs.Store.{tab, modeAt};
+ghost use Rattle.rules.specs.Rom.{filesIn};
 ghost use Rattle.rules.specs.Rights.{reads, writes, appends};
 use rules::ids::Ofd;
 use rules::rights::OpenMode;
@@ -53,7 +54,7 @@ pub fn open_appends(open_files: &[u32], e: Ofd) -> bool
 }
 
 pub fn open_length(files: &[u32], open_files: &[u32], e: Ofd) -> u32
-    ensures { λ r. ⌜ r ≡ tab FILE-WIDTH (now (files .entry)) (tab OPEN-FILE-WIDTH (now («open_files» .entry)) (e .0) OPEN-SLOT) FILE-LENGTH ⌝ }
+    ensures { λ r. ⌜ r ≡ filesIn (now (files .entry)) (tab OPEN-FILE-WIDTH (now («open_files» .entry)) (e .0) OPEN-SLOT) FILE-LENGTH ⌝ }
 {
-    tables::files::length(files, slot_of(open_files, e))
+    rom::seen::length(files, slot_of(open_files, e))
 }

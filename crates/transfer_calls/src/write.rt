@@ -3,8 +3,9 @@ ghost use mathlib.Core.Path.{_≡_};
 ghost use mathlib.Core.Bool.{cond};
 ghost use Prim.Native.Nat.{_+_, _%_, _^_};
 ghost use lib.Dec.{eqb, leb};
-ghost use Rattle.rules.specs.Layout.{FILE-WIDTH, OPEN-FILE-WIDTH, BLOCK};
+ghost use Rattle.rules.specs.Layout.{OPEN-FILE-WIDTH, BLOCK};
 ghost use Rattle.rules.specs.Store.{tab, descOf};
+ghost use Rattle.rules.specs.Rom.{filesIn};
 ghost use Rattle.rules.specs.Checks.{ofdHeld};
 ghost use Rattle.rules.specs.Decide.{writeAt, placement, writeFile, writeSome, writeOpen, decideWrite};
 ghost use Rattle.transfer_calls.specs.Stored.{stored};
@@ -13,6 +14,8 @@ use crate::open_files::open_length;
 use crate::open_files::open_writes;
 use allocation::held::is_held;
 use allocation::held::ofd_held;
+use rom::seen::length;
+use rom::seen::version;
 use rules::decision::Decision;
 use rules::decision::Effect;
 use rules::decision::Output;
@@ -22,8 +25,6 @@ use rules::ids::Ofd;
 use rules::ids::Pid;
 use rules::ids::Slot;
 use rules::refusal::Refusal;
-use tables::files::length;
-use tables::files::version;
 use tables::layout::BLOCK;
 use tables::numbers::add_length;
 use tables::numbers::larger;
@@ -35,7 +36,7 @@ use tables::open_files::slot_of;
 
 // Where a write through open file e begins.
 fn write_start(files: &[u32], open_files: &[u32], e: Ofd) -> u32
-    ensures { λ r. ⌜ r ≡ writeAt (tab FILE-WIDTH (now (files .entry))) (tab OPEN-FILE-WIDTH (now («open_files» .entry))) e ⌝ }
+    ensures { λ r. ⌜ r ≡ writeAt (filesIn (now (files .entry))) (tab OPEN-FILE-WIDTH (now («open_files» .entry))) e ⌝ }
 {
     if open_appends(open_files, e) {
         return open_length(files, open_files, e);
@@ -45,7 +46,7 @@ fn write_start(files: &[u32], open_files: &[u32], e: Ofd) -> u32
 
 // n bytes at `at`, through open file e on slot s.
 fn placement_of(files: &[u32], e: Ofd, s: Slot, at: u32, n: usize) -> Placement
-    ensures { λ r. ⌜ r ≡ placement (tab FILE-WIDTH (now (files .entry))) e s at n ⌝ }
+    ensures { λ r. ⌜ r ≡ placement (filesIn (now (files .entry))) e s at n ⌝ }
 {
     Placement {
         ofd: e,
@@ -60,7 +61,7 @@ fn placement_of(files: &[u32], e: Ofd, s: Slot, at: u32, n: usize) -> Placement
 }
 
 fn stored_at(files: &[u32], open_files: &[u32], e: Ofd, at: u32, n: usize) -> Decision
-    ensures { λ r. ⌜ r ≡ stored (tab FILE-WIDTH (now (files .entry))) (tab OPEN-FILE-WIDTH (now («open_files» .entry))) e at (n % 2 ^ 32) n ⌝ }
+    ensures { λ r. ⌜ r ≡ stored (filesIn (now (files .entry))) (tab OPEN-FILE-WIDTH (now («open_files» .entry))) e at (n % 2 ^ 32) n ⌝ }
 {
     Decision::Granted(
         word_of(n),
@@ -79,7 +80,7 @@ fn fits(at: u32, n: usize) -> bool
 }
 
 fn write_file(files: &[u32], open_files: &[u32], e: Ofd, at: u32, n: usize) -> Decision
-    ensures { λ r. ⌜ r ≡ writeFile (tab FILE-WIDTH (now (files .entry))) (tab OPEN-FILE-WIDTH (now («open_files» .entry))) e at n ⌝ }
+    ensures { λ r. ⌜ r ≡ writeFile (filesIn (now (files .entry))) (tab OPEN-FILE-WIDTH (now («open_files» .entry))) e at n ⌝ }
 {
     if !fits(at, n) {
         return Decision::Refused(Refusal::TooLong, 0);
@@ -88,13 +89,13 @@ fn write_file(files: &[u32], open_files: &[u32], e: Ofd, at: u32, n: usize) -> D
 }
 
 fn write_from_start(files: &[u32], open_files: &[u32], e: Ofd, n: usize) -> Decision
-    ensures { λ r. ⌜ r ≡ writeFile (tab FILE-WIDTH (now (files .entry))) (tab OPEN-FILE-WIDTH (now («open_files» .entry))) e (writeAt (tab FILE-WIDTH (now (files .entry))) (tab OPEN-FILE-WIDTH (now («open_files» .entry))) e) n ⌝ }
+    ensures { λ r. ⌜ r ≡ writeFile (filesIn (now (files .entry))) (tab OPEN-FILE-WIDTH (now («open_files» .entry))) e (writeAt (filesIn (now (files .entry))) (tab OPEN-FILE-WIDTH (now («open_files» .entry))) e) n ⌝ }
 {
     write_file(files, open_files, e, write_start(files, open_files, e), n)
 }
 
 fn write_some(files: &[u32], open_files: &[u32], e: Ofd, n: usize) -> Decision
-    ensures { λ r. ⌜ r ≡ writeSome (tab FILE-WIDTH (now (files .entry))) (tab OPEN-FILE-WIDTH (now («open_files» .entry))) e n ⌝ }
+    ensures { λ r. ⌜ r ≡ writeSome (filesIn (now (files .entry))) (tab OPEN-FILE-WIDTH (now («open_files» .entry))) e n ⌝ }
 {
     let none = n == 0;
     if none {
@@ -104,7 +105,7 @@ fn write_some(files: &[u32], open_files: &[u32], e: Ofd, n: usize) -> Decision
 }
 
 fn write_open(files: &[u32], open_files: &[u32], e: Ofd, n: usize) -> Decision
-    ensures { λ r. ⌜ r ≡ writeOpen (tab FILE-WIDTH (now (files .entry))) (tab OPEN-FILE-WIDTH (now («open_files» .entry))) e n ⌝ }
+    ensures { λ r. ⌜ r ≡ writeOpen (filesIn (now (files .entry))) (tab OPEN-FILE-WIDTH (now («open_files» .entry))) e n ⌝ }
 {
     if !open_writes(open_files, e) {
         return Decision::Refused(Refusal::WrongDirection, 0);
@@ -120,7 +121,7 @@ fn write_held(
     i: Fd,
     n: usize,
 ) -> Decision
-    ensures { λ r. ⌜ r ≡ writeOpen (tab FILE-WIDTH (now (files .entry))) (tab OPEN-FILE-WIDTH (now («open_files» .entry))) (ofdHeld (descOf (now (processes .entry))) p i) n ⌝ }
+    ensures { λ r. ⌜ r ≡ writeOpen (filesIn (now (files .entry))) (tab OPEN-FILE-WIDTH (now («open_files» .entry))) (ofdHeld (descOf (now (processes .entry))) p i) n ⌝ }
 {
     write_open(files, open_files, ofd_held(processes, p, i), n)
 }
@@ -133,7 +134,7 @@ pub fn decide_write(
     i: Fd,
     n: usize,
 ) -> Decision
-    ensures { λ r. ⌜ r ≡ decideWrite (tab FILE-WIDTH (now (files .entry))) (tab OPEN-FILE-WIDTH (now («open_files» .entry))) (descOf (now (processes .entry))) p i n ⌝ }
+    ensures { λ r. ⌜ r ≡ decideWrite (filesIn (now (files .entry))) (tab OPEN-FILE-WIDTH (now («open_files» .entry))) (descOf (now (processes .entry))) p i n ⌝ }
 {
     if !is_held(processes, p, i) {
         return Decision::Refused(Refusal::NotHeld, 0);

@@ -38,6 +38,7 @@ pub struct Console {
     pub open_files: Vec<u32>,
     pub processes: Vec<u32>,
     pub policy: Vec<u8>,
+    pub rom: Vec<u8>,
 }
 
 /// The numbers of a call, all 0 unless set.
@@ -61,6 +62,7 @@ impl Console {
             open_files: vec![0; 32 * 4],
             processes: vec![0; 8 * PROCESS_WIDTH],
             policy,
+            rom: vec![],
         };
         console.set_file(0, [DIRECTORY, 0, 1, 0o755, 0, 0, 0, 0]);
         console
@@ -186,6 +188,7 @@ impl Console {
             &self.open_files,
             &self.processes,
             &self.policy,
+            &self.rom,
         )
     }
 
@@ -197,6 +200,7 @@ impl Console {
             &mut self.open_files,
             &mut self.processes,
             &self.policy,
+            &self.rom,
             request,
             path,
             data,
@@ -204,13 +208,21 @@ impl Console {
         )
     }
 
-    fn raw_act(&mut self, request: Request, path: &[u8], data: &[u8], buffer: &mut [u8]) -> Answer {
+    /// The same with no test of soundness.
+    pub fn raw_act(
+        &mut self,
+        request: Request,
+        path: &[u8],
+        data: &[u8],
+        buffer: &mut [u8],
+    ) -> Answer {
         act(
             &mut self.files,
             &mut self.contents,
             &mut self.open_files,
             &mut self.processes,
             &self.policy,
+            &self.rom,
             request,
             path,
             data,

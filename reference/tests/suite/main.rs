@@ -1,6 +1,8 @@
 //! The store, tested through its public functions alone.
 
 mod bits;
+mod borrow_refusals;
+mod borrowing;
 mod classes;
 mod console;
 mod console_lines;
@@ -10,6 +12,13 @@ mod mistakes;
 mod path_calls;
 mod paths;
 mod process_calls;
+mod prompt_changes;
+mod prompt_labels;
+mod prompt_names;
+mod prompt_scripts;
+mod prompt_soundness;
+mod prompt_symlinks;
+mod prompts;
 mod random;
 mod refusal_order;
 mod refusals;

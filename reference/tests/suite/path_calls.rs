@@ -119,7 +119,8 @@ fn the_root_is_listed_without_searching_it() {
     console.set_bits(0, 0o744);
     assert_eq!(console.list(2, "/", 0), Ok(Some(b"fares".to_vec())));
     assert_eq!(console.list(2, "/", 1), Ok(Some(b"key".to_vec())));
-    assert_eq!(console.list(2, "/", 2), Ok(None));
+    assert_eq!(console.list(2, "/", 2), Ok(Some(b"rom".to_vec())));
+    assert_eq!(console.list(2, "/", 3), Ok(None));
     assert_eq!(console.list(2, "/fares", 0), Err((9, 1)));
     console.set_bits(0, 0o711);
     assert_eq!(console.list(2, "/", 0), Err((9, 0)));

@@ -1,9 +1,10 @@
 //! Many calls by chance: what holds of every call must hold of each of them.
 
 use crate::console::{Console, FILE_WIDTH, PROCESS_WIDTH, SLOTS};
+use crate::prompts::{rom, PROMPTS};
 use reference::Request;
 
-const NAMES: [&str; 5] = ["now", "key", "a", "b", "c"];
+const NAMES: [&str; 6] = ["now", "key", "a", "b", "c", "rom"];
 const MODES: [usize; 7] = [1, 2, 3, 4, 10, 11, 12];
 
 /// Numbers that look like chance and are the same each time.
@@ -32,8 +33,10 @@ impl Chance {
     }
 
     pub fn path(&mut self) -> String {
-        match self.below(24) {
+        match self.below(28) {
             0 => "/".into(),
+            24 => "/rom".into(),
+            25.. => format!("/rom/0{}", self.below(4)),
             1 => format!("/fares/{}/", self.name()),
             2..5 => "/fares".into(),
             5..7 => format!("/{}", self.name()),
@@ -73,12 +76,14 @@ fn sound_stores_stay_sound() {
     let mut chance = Chance(1);
     let mut refused = [0; 16];
     let mut granted = [0; 20];
+    let mut borrowed = 0;
     for round in 0..40 {
         let mut console = if round % 2 == 0 {
             Console::new()
         } else {
             Console::open_policy()
         };
+        console.rom = rom(&PROMPTS[..chance.below(4)]);
         console.policy[256..272].copy_from_slice(&[1; 16]);
         console.set_group(2, round % 3);
         for _ in 0..400 {
@@ -93,10 +98,24 @@ fn sound_stores_stay_sound() {
             if answer.refusal == 0 {
                 granted[usize::from(request.call)] += 1;
             }
+            borrowed += usize::from(borrows(&mut console, &mut chance));
         }
     }
     assert!(granted[1..].iter().all(|&count| count > 0), "{granted:?}");
     assert!(refused[2..].iter().all(|&count| count > 0), "{refused:?}");
+    assert!(borrowed > 100, "{borrowed}");
+}
+
+/// A borrowing read by chance, which `Console::borrow` checks; whether it was
+/// granted.
+fn borrows(console: &mut Console, chance: &mut Chance) -> bool {
+    let Request {
+        process,
+        descriptor,
+        ..
+    } = chance.request();
+    let count = chance.mostly_below(9, 600) as u32;
+    console.borrow(process, descriptor, count).is_ok()
 }
 
 /// Tables with a few words altered are judged without a panic, and a call on
@@ -107,6 +126,7 @@ fn damaged_tables_are_refused_and_left_alone() {
     let mut refused = 0;
     for _ in 0..4000 {
         let mut console = Console::open_policy();
+        console.rom = rom(&PROMPTS);
         for _ in 0..=chance.below(3) {
             damage(&mut console, &mut chance);
         }
@@ -119,6 +139,8 @@ fn damaged_tables_are_refused_and_left_alone() {
         if answer.refusal != 0 {
             assert_eq!(console, before);
         }
+        let (refusal, _) = console.raw_borrow(request.process, 0, 4);
+        assert_eq!(sound, refusal != 1);
         refused += usize::from(!sound);
     }
     assert!((100..4000).contains(&refused));
@@ -130,11 +152,12 @@ fn damage(console: &mut Console, chance: &mut Chance) {
         1 => 1 << chance.below(32),
         _ => chance.below(5) as u32,
     };
-    match chance.below(5) {
+    match chance.below(6) {
         0 => console.files[chance.below(SLOTS * FILE_WIDTH)] = word,
         1 => console.contents[chance.below(4 * 512)] = word as u8,
         2 => console.open_files[chance.below(32 * 4)] = word,
         3 => console.processes[chance.below(8 * PROCESS_WIDTH)] = word,
+        4 => console.rom[chance.below(25)] = word as u8,
         _ => console.policy[chance.below(512)] = word as u8,
     }
 }

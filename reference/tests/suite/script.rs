@@ -102,6 +102,7 @@ impl Console {
             &mut self.open_files,
             &mut self.processes,
             &self.policy,
+            &self.rom,
             script,
             allowance,
             output,

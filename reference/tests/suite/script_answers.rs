@@ -79,7 +79,8 @@ fn a_listed_name() {
     let list = |index| block(2, 7).path("/").number(index);
     assert_eq!(console.scripted(list(0)), lines(0, 1, b"fares"));
     assert_eq!(console.scripted(list(1)), lines(0, 1, b"key"));
-    assert_eq!(console.scripted(list(2)), lines(0, 0, b""));
+    assert_eq!(console.scripted(list(2)), lines(0, 1, b"rom"));
+    assert_eq!(console.scripted(list(3)), lines(0, 0, b""));
     assert_eq!(console.scripted(list(65_535)), lines(0, 0, b""));
 }
 

@@ -47,7 +47,7 @@ fn answer_lines(call: u8, answer: &Answer, buffer: &[u8]) -> String {
 /// A script by chance, with the answers and the store of the same calls made
 /// directly.
 fn chance_day(chance: &mut Chance) -> (Vec<Block>, String, Console) {
-    let mut console = Console::new();
+    let mut console = Console::talking();
     let (mut blocks, mut expected) = (Vec::new(), String::new());
     for _ in 0..100 {
         let mut request = chance.request();
@@ -70,12 +70,12 @@ fn a_script_gives_what_its_calls_give() {
     let mut chance = Chance(4);
     for _ in 0..60 {
         let (blocks, expected, store) = chance_day(&mut chance);
-        let mut console = Console::new();
+        let mut console = Console::talking();
         assert_eq!(console.answers(&blocks), expected);
         assert_eq!(console, store);
 
         let text = script(&blocks);
-        let mut console = Console::new();
+        let mut console = Console::talking();
         let (mut next, mut answers) = (0, String::new());
         while next < text.len() {
             let allowance = 1 + chance.below(9) as u32;
@@ -102,7 +102,7 @@ fn altered_scripts_run_up_to_the_altered_block() {
             let at = chance.below(text.len());
             altered[at] = chance.below(256) as u8;
             let before = blocks_before(&blocks, at);
-            let (done, answers) = Console::new().replay(&altered, 1000, 100_000);
+            let (done, answers) = Console::talking().replay(&altered, 1000, 100_000);
             assert!(done.calls as usize >= before);
             let same: String = expected.split_inclusive('\n').take(3 * before).collect();
             assert!(answers.starts_with(&same));

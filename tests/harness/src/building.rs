@@ -1,5 +1,6 @@
 //! Tables built by hand: an empty store, and names and texts with the counts that go with them.
 
+use crate::rom;
 use mritvelja::layout::*;
 use mritvelja::Tables;
 
@@ -30,6 +31,9 @@ pub fn set_text(tables: &mut Tables, slot: usize, text: &[u8]) {
     tables.block_mut(slot)[..text.len()].copy_from_slice(text);
 }
 
+/// Whether no other file can have the name there.
 pub fn has_name(tables: &Tables, directory: usize, name: &[u8]) -> bool {
-    (0..DIRENTS).any(|dirent| tables.dirent_name(directory, dirent) == name)
+    rom::shown(tables, directory).any(|(shown, _)| shown == name)
+        || (rom::is_stored(directory)
+            && (0..DIRENTS).any(|dirent| tables.dirent_name(directory, dirent) == name))
 }

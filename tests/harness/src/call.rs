@@ -4,8 +4,11 @@ use mritvelja::calls::*;
 use std::fmt;
 
 pub const CALLS: usize = 19;
+/// The row of a borrowing read in a table of counts, which is no call.
+pub const BORROW: usize = CALLS + 1;
+pub const ROWS: usize = BORROW + 1;
 
-const NAMES: [&str; CALLS + 1] = [
+const NAMES: [&str; ROWS] = [
     "unknown",
     "open",
     "create",
@@ -26,6 +29,7 @@ const NAMES: [&str; CALLS + 1] = [
     "execute",
     "symlink",
     "readlink",
+    "borrowing read",
 ];
 
 #[derive(Clone, Debug)]

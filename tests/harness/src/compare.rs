@@ -1,5 +1,6 @@
 //! Both programs on the same stores and calls, compared after each call.
 
+use crate::action::{Action, Borrow};
 use crate::call::Call;
 use crate::chance::Chance;
 use crate::defects::{self, Defect};
@@ -10,7 +11,8 @@ use crate::scripts::compare::Scripts;
 use crate::secrecy;
 use crate::sizes;
 use crate::tally::Tally;
-use mritvelja::layout::SLOTS;
+use mritvelja::calls::READ;
+use mritvelja::layout::{BLOCK, SLOTS};
 use mritvelja::{Answer, Tables};
 
 /// After so many differences the run ends: more would say the same.
@@ -48,9 +50,9 @@ impl Comparison {
     /// Makes so many calls, one in ten more on pairs of stores, and those of
     /// whole scripts. Answers whether there was no difference.
     pub fn run(&mut self, calls: u64) -> bool {
-        while self.tally.calls() < calls && self.differences() < MOST_DIFFERENCES {
+        while self.tally.answers.all() < calls && self.differences() < MOST_DIFFERENCES {
             self.run_store(calls);
-            if 10 * self.tally.pair_calls < self.tally.calls() {
+            if 10 * self.tally.pair_calls < self.tally.answers.all() {
                 self.run_pair();
             }
             self.run_scripts();
@@ -67,7 +69,7 @@ impl Comparison {
 
     /// As many scripts as go with the calls made.
     fn run_scripts(&mut self) {
-        while CALLS_A_SCRIPT * self.scripts.tally.scripts < self.tally.calls()
+        while CALLS_A_SCRIPT * self.scripts.tally.scripts < self.tally.answers.all()
             && self.differences() < MOST_DIFFERENCES
         {
             self.scripts.compare_one();
@@ -87,76 +89,120 @@ impl Comparison {
         self.reference.clone_from(&self.before);
         let mut maker = CallMaker::new(&self.before);
         for _ in 0..self.chance.between(20, 400) {
-            if self.tally.calls() >= calls || !self.step(&mut maker) {
+            if self.tally.answers.all() >= calls || !self.step(&mut maker) {
                 return;
             }
         }
     }
 
-    /// One call, or one on an unsound copy. False after a difference.
+    /// One action, or one on an unsound copy. False after a difference.
     fn step(&mut self, maker: &mut CallMaker) -> bool {
-        let call = maker.call(&mut self.chance, &self.before);
+        let action = maker.action(&mut self.chance, &self.before);
         if self.chance.one_in(50) {
-            return self.call_unsound(&call);
+            return self.try_unsound(&action);
         }
-        if self.chance.one_in(10) && !self.act(&call) {
+        let alike = match &action {
+            Action::Call(call) => !self.chance.one_in(10) || self.act(call),
+            Action::Borrow(borrow) => self.read_alike(borrow),
+        };
+        if !alike {
             return false;
         }
-        let Some(answer) = self.call_both(&call) else {
+        let Some(answer) = self.try_both(&action) else {
             return false;
         };
         if answer.refusal == 1 {
             let answers = Some((&answer, &answer));
-            self.report("a sound store became unsound", Some(&call), answers);
+            self.report("a sound store became unsound", Some(&action), answers);
             return false;
         }
         if answer.is_granted() {
             self.before.clone_from(&self.store);
-            if call.changes_names() {
+            if action.changes_names() {
                 maker.refresh(&self.before);
             }
         }
         true
     }
 
-    /// The call on both stores; no answer after a difference.
-    fn call_both(&mut self, call: &Call) -> Option<Answer> {
-        let (mut ours, mut theirs) = (call.buffer.clone(), call.buffer.clone());
-        let answer = store_call(&mut self.store, call, &mut ours);
-        let other = store_form(reference_call(&mut self.reference, call, &mut theirs));
-        self.tally.count(call.row(), answer.refusal);
-        self.tally.walks.count(&self.before, call, &answer);
-        self.judge("", call, [(&answer, &ours), (&other, &theirs)])
-            .then_some(answer)
+    /// The action on both stores; no answer after a difference.
+    fn try_both(&mut self, action: &Action) -> Option<Answer> {
+        let outcome = store_action(&mut self.store, action);
+        let other = reference_action(&mut self.reference, action);
+        self.tally
+            .answers
+            .count(action.row(), outcome.answer.refusal);
+        if !self.judge("", action, [&outcome, &other]) {
+            return None;
+        }
+        if let Action::Call(call) = action {
+            self.tally.walks.count(&self.before, call, &outcome.answer);
+        }
+        let tables = [&self.before, &self.store];
+        self.tally.prompts.count(tables, action, &outcome);
+        Some(outcome.answer)
     }
 
     /// The call without the soundness test, on the sound stores, which are put back.
     fn act(&mut self, call: &Call) -> bool {
         self.tally.acts += 1;
-        let (mut ours, mut theirs) = (call.buffer.clone(), call.buffer.clone());
-        let answer = store_act(&mut self.store, call, &mut ours);
-        let other = store_form(reference_act(&mut self.reference, call, &mut theirs));
-        let results = [(&answer, &ours), (&other, &theirs)];
-        let alike = self.judge("without the soundness test, ", call, results);
+        let ours = outcome(call, |buffer| store_act(&mut self.store, call, buffer));
+        let theirs = outcome(call, |buffer| {
+            store_form(reference_act(&mut self.reference, call, buffer))
+        });
+        let action = Action::Call(call.clone());
+        let alike = self.judge("without the soundness test, ", &action, [&ours, &theirs]);
         self.restore();
         alike
     }
 
-    /// Whether both programs left the same, and a refused call nothing.
-    fn judge(&mut self, how: &str, call: &Call, results: [(&Answer, &Vec<u8>); 2]) -> bool {
-        let [(answer, ours), (other, theirs)] = results;
-        let what = if answer != other {
+    /// Whether a read into a buffer of as many bytes comes to the same as the borrowing read; the stores are put back.
+    fn read_alike(&mut self, borrow: &Borrow) -> bool {
+        if borrow.count > BLOCK as u32 {
+            return true;
+        }
+        let read = Call {
+            process: borrow.process,
+            call: READ,
+            descriptor: borrow.descriptor,
+            number: 0,
+            path: Vec::new(),
+            data: Vec::new(),
+            buffer: vec![0; borrow.count as usize],
+        };
+        let action = Action::Borrow(*borrow);
+        let borrowed = store_action(&mut self.store, &action);
+        let copied = store_action(&mut self.reference, &Action::Call(read));
+        let bytes = &copied.bytes[..copied.answer.value as usize];
+        let alike = borrowed.answer == copied.answer
+            && borrowed.bytes == bytes
+            && self.store == self.reference;
+        if !alike {
+            let answers = Some((&borrowed.answer, &copied.answer));
+            self.report("a read of as many bytes differs", Some(&action), answers);
+        }
+        self.restore();
+        alike
+    }
+
+    /// Whether both programs left the same, and a refused action nothing.
+    fn judge(&mut self, how: &str, action: &Action, [ours, theirs]: [&Outcome; 2]) -> bool {
+        let refused = !ours.answer.is_granted();
+        let what = if ours.answer != theirs.answer {
             "the answers differ"
-        } else if ours != theirs {
-            "the buffers differ"
+        } else if ours.bytes != theirs.bytes {
+            "the bytes differ"
+        } else if ours.lent != theirs.lent {
+            "the bytes lie elsewhere"
         } else if self.store != self.reference {
             "the tables differ"
-        } else if !answer.is_granted() && (self.store != self.before || *ours != call.buffer) {
+        } else if refused && (self.store != self.before || ours.bytes != action.untouched()) {
             "a refused call changed something"
         } else {
             return true;
         };
-        self.report(&format!("{how}{what}"), Some(call), Some((answer, other)));
+        let answers = Some((&ours.answer, &theirs.answer));
+        self.report(&format!("{how}{what}"), Some(action), answers);
         false
     }
 
@@ -166,17 +212,17 @@ impl Comparison {
         self.reference.clone_from(&self.before);
     }
 
-    /// The call on a store with a defect, of another size or altered by chance.
-    fn call_unsound(&mut self, call: &Call) -> bool {
+    /// The action on a store with a defect, of another size or altered by chance.
+    fn try_unsound(&mut self, action: &Action) -> bool {
         let sound = self.before.clone();
         let what = self.spoil();
         self.restore();
         let judged = [store_sound(&self.before), reference_sound(&self.before)];
         let alike = match (judged, &what) {
-            ([false, false], _) => self.expect(call, |refusal| refusal == 1),
+            ([false, false], _) => self.expect(action, |refusal| refusal == 1),
             ([true, true], None) => {
                 self.tally.altered_sound += 1;
-                self.expect(call, |refusal| refusal != 1)
+                self.expect(action, |refusal| refusal != 1)
             }
             _ => {
                 let what = what.as_deref().unwrap_or("words altered by chance");
@@ -189,14 +235,14 @@ impl Comparison {
         alike
     }
 
-    /// The call on both stores, with a refusal that fits their soundness.
-    fn expect(&mut self, call: &Call, fits: impl Fn(u32) -> bool) -> bool {
-        let Some(answer) = self.call_both(call) else {
+    /// The action on both stores, with a refusal that fits their soundness.
+    fn expect(&mut self, action: &Action, fits: impl Fn(u32) -> bool) -> bool {
+        let Some(answer) = self.try_both(action) else {
             return false;
         };
         if !fits(answer.refusal) {
             let answers = Some((&answer, &answer));
-            self.report("refusal 1 and soundness do not fit", Some(call), answers);
+            self.report("refusal 1 and soundness do not fit", Some(action), answers);
         }
         fits(answer.refusal)
     }
@@ -239,25 +285,30 @@ impl Comparison {
         };
         self.tally.pairs += 1;
         self.tally.pairs_linked += u64::from(pair.has_links());
+        self.tally.pairs_prompted += u64::from(pair.has_prompts());
         for _ in 0..self.chance.between(10, 100) {
             self.tally.pair_calls += 1;
-            if let Err((what, call)) = pair.step(&mut self.chance) {
-                self.store.clone_from(&pair.one);
-                self.reference.clone_from(&pair.other);
-                let what = format!("secrecy of slot {}: {what}", pair.slot);
-                self.report(&what, Some(&call), None);
-                return;
+            match pair.step(&mut self.chance) {
+                Ok(Action::Borrow(_)) => self.tally.pair_borrows += 1,
+                Ok(Action::Call(_)) => {}
+                Err((what, action)) => {
+                    self.store.clone_from(&pair.one);
+                    self.reference.clone_from(&pair.other);
+                    let what = format!("secrecy of slot {}: {what}", pair.slot);
+                    self.report(&what, Some(&action), None);
+                    return;
+                }
             }
         }
         self.tally.pairs_freed += u64::from(pair.freed);
     }
 
-    fn report(&mut self, what: &str, call: Option<&Call>, answers: Option<(&Answer, &Answer)>) {
+    fn report(&mut self, what: &str, action: Option<&Action>, answers: Option<(&Answer, &Answer)>) {
         self.tally.differences += 1;
         println!("DIFFERENCE: {what}");
-        println!("  seed {}, call {}", self.seed, self.tally.calls());
-        if let Some(call) = call {
-            println!("  call: {call}");
+        println!("  seed {}, call {}", self.seed, self.tally.answers.all());
+        if let Some(action) = action {
+            println!("  call: {action}");
         }
         if let Some((store, reference)) = answers {
             println!("  store:     {store:?}\n  reference: {reference:?}");
@@ -275,13 +326,14 @@ fn alter(tables: &mut Tables, chance: &mut Chance) {
         let any = chance.word() as u32;
         let small = chance.below(20) as u32;
         let word = chance.pick(&[0, 1, 2, small, SLOTS as u32, 512, 1 << 31, u32::MAX, any]);
-        let table = chance.below(5);
+        let table = chance.below(if tables.rom.is_empty() { 5 } else { 6 });
         match table {
             0 => put(&mut tables.files, word, chance),
             1 => put(&mut tables.contents, word as u8, chance),
             2 => put(&mut tables.open_files, word, chance),
             3 => put(&mut tables.processes, word, chance),
-            _ => put(&mut tables.policy, word as u8, chance),
+            4 => put(&mut tables.policy, word as u8, chance),
+            _ => put(&mut tables.rom, word as u8, chance),
         }
     }
 }

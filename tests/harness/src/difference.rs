@@ -16,6 +16,7 @@ pub fn first_difference(one: &Tables, other: &Tables) -> Option<String> {
             differing_word("processes", ours, theirs, PROCESS_WIDTH)
         })
         .or_else(|| differing_word("policy", &one.policy, &other.policy, LABELS))
+        .or_else(|| differing_word("rom", &one.rom, &other.rom, BLOCK))
 }
 
 fn differing_word<T: PartialEq + std::fmt::Debug>(

@@ -1,12 +1,13 @@
 //! What the stores made by chance have: shows that the generator gets there.
 
+use crate::rom;
 use crate::tree::{self, Lost, Way};
 use mritvelja::layout::*;
 use mritvelja::Tables;
 
 type Test = fn(&Tables) -> bool;
 
-const FEATURES: [(&str, Test); 21] = [
+const FEATURES: [(&str, Test); 31] = [
     ("a directory 8 names deep", eight_deep),
     ("a directory with 16 names", full_directory),
     ("no free slot", no_free_slot),
@@ -28,6 +29,22 @@ const FEATURES: [(&str, Test); 21] = [
     ("links in a ring", ring),
     ("a link that leads nowhere", leads_nowhere),
     ("a link's text with a run of slashes", run_of_slashes),
+    ("a factory part of no bytes", |tables| tables.rom.is_empty()),
+    ("one prompt", |tables| {
+        rom::prompts(&tables.rom).count() == 1
+    }),
+    ("16 prompts", |tables| {
+        rom::prompts(&tables.rom).count() == PROMPTS
+    }),
+    ("a prompt of no bytes", |tables| prompt_of(tables, 0)),
+    ("a prompt of 512 bytes", |tables| prompt_of(tables, BLOCK)),
+    ("a prompt open", prompt_open),
+    ("a link to /rom", |tables| link_into_rom(tables, DIRECTORY)),
+    ("a link to a prompt", |tables| link_into_rom(tables, PLAIN)),
+    ("\"rom\" in another directory", rom_elsewhere),
+    ("16 names in the root", |tables| {
+        tables.file(ROOT)[FILE_LENGTH] == DIRENTS as u32
+    }),
 ];
 
 #[derive(Default)]
@@ -49,7 +66,7 @@ impl Features {
 }
 
 fn eight_deep(tables: &Tables) -> bool {
-    tree::nodes(tables)
+    tree::stored_nodes(tables)
         .iter()
         .any(|node| node.depth == NAMES && tables.is_kind(node.slot, DIRECTORY))
 }
@@ -71,7 +88,7 @@ fn some_link(
 
 fn link_to(tables: &Tables, kind: u32) -> bool {
     some_link(tables, FOLLOWS, |_, way| {
-        way.is_ok_and(|way| tables.is_kind(way.slot, kind))
+        way.is_ok_and(|way| rom::is_stored(way.slot) && tables.is_kind(way.slot, kind))
     })
 }
 
@@ -82,7 +99,7 @@ fn link_to_root(tables: &Tables) -> bool {
 }
 
 fn link_to_eight_deep(tables: &Tables) -> bool {
-    let nodes = tree::nodes(tables);
+    let nodes = tree::stored_nodes(tables);
     let deep = |slot| {
         let mut deep = nodes.iter().filter(|node| node.depth == NAMES);
         deep.any(|node| node.slot == slot) && tables.is_kind(slot, DIRECTORY)
@@ -175,4 +192,24 @@ fn owner_below_others(tables: &Tables) -> bool {
 
 fn group_below_others(tables: &Tables) -> bool {
     is_below_others(tables, 3)
+}
+
+fn prompt_of(tables: &Tables, length: usize) -> bool {
+    rom::prompts(&tables.rom).any(|prompt| prompt.len() == length)
+}
+
+fn prompt_open(tables: &Tables) -> bool {
+    let mut slots = (0..OPEN_FILES).map(|open_file| tables.open_file(open_file)[OPEN_SLOT]);
+    slots.any(|slot| !rom::is_stored(slot as usize))
+}
+
+fn link_into_rom(tables: &Tables, kind: u32) -> bool {
+    some_link(tables, FOLLOWS, |_, way| {
+        way.is_ok_and(|way| !rom::is_stored(way.slot) && rom::is_kind(tables, way.slot, kind))
+    })
+}
+
+fn rom_elsewhere(tables: &Tables) -> bool {
+    let below_root = |node: &tree::Node| node.depth > 1 && node.path.ends_with(b"/rom");
+    tree::nodes(tables).iter().any(below_root)
 }

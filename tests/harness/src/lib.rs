@@ -1,6 +1,8 @@
 //! What the comparison and the benchmark share: stores and calls by chance,
 //! defects, and the two programs behind one form of answer.
 
+pub mod action;
+pub mod answers;
 pub mod bench;
 pub mod building;
 pub mod call;
@@ -11,6 +13,8 @@ pub mod difference;
 pub mod features;
 pub mod generate;
 pub mod programs;
+pub mod prompts;
+pub mod rom;
 pub mod scripts;
 pub mod secrecy;
 pub mod sizes;

@@ -1,6 +1,7 @@
 //! The two programs, lent the same tables: the proved store and the second
 //! program, with one form of answer.
 
+use crate::action::{Action, Borrow};
 use crate::call::Call;
 use mritvelja::{Answer, Replayed, Request, Tables};
 
@@ -47,6 +48,7 @@ pub fn reference_call(tables: &mut Tables, call: &Call, buffer: &mut [u8]) -> re
         &mut tables.open_files,
         &mut tables.processes,
         &tables.policy,
+        &tables.rom,
         reference_request(call),
         &call.path,
         &call.data,
@@ -62,6 +64,7 @@ pub fn reference_act(tables: &mut Tables, call: &Call, buffer: &mut [u8]) -> ref
         &mut tables.open_files,
         &mut tables.processes,
         &tables.policy,
+        &tables.rom,
         reference_request(call),
         &call.path,
         &call.data,
@@ -77,6 +80,7 @@ pub fn reference_sound(tables: &Tables) -> bool {
         &tables.open_files,
         &tables.processes,
         &tables.policy,
+        &tables.rom,
     )
 }
 
@@ -93,6 +97,7 @@ pub fn reference_replay(
         &mut tables.open_files,
         &mut tables.processes,
         &tables.policy,
+        &tables.rom,
         script,
         allowance,
         output,
@@ -122,3 +127,114 @@ pub fn store_form(answer: reference::Answer) -> Answer {
         fields,
     }
 }
+
+/// A borrowing read's bytes, or why there are none.
+pub type Borrowed<'a> = Result<&'a [u8], u32>;
+
+/// A borrowing read on the proved store.
+pub fn store_borrow<'a>(tables: &'a mut Tables, borrow: &Borrow) -> Borrowed<'a> {
+    mritvelja::borrow_read(
+        &tables.files,
+        &tables.contents,
+        &mut tables.open_files,
+        &tables.processes,
+        &tables.policy,
+        &tables.rom,
+        borrow.process,
+        borrow.descriptor,
+        borrow.count,
+    )
+}
+
+/// A borrowing read on the second program.
+pub fn reference_borrow<'a>(tables: &'a mut Tables, borrow: &Borrow) -> Borrowed<'a> {
+    let mut refusal = 0;
+    let bytes = reference::borrow_read(
+        &tables.files,
+        &tables.contents,
+        &mut tables.open_files,
+        &tables.processes,
+        &tables.policy,
+        &tables.rom,
+        borrow.process,
+        borrow.descriptor,
+        borrow.count,
+        &mut refusal,
+    );
+    match refusal {
+        0 => Ok(bytes),
+        _ => Err(refusal),
+    }
+}
+
+/// What an action leaves beside the tables.
+#[derive(Clone, Debug, PartialEq, Eq)]
+pub struct Outcome {
+    /// Of a borrowing read the refusal, and as its value the number of bytes.
+    pub answer: Answer,
+    /// The buffer, or the bytes handed back.
+    pub bytes: Vec<u8>,
+    /// Where bytes that are handed back lie, if there are any: in the factory part or not, and at which byte.
+    pub lent: Option<(bool, usize)>,
+}
+
+/// A call or a borrowing read on the proved store.
+pub fn store_action(tables: &mut Tables, action: &Action) -> Outcome {
+    match action {
+        Action::Call(call) => outcome(call, |buffer| store_call(tables, call, buffer)),
+        Action::Borrow(borrow) => handed_back(tables, borrow, store_borrow),
+    }
+}
+
+/// A call or a borrowing read on the second program.
+pub fn reference_action(tables: &mut Tables, action: &Action) -> Outcome {
+    match action {
+        Action::Call(call) => outcome(call, |buffer| {
+            store_form(reference_call(tables, call, buffer))
+        }),
+        Action::Borrow(borrow) => handed_back(tables, borrow, reference_borrow),
+    }
+}
+
+pub fn outcome(call: &Call, make: impl FnOnce(&mut [u8]) -> Answer) -> Outcome {
+    let mut buffer = call.buffer.clone();
+    Outcome {
+        answer: make(&mut buffer),
+        bytes: buffer,
+        lent: None,
+    }
+}
+
+fn handed_back(
+    tables: &mut Tables,
+    borrow: &Borrow,
+    program: for<'a> fn(&'a mut Tables, &Borrow) -> Borrowed<'a>,
+) -> Outcome {
+    let memories = [&tables.contents, &tables.rom].map(|memory| memory.as_ptr_range());
+    let borrowed = program(tables, borrow);
+    let bytes = borrowed.unwrap_or(&[]);
+    let [contents, rom] = memories.map(|memory| {
+        let at = (bytes.as_ptr() as usize).checked_sub(memory.start as usize);
+        at.filter(|_| !bytes.is_empty() && bytes.as_ptr_range().end <= memory.end)
+    });
+    let lent = rom.map(|at| (true, at)).or(contents.map(|at| (false, at)));
+    Outcome {
+        answer: Answer {
+            refusal: borrowed.err().unwrap_or(0),
+            value: bytes.len() as u32,
+            ..NOTHING
+        },
+        bytes: bytes.to_vec(),
+        lent,
+    }
+}
+
+/// An answer without anything.
+const NOTHING: Answer = Answer {
+    refusal: 0,
+    stop: 0,
+    value: 0,
+    name_length: 0,
+    name: [0; 16],
+    fields: [0; 8],
+};

@@ -1,10 +1,11 @@
 //! Pairs of stores that differ in a secret: the bytes of a plain file that no
-//! label may read. The same calls on both must not tell them apart.
+//! label may read. The same calls and borrowing reads on both must not tell them
+//! apart; the factory part is the same.
 
-use crate::call::Call;
+use crate::action::Action;
 use crate::chance::Chance;
 use crate::generate::{random_store, CallMaker};
-use crate::programs::{store_call, store_sound};
+use crate::programs::{store_action, store_sound};
 use mritvelja::layout::*;
 use mritvelja::Tables;
 
@@ -45,27 +46,30 @@ impl Pair {
         (0..SLOTS).any(|slot| self.one.is_kind(slot, LINK))
     }
 
-    /// One call on both stores; an error says what told them apart.
-    pub fn step(&mut self, chance: &mut Chance) -> Result<(), (&'static str, Call)> {
-        let call = self.maker.call(chance, &self.one);
-        let (mut ours, mut theirs) = (call.buffer.clone(), call.buffer.clone());
-        let answer = store_call(&mut self.one, &call, &mut ours);
-        let other = store_call(&mut self.other, &call, &mut theirs);
-        if answer != other {
-            return Err(("the answers differ", call));
+    pub fn has_prompts(&self) -> bool {
+        !self.one.rom.is_empty()
+    }
+
+    /// One action on both stores, which is answered; an error says what told them apart.
+    pub fn step(&mut self, chance: &mut Chance) -> Result<Action, (&'static str, Action)> {
+        let action = self.maker.action(chance, &self.one);
+        let outcome = store_action(&mut self.one, &action);
+        let other = store_action(&mut self.other, &action);
+        if outcome.answer != other.answer {
+            return Err(("the answers differ", action));
         }
-        if ours != theirs {
-            return Err(("the buffers differ", call));
+        if outcome != other {
+            return Err(("the bytes differ", action));
         }
         // A slot that is given out again is no secret any more.
         self.freed |= self.one.is_kind(self.slot, FREE);
         if !self.alike() {
-            return Err(("the stores differ in more than the secret", call));
+            return Err(("the stores differ in more than the secret", action));
         }
-        if call.changes_names() {
+        if action.changes_names() {
             self.maker.refresh(&self.one);
         }
-        Ok(())
+        Ok(action)
     }
 
     /// Equal but for the secret; once freed, equal altogether.
@@ -81,6 +85,7 @@ impl Pair {
             && one.open_files == other.open_files
             && one.processes == other.processes
             && one.policy == other.policy
+            && one.rom == other.rom
             && one.contents[..secret.start] == other.contents[..secret.start]
             && one.contents[secret.end..] == other.contents[secret.end..]
     }

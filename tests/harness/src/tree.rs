@@ -1,5 +1,6 @@
 //! Every name in a store, with its path from the root, and where paths lead.
 
+use crate::rom;
 use mritvelja::layout::*;
 use mritvelja::Tables;
 
@@ -16,7 +17,7 @@ pub struct Node {
     pub target: usize,
 }
 
-/// All names of a sound store and the root, each directory before what it holds.
+/// All names that calls see in a sound store and the root, each directory before what it holds.
 pub fn nodes(tables: &Tables) -> Vec<Node> {
     let mut nodes = vec![Node {
         slot: 0,
@@ -29,25 +30,40 @@ pub fn nodes(tables: &Tables) -> Vec<Node> {
     while next < nodes.len() {
         let node = nodes[next].clone();
         next += 1;
-        if !tables.is_kind(node.slot, DIRECTORY) {
-            continue;
-        }
-        for dirent in 0..DIRENTS {
-            if tables.dirent_slot(node.slot, dirent) != 0 {
-                nodes.push(below(tables, &node, dirent));
-            }
+        for (name, slot) in entries(tables, node.slot) {
+            nodes.push(below(tables, &node, name, slot));
         }
     }
     nodes[0].path = b"/".to_vec();
     nodes
 }
 
-fn below(tables: &Tables, node: &Node, dirent: usize) -> Node {
+/// The same without /rom and what is in it.
+pub fn stored_nodes(tables: &Tables) -> Vec<Node> {
+    let mut nodes = nodes(tables);
+    nodes.retain(|node| rom::is_stored(node.slot));
+    nodes
+}
+
+/// The names in a directory, each with the slot that it leads to; none in another file.
+fn entries(tables: &Tables, slot: usize) -> impl Iterator<Item = (&[u8], usize)> {
+    let is_stored = rom::is_stored(slot) && tables.is_kind(slot, DIRECTORY);
+    let stored = (0..if is_stored { DIRENTS } else { 0 })
+        .map(move |dirent| {
+            (
+                tables.dirent_name(slot, dirent),
+                tables.dirent_slot(slot, dirent),
+            )
+        })
+        .filter(|&(_, named)| named != 0);
+    stored.chain(rom::shown(tables, slot))
+}
+
+fn below(tables: &Tables, node: &Node, name: &[u8], slot: usize) -> Node {
     let mut path = node.path.clone();
     path.push(b'/');
-    path.extend(tables.dirent_name(node.slot, dirent));
-    let slot = tables.dirent_slot(node.slot, dirent);
-    let target = match tables.is_kind(slot, LINK) {
+    path.extend(name);
+    let target = match rom::is_kind(tables, slot, LINK) {
         true => way(tables, &path, FOLLOWS).map_or(slot, |way| way.slot),
         false => slot,
     };
@@ -89,7 +105,7 @@ fn walk(tables: &Tables, path: &[u8], left: &mut usize) -> Result<usize, Lost> {
     let mut at = ROOT;
     for name in names(path) {
         let slot = look_up(tables, at, name).ok_or(Lost::Missing)?;
-        at = if tables.is_kind(slot, LINK) {
+        at = if rom::is_kind(tables, slot, LINK) {
             *left = left.checked_sub(1).ok_or(Lost::TooManyFollows)?;
             walk(tables, tables.bytes(slot), left)?
         } else {
@@ -106,11 +122,6 @@ pub fn names(path: &[u8]) -> impl Iterator<Item = &[u8]> {
 }
 
 fn look_up(tables: &Tables, directory: usize, name: &[u8]) -> Option<usize> {
-    let fits = |&dirent: &usize| {
-        tables.dirent_slot(directory, dirent) != 0 && tables.dirent_name(directory, dirent) == name
-    };
-    let dirent = (0..DIRENTS)
-        .filter(|_| tables.is_kind(directory, DIRECTORY))
-        .find(fits)?;
-    Some(tables.dirent_slot(directory, dirent))
+    let mut entries = entries(tables, directory);
+    entries.find(|entry| entry.0 == name).map(|entry| entry.1)
 }

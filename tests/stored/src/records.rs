@@ -13,10 +13,14 @@ pub const ROOM: [usize; 5] = {
         policy + 1,
     ]
 };
+/// Room for the factory part.
+pub const ROM_ROOM: usize = 9_216;
 pub const BUFFER: usize = 1024;
 pub const BUFFER_BYTE: u8 = 170;
 const CALL: u8 = 6;
 const CLEAR: u8 = 7;
+const ROM: u8 = 8;
+const BORROW: u8 = 9;
 /// Runs of equal words no longer than this are written with their neighbours.
 const GAP: usize = 6;
 const LONGEST: usize = 16_000;
@@ -53,11 +57,28 @@ pub fn call(numbers: [u8; 3], number: u16, path: &[u8], data: &[u8], buffer: usi
     record(CALL, &bytes)
 }
 
+/// The factory part, whole.
+pub fn rom(bytes: &[u8]) -> Vec<u8> {
+    record(ROM, bytes)
+}
+
+pub fn borrow(process: u8, descriptor: u8, count: u32) -> Vec<u8> {
+    record(
+        BORROW,
+        &[&[process, descriptor], &count.to_le_bytes()[..]].concat(),
+    )
+}
+
 /// The records that turn one state of the tables into another.
 pub fn changes(from: &Tables, to: &Tables) -> Vec<u8> {
     let word = |word: &u32| word.to_le_bytes().to_vec();
     let byte = |byte: &u8| vec![*byte];
+    let part = match from.rom == to.rom {
+        true => Vec::new(),
+        false => rom(&to.rom),
+    };
     [
+        part,
         patches(1, &from.files, &to.files, word),
         patches(2, &from.contents, &to.contents, byte),
         patches(3, &from.open_files, &to.open_files, word),

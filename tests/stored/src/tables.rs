@@ -17,7 +17,7 @@ pub const SIZES: [usize; 5] = [
     POLICY_SIZE,
 ];
 
-/// Tables of 0 alone, in which the policy gives no right.
+/// Tables of 0 alone, in which the policy gives no right, and no prompts.
 pub fn zero([files, contents, open_files, processes, policy]: [usize; 5]) -> Tables {
     Tables {
         files: vec![0; files],
@@ -25,6 +25,7 @@ pub fn zero([files, contents, open_files, processes, policy]: [usize; 5]) -> Tab
         open_files: vec![0; open_files],
         processes: vec![0; processes],
         policy: vec![0; policy],
+        rom: Vec::new(),
     }
 }
 
@@ -49,9 +50,39 @@ pub fn call(
         &mut tables.open_files,
         &mut tables.processes,
         &tables.policy,
+        &tables.rom,
         request,
         path,
         data,
         buffer,
     )
+}
+
+/// A borrowing read on the tables, by the second program: its answer, and the bytes.
+pub fn borrow(tables: &mut Tables, process: u8, descriptor: u8, count: u32) -> (Answer, Vec<u8>) {
+    let mut refusal = 0;
+    let bytes = reference::borrow_read(
+        &tables.files,
+        &tables.contents,
+        &mut tables.open_files,
+        &tables.processes,
+        &tables.policy,
+        &tables.rom,
+        process,
+        descriptor,
+        count,
+        &mut refusal,
+    );
+    (borrowed(refusal, bytes), bytes.to_vec())
+}
+
+/// What a borrowing read is answered, written as a read's answer.
+pub fn borrowed(refusal: u32, bytes: &[u8]) -> Answer {
+    Answer {
+        refusal,
+        stop: 0,
+        value: bytes.len() as u32,
+        name: Vec::new(),
+        fields: None,
+    }
 }

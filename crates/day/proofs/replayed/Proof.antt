@@ -16,16 +16,17 @@ replayed-spec =
     (λ c. search needs)
     (λ c. search needs)
     (λ c. search needs)
+    (λ c. search needs)
     (λ c κs. tt)
     (λ c. search needs)
     (λ c.
-    let before-c = c .before .before in
-    let before-c-2 = before-c .before .before in
-    let at-replay = before-c-2 .before .before in
-    let before-replay = at-replay .before .before in
-    let before-replay-2 = before-replay .before .before in
-    let before-replay-3 = before-replay-2 .before .before in
-    let at-policy = before-replay-3 .before in
+    let at-processes3 = c .before .before in
+    let at-contents3 = at-processes3 .before .before in
+    let at-replay = at-contents3 .before .before in
+    let at-replay-arg = at-replay .before .before in
+    let at-processes2 = at-replay-arg .before .before in
+    let at-contents2 = at-processes2 .before .before in
+    let at-policy = at-contents2 .before .before in
     let at-processes = at-policy .before in
     let at-contents = at-processes .before in
     let at-files = at-contents .before in

@@ -1,4 +1,4 @@
-use Rattle.recorded.specs.Called.{recordTaken}
+use Rattle.recorded.specs.Taken.{recordTaken}
 use Rattle.rules.proofs.Choices.{steps}
 use Rattle.recorded.proofs.take.Statement.{statement}
 use Rattle.recorded.proofs.take.Tie as tie

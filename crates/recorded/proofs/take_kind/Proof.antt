@@ -1,4 +1,4 @@
-use Rattle.recorded.specs.Called.{kindTaken}
+use Rattle.recorded.specs.Taken.{kindTaken}
 use Rattle.rules.proofs.Choices.{steps}
 use Rattle.recorded.proofs.take_kind.Statement.{statement}
 use Rattle.recorded.proofs.take_kind.Tie as tie
@@ -8,6 +8,8 @@ unfolding kindTaken
 take-kind-spec =
     tie.close
     (tie.spec
+    (λ c κs. tt)
+    (λ c. search steps)
     (λ c κs. tt)
     (λ c. search steps)
     (λ c κs. tt)

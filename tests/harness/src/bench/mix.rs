@@ -5,7 +5,7 @@ use crate::call::Call;
 use crate::chance::Chance;
 use crate::generate::shape::Shape;
 use crate::generate::store::store_of;
-use crate::generate::{random_store, CallMaker};
+use crate::generate::CallMaker;
 use crate::programs::*;
 use mritvelja::calls::{READLINK, SYMLINK};
 use mritvelja::Tables;
@@ -18,6 +18,12 @@ pub struct Scene {
     pub granted: usize,
 }
 
+/// A store by chance with an empty factory part: what was measured before there was one is so still.
+fn random_store(chance: &mut Chance) -> Tables {
+    let shape = Shape::without_rom(chance);
+    store_of(chance, shape)
+}
+
 impl Scene {
     pub fn random(chance: &mut Chance, calls: usize) -> Scene {
         let start = random_store(chance);
@@ -28,7 +34,7 @@ impl Scene {
     pub fn without_links(chance: &mut Chance, calls: usize) -> Scene {
         let shape = Shape {
             symlinks: 0,
-            ..Shape::random(chance)
+            ..Shape::without_rom(chance)
         };
         let start = store_of(chance, shape);
         Scene::on(start, chance, calls, |call| {
@@ -45,7 +51,7 @@ impl Scene {
     /// So many calls that pass.
     fn on(start: Tables, chance: &mut Chance, calls: usize, pass: fn(&Call) -> bool) -> Scene {
         let mut tables = start.clone();
-        let mut maker = CallMaker::new(&tables);
+        let mut maker = CallMaker::without_rom(&tables);
         let mut scene = Scene {
             start,
             calls: Vec::new(),

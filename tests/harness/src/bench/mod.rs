@@ -1,5 +1,6 @@
 //! The benchmark: the proved store beside the second program and a tmpfs.
 
+pub mod borrows;
 pub mod growth;
 pub mod kinds;
 pub mod mix;

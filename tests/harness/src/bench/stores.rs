@@ -126,15 +126,20 @@ pub fn stat(path: &[u8]) -> Call {
     call(9, path)
 }
 
+/// A read by descriptor 0.
+pub fn read(bytes: usize) -> Call {
+    let mut read = call(11, b"");
+    read.buffer = vec![0; bytes];
+    read
+}
+
 /// Open for both, read, write, close.
 pub fn cycle(path: &[u8]) -> [Call; 4] {
     let mut open = call(1, path);
     open.number = 3;
-    let mut read = call(11, b"");
-    read.buffer = vec![0; CALL_BYTES];
     let mut write = call(12, b"");
     write.data = vec![5; CALL_BYTES];
-    [open, read, write, call(10, b"")]
+    [open, read(CALL_BYTES), write, call(10, b"")]
 }
 
 /// A scene that makes these calls over and over.

@@ -2,7 +2,7 @@
 
 use harness::bench::mix::*;
 use harness::bench::timing::{print_head, print_row, ROUNDS};
-use harness::bench::{growth, kinds, scripts, system};
+use harness::bench::{borrows, growth, kinds, scripts, system};
 use harness::chance::Chance;
 use std::process::ExitCode;
 
@@ -45,6 +45,7 @@ fn main() -> ExitCode {
     print_row("(3) the soundness test alone", compare_soundness(&scenes));
     system::print_system_calls();
     scripts::print_scripts(SEED, STORES, CALLS_IN_A_STORE);
+    borrows::print_borrows();
     kinds::print_by_kind(&scenes);
     growth::print_by_size();
     growth::print_by_depth();

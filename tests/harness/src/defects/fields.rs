@@ -3,6 +3,7 @@
 use super::pick::*;
 use super::Break;
 use crate::chance::Chance;
+use crate::rom::ROM;
 use mritvelja::layout::*;
 use mritvelja::Tables;
 
@@ -15,7 +16,7 @@ pub const DEFECTS: &[(&str, &str, Break)] = &[
     (RANGE, "group over 65,535", file_group),
     (RANGE, "bits over 511", bits),
     (RANGE, "file label over 15", file_label),
-    (RANGE, "open slot past the last", open_slot),
+    (RANGE, "open slot past the last prompt's", open_slot),
     (RANGE, "mode 0", mode_zero),
     (RANGE, "mode over 4", mode_over),
     (RANGE, "offset over 512", offset),
@@ -82,7 +83,7 @@ fn open_field(tables: &mut Tables, chance: &mut Chance, column: usize, highest: 
 /// The open file is a new one, so that no file loses what keeps it.
 fn open_slot(tables: &mut Tables, chance: &mut Chance) -> Option<()> {
     let open_file = open_by_someone(tables, chance, 0)?;
-    let word = over(chance, SLOTS as u32 - 1);
+    let word = over(chance, ROM as u32);
     tables.open_file_mut(open_file)[OPEN_SLOT] = word;
     Some(())
 }

@@ -4,6 +4,7 @@ mod fields;
 mod names;
 mod open_files;
 mod pick;
+mod rom;
 mod symlinks;
 mod zeros;
 
@@ -29,6 +30,7 @@ pub fn all() -> Vec<Defect> {
         open_files::DEFECTS,
         zeros::DEFECTS,
         symlinks::DEFECTS,
+        rom::DEFECTS,
     ];
     groups
         .into_iter()

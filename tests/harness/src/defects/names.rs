@@ -4,6 +4,7 @@ use super::pick::*;
 use super::Break;
 use crate::building::{add_name, add_to_file, blank};
 use crate::chance::Chance;
+use crate::rom::ROM;
 use crate::tree;
 use mritvelja::layout::*;
 use mritvelja::Tables;
@@ -83,7 +84,7 @@ fn not_named(tables: &mut Tables, chance: &mut Chance) -> Option<()> {
 }
 
 fn nine_deep(tables: &mut Tables, chance: &mut Chance) -> Option<()> {
-    let nodes = tree::nodes(tables);
+    let nodes = tree::stored_nodes(tables);
     let directories = nodes
         .iter()
         .filter(|node| tables.is_kind(node.slot, DIRECTORY));
@@ -162,22 +163,13 @@ fn same_name(tables: &mut Tables, chance: &mut Chance) -> Option<()> {
     Some(())
 }
 
-/// A new name for any number, the directory's length right.
-fn name_number(tables: &mut Tables, chance: &mut Chance, number: usize) -> Option<()> {
-    let (directory, dirent) = dirent(tables, chance, false)?;
-    let name = fresh_name(tables, directory);
-    tables.set_dirent(directory, dirent, &name, number);
-    add_to_file(tables, directory, FILE_LENGTH, 1);
-    Some(())
-}
-
 fn names_free(tables: &mut Tables, chance: &mut Chance) -> Option<()> {
     let slot = slot_of(tables, chance, FREE)?;
     name_number(tables, chance, slot)
 }
 
 fn names_outside(tables: &mut Tables, chance: &mut Chance) -> Option<()> {
-    let number = chance.pick(&[SLOTS, SLOTS + 1, 200, 254, 255]);
+    let number = chance.pick(&[ROM + 1, 200, 254, 255]);
     name_number(tables, chance, number)
 }
 

@@ -69,6 +69,15 @@ pub fn name_again(tables: &mut Tables, chance: &mut Chance, slot: usize) -> Opti
     Some(())
 }
 
+/// A new name for any number, the directory's length right.
+pub fn name_number(tables: &mut Tables, chance: &mut Chance, number: usize) -> Option<()> {
+    let (directory, dirent) = dirent(tables, chance, false)?;
+    let name = fresh_name(tables, directory);
+    tables.set_dirent(directory, dirent, &name, number);
+    add_to_file(tables, directory, FILE_LENGTH, 1);
+    Some(())
+}
+
 /// Adds one of the changes to a word of a file of this kind.
 pub fn miscount(
     tables: &mut Tables,

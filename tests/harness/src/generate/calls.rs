@@ -1,11 +1,11 @@
 //! Calls by chance that fit the store at hand, so that many are granted.
 
 use super::ways::Names;
-use super::{names, paths};
-use crate::building::has_name;
+use crate::action::{Action, Borrow};
 use crate::call::{Call, CALLS};
 use crate::chance::Chance;
-use crate::tree::Node;
+use crate::rom;
+use mritvelja::calls::READ;
 use mritvelja::layout::*;
 use mritvelja::Tables;
 
@@ -18,6 +18,12 @@ const MODES: [u16; 9] = [1, 1, 1, 2, 3, 4, 10, 11, 12];
 const BITS: [u16; 12] = [
     0o777, 0o777, 0o777, 0o777, 0o755, 0o744, 0o577, 0o077, 0o707, 0o704, 0o111, 0,
 ];
+/// One action in so many is a borrowing read.
+const BORROWS: usize = 12;
+/// Other reads that are tried for one where something is read.
+const TRIES: usize = 3;
+/// How much borrowing reads ask for, up to what they may, and seldom more.
+const COUNTS: [u32; 13] = [0, 1, 2, 3, 5, 16, 64, 511, 512, 512, 512, 513, u32::MAX];
 const ODD_NUMBERS: [u16; 13] = [0, 5, 8, 9, 13, 16, 17, 256, 257, 511, 512, 513, 65_535];
 
 /// Makes calls for one store; it keeps the store's names at hand.
@@ -28,25 +34,61 @@ pub struct CallMaker {
 }
 
 /// What a call is made for: who asks, and the store as it is.
-struct Scene<'a> {
-    chance: &'a mut Chance,
-    tables: &'a Tables,
-    names: &'a Names,
-    favourite: Option<usize>,
-    process: usize,
+pub(super) struct Scene<'a> {
+    pub(super) chance: &'a mut Chance,
+    pub(super) tables: &'a Tables,
+    pub(super) names: &'a Names,
+    pub(super) favourite: Option<usize>,
+    pub(super) process: usize,
 }
 
 impl CallMaker {
     pub fn new(tables: &Tables) -> CallMaker {
         CallMaker {
-            names: Names::of(tables),
+            names: Names::of(tables, true),
+            favourite: None,
+        }
+    }
+
+    /// For calls that have nothing to do with /rom.
+    pub fn without_rom(tables: &Tables) -> CallMaker {
+        CallMaker {
+            names: Names::of(tables, false),
             favourite: None,
         }
     }
 
     /// To be called after names came or went.
     pub fn refresh(&mut self, tables: &Tables) {
-        self.names = Names::of(tables);
+        self.names = Names::of(tables, self.names.sees_rom);
+    }
+
+    /// A call or a borrowing read.
+    pub fn action(&self, chance: &mut Chance, tables: &Tables) -> Action {
+        match chance.one_in(BORROWS) {
+            true => Action::Borrow(self.borrow(chance, tables)),
+            false => Action::Call(self.call(chance, tables)),
+        }
+    }
+
+    /// As a read, but mostly where there is something to read.
+    fn borrow(&self, chance: &mut Chance, tables: &Tables) -> Borrow {
+        let mut read = self.call_of(chance, tables, READ);
+        for _ in 0..TRIES {
+            if has_bytes(tables, &read) {
+                break;
+            }
+            read = self.call_of(chance, tables, READ);
+        }
+        let some = chance.below(40) as u32;
+        Borrow {
+            process: read.process,
+            descriptor: read.descriptor,
+            count: match chance.below(3) {
+                0 => some,
+                _ => chance.pick(&COUNTS),
+            },
+        }
     }
 
     pub fn call(&self, chance: &mut Chance, tables: &Tables) -> Call {
@@ -65,13 +107,15 @@ impl CallMaker {
             process: process.min(PROCESSES - 1),
         };
         let descriptor = scene.descriptor(call);
+        let (call, known) = (scene.unknown_call(call), call);
+        let number = scene.number(known);
         Call {
             process: process as u8,
-            call: scene.unknown_call(call),
+            call,
             descriptor: descriptor as u8,
-            number: scene.number(call),
-            path: scene.path(call),
-            data: scene.data(call, descriptor),
+            number,
+            path: scene.path(known, number),
+            data: scene.data(known, descriptor),
             buffer: scene.buffer(),
         }
     }
@@ -135,40 +179,16 @@ impl Scene<'_> {
             1 => self.chance.pick(&MODES),
             2 | 3 | 8 if self.chance.one_in(5) => self.chance.below(512) as u16,
             2 | 3 | 8 => self.chance.pick(&BITS),
+            7 if self.names.sees_rom && self.chance.one_in(3) => {
+                self.chance.below(DIRENTS + 2) as u16
+            }
             7 => self.chance.below(10) as u16,
             13 => self.chance.pick(&[0, 0, 1, 5, 30, 100, 500, 511, 512, 512]),
             _ => self.chance.below(65_536) as u16,
         }
     }
 
-    fn path(&mut self, call: u8) -> Vec<u8> {
-        match call {
-            2 | 3 | 18 => self.new_path(),
-            4 => self.existing(
-                |tables, node| !tables.is_kind(node.slot, DIRECTORY),
-                Some(WRITE),
-            ),
-            5 => {
-                let empty_too = self.chance.percent(20);
-                self.existing(
-                    |tables, node| {
-                        tables.is_kind(node.slot, DIRECTORY)
-                            && (empty_too || tables.file(node.slot)[FILE_LENGTH] == 0)
-                    },
-                    Some(WRITE),
-                )
-            }
-            1 | 17 => self.existing(|tables, node| tables.is_kind(node.target, PLAIN), None),
-            6 => self.existing(|tables, node| tables.is_kind(node.slot, PLAIN), None),
-            7 => self.existing(|tables, node| tables.is_kind(node.target, DIRECTORY), None),
-            19 => self.existing(|tables, node| tables.is_kind(node.slot, LINK), None),
-            8 | 9 => self.existing(|_, _| true, None),
-            // Not used by the call, and so of no matter.
-            _ => self.unused(),
-        }
-    }
-
-    fn unused(&mut self) -> Vec<u8> {
+    pub(super) fn unused(&mut self) -> Vec<u8> {
         let length = self.chance.pick(&[0, 0, 0, 1, 5, 64, 65, 513]);
         self.chance.bytes(length)
     }
@@ -216,114 +236,19 @@ impl Scene<'_> {
         let fill = self.chance.below(256) as u8;
         vec![fill; length]
     }
+}
 
-    /// The path of a name that passes; a right is asked of its directory.
-    fn existing(&mut self, pass: impl Fn(&Tables, &Node) -> bool, asked: Option<u32>) -> Vec<u8> {
-        if self.chance.one_in(25) {
-            return self.missing_or_odd();
-        }
-        if self.names.has_links && self.chance.one_in(20) {
-            return self.by_any_link();
-        }
-        let node = self.node(|scene, node| {
-            pass(scene.tables, node)
-                && asked.is_none_or(|right| scene.may(node.parent, right))
-                && scene.may(node.parent, EXECUTE)
-        });
-        self.way_to(&node.path)
+/// Whether a read's descriptor holds a file with bytes past the offset.
+fn has_bytes(tables: &Tables, read: &Call) -> bool {
+    let (process, descriptor) = (read.process.into(), usize::from(read.descriptor));
+    if process >= PROCESSES || descriptor >= DESCRIPTORS {
+        return false;
     }
-
-    /// A link's path or one below it, wherever the link leads.
-    fn by_any_link(&mut self) -> Vec<u8> {
-        let node = self.node(|scene, node| scene.tables.is_kind(node.slot, LINK));
-        let path = self.way_to(&node.path);
-        if self.chance.one_in(2) {
-            return path;
-        }
-        paths::below(&path, &names::name(self.chance, true))
-    }
-
-    /// The path, at times through links.
-    fn way_to(&mut self, path: &[u8]) -> Vec<u8> {
-        let path = self.names.through(self.chance, path);
-        paths::written(self.chance, &path)
-    }
-
-    fn missing_or_odd(&mut self) -> Vec<u8> {
-        let node = self.node(|_, _| true);
-        match self.chance.below(3) {
-            0 => paths::odd(self.chance, &node.path),
-            _ => {
-                let name = names::name(self.chance, true);
-                paths::below(&node.path, &name)
-            }
-        }
-    }
-
-    /// A path for a name to be made, mostly in a directory with room.
-    fn new_path(&mut self) -> Vec<u8> {
-        if self.chance.one_in(30) {
-            return self.missing_or_odd();
-        }
-        let full_too = self.chance.one_in(6);
-        let deep = self.deep_directory().filter(|_| self.chance.one_in(5));
-        let node = deep.unwrap_or_else(|| {
-            self.node(|scene, node| {
-                scene.tables.is_kind(node.slot, DIRECTORY)
-                    && scene.names.reaches(&paths::below(&node.path, b"x"))
-                    && (full_too || scene.tables.file(node.slot)[FILE_LENGTH] < DIRENTS as u32)
-                    && scene.may(node.slot, WRITE | EXECUTE)
-            })
-        });
-        let short = self.chance.one_in(2);
-        let mut name = names::name(self.chance, short);
-        if has_name(self.tables, node.slot, &name) && self.chance.percent(80) {
-            name = names::name(self.chance, false);
-        }
-        self.way_to(&paths::below(&node.path, &name))
-    }
-
-    /// A directory as deep as one may be, if links lead to such: there no other can be made.
-    fn deep_directory(&mut self) -> Option<Node> {
-        let nodes = &self.names.nodes;
-        let number = self.chance.pick_where(nodes.len(), |number| {
-            let node = &nodes[number];
-            node.depth == NAMES
-                && self.tables.is_kind(node.slot, DIRECTORY)
-                && self.names.reaches(&paths::below(&node.path, b"x"))
-        })?;
-        Some(nodes[number].clone())
-    }
-
-    /// A name that passes, tried for a few times; then any.
-    fn node(&mut self, pass: impl Fn(&Self, &Node) -> bool) -> Node {
-        let wanted = self.favourite.filter(|_| self.chance.one_in(4));
-        let careless = self.chance.one_in(12);
-        let nodes = &self.names.nodes;
-        let mut node = &nodes[self.chance.below(nodes.len())];
-        for _ in 0..24 {
-            let favoured = wanted.is_none_or(|slot| node.target == slot);
-            if careless || (favoured && self.names.reaches(&node.path) && pass(self, node)) {
-                break;
-            }
-            node = &nodes[self.chance.below(nodes.len())];
-        }
-        node.clone()
-    }
-
-    /// Whether the caller likely has these rights: a guess that only shapes the calls.
-    fn may(&self, slot: usize, rights: u32) -> bool {
-        let (who, file) = (self.tables.process(self.process), self.tables.file(slot));
-        let shift = if who[PROCESS_USER] == file[FILE_OWNER] {
-            6
-        } else if who[PROCESS_GROUP] == file[FILE_GROUP] {
-            3
-        } else {
-            0
-        };
-        let by_bits = who[PROCESS_USER] == 0 || file[FILE_BITS] >> shift & rights == rights;
-        let (label, over) = (who[PROCESS_LABEL] as usize, file[FILE_LABEL] as usize);
-        by_bits && u32::from(self.tables.rights(label, over)) & rights == rights
+    let word = tables.descriptors(process)[descriptor] as usize;
+    word > 0 && {
+        let open_file = tables.open_file(word - 1);
+        let file = rom::file(tables, open_file[OPEN_SLOT] as usize);
+        open_file[OPEN_OFFSET] < file[FILE_LENGTH]
     }
 }
 

@@ -6,6 +6,7 @@ pub mod open_files;
 pub mod paths;
 pub mod shape;
 pub mod store;
+mod targets;
 pub mod ways;
 
 pub use calls::CallMaker;

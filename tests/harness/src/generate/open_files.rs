@@ -1,7 +1,8 @@
-//! Open files for a store by chance: shared ones, and ones without a name.
+//! Open files for a store by chance: shared ones, ones without a name, and prompts.
 
 use super::shape::Shape;
 use crate::chance::Chance;
+use crate::rom;
 use mritvelja::layout::*;
 use mritvelja::Tables;
 
@@ -29,6 +30,7 @@ pub fn add_open_files(
         let unnamed = (count < shape.unnamed).then(|| free_slots.pop()).flatten();
         let Some(slot) = unnamed
             .map(|slot| make_unnamed(chance, tables, slot))
+            .or_else(|| prompt(chance, shape))
             .or_else(|| chance.pick_where(SLOTS, |slot| tables.is_kind(slot, PLAIN)))
         else {
             continue;
@@ -71,8 +73,14 @@ fn make_unnamed(chance: &mut Chance, tables: &mut Tables, slot: usize) -> usize 
     slot
 }
 
+/// Now and then a prompt, where there are any.
+fn prompt(chance: &mut Chance, shape: &Shape) -> Option<usize> {
+    let count = shape.prompts.filter(|&count| count > 0)?;
+    chance.one_in(4).then(|| ROM_FIRST + chance.below(count))
+}
+
 fn open(chance: &mut Chance, tables: &mut Tables, open_file: usize, slot: usize, sharers: usize) {
-    let length = tables.file(slot)[FILE_LENGTH];
+    let length = rom::file(tables, slot)[FILE_LENGTH];
     let offset = match chance.below(6) {
         0 => length,
         1 => BLOCK as u32,
@@ -81,7 +89,10 @@ fn open(chance: &mut Chance, tables: &mut Tables, open_file: usize, slot: usize,
         _ => 0,
     };
     tables.open_file_mut(open_file)[OPEN_SLOT] = slot as u32;
-    tables.open_file_mut(open_file)[OPEN_MODE] = chance.pick(&[1, 2, 3, 3, 4]);
+    tables.open_file_mut(open_file)[OPEN_MODE] = match rom::is_stored(slot) {
+        true => chance.pick(&[1, 2, 3, 3, 4]),
+        false => 1,
+    };
     tables.open_file_mut(open_file)[OPEN_OFFSET] = offset;
     tables.open_file_mut(open_file)[OPEN_REFERENCES] = sharers as u32;
 }

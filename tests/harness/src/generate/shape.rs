@@ -1,7 +1,7 @@
 //! What kind of store is to be made: how full, how deep, how strict.
 
 use crate::chance::Chance;
-use mritvelja::layout::{DESCRIPTORS, LABELS, OPEN_FILES, PROCESSES, SLOTS};
+use mritvelja::layout::{DESCRIPTORS, LABELS, OPEN_FILES, PROCESSES, PROMPTS, SLOTS};
 
 /// Where new names go.
 #[derive(Clone, Copy, PartialEq, Eq)]
@@ -46,10 +46,28 @@ pub struct Shape {
     pub transitions: usize,
     /// How many in a hundred versions stand at the wrap.
     pub wrapping: usize,
+    /// How many prompts the factory part has; without a number it is empty, and nothing has to do with /rom.
+    pub prompts: Option<usize>,
 }
 
 impl Shape {
     pub fn random(chance: &mut Chance) -> Shape {
+        Shape {
+            prompts: Some(Shape::prompts(chance)),
+            ..Shape::without_rom(chance)
+        }
+    }
+
+    /// None, some or all.
+    fn prompts(chance: &mut Chance) -> usize {
+        match chance.below(8) {
+            0..=2 => 0,
+            3 => PROMPTS,
+            _ => chance.between(1, PROMPTS),
+        }
+    }
+
+    pub fn without_rom(chance: &mut Chance) -> Shape {
         let processes = chance.pick(&[1, 2, 3, 4, 4, 5, 6, 7, 8]);
         let most_open = (processes * DESCRIPTORS).min(OPEN_FILES);
         let open_files = match chance.below(5) {
@@ -73,6 +91,7 @@ impl Shape {
             strictness: Shape::strictness(chance),
             transitions: chance.pick(&[0, 5, 30, 100]),
             wrapping: chance.pick(&[0, 20, 100]),
+            prompts: None,
         }
     }
 

@@ -6,6 +6,7 @@ use super::shape::{Shape, Spread, Strictness};
 use super::ways::{is_path, Names};
 use crate::building::{add_name, has_name, set_text};
 use crate::chance::Chance;
+use crate::rom;
 use crate::tree;
 use mritvelja::layout::*;
 use mritvelja::Tables;
@@ -22,7 +23,7 @@ struct Maker<'a> {
     free_slots: Vec<usize>,
 }
 
-/// A sound store: any tree, any open files, any policy.
+/// A sound store: any tree, any open files, any policy, any factory part.
 pub fn random_store(chance: &mut Chance) -> Tables {
     let shape = Shape::random(chance);
     store_of(chance, shape)
@@ -42,6 +43,7 @@ pub fn store_of(chance: &mut Chance, shape: Shape) -> Tables {
         directories: vec![(0, 0)],
         free_slots,
     };
+    maker.set_rom();
     maker.set_policy();
     maker.set_versions();
     maker.set_root();
@@ -61,6 +63,14 @@ pub fn store_of(chance: &mut Chance, shape: Shape) -> Tables {
 }
 
 impl Maker<'_> {
+    fn set_rom(&mut self) {
+        for _ in 0..self.shape.prompts.unwrap_or(0) {
+            let length = self.length();
+            let prompt = self.chance.bytes(length);
+            self.tables.rom.extend(rom::laid(&prompt));
+        }
+    }
+
     fn set_policy(&mut self) {
         for cell in 0..RIGHTS_SIZE {
             let all = match self.shape.strictness {
@@ -144,10 +154,14 @@ impl Maker<'_> {
         self.tables.block_mut(slot)[..bytes.len()].copy_from_slice(bytes);
     }
 
+    fn names(&self) -> Names {
+        Names::of(&self.tables, self.shape.prompts.is_some())
+    }
+
     /// Symbolic links: to the deepest directory, chains that take up to ten follows and more, rings, and single ones.
     fn add_symlinks(&mut self) {
         let mut left = self.shape.symlinks;
-        let deepest = Names::of(&self.tables).deepest(&self.tables);
+        let deepest = self.names().deepest(&self.tables);
         if left > 0 && is_path(&deepest) && self.chance.one_in(2) {
             self.add_symlink(&deepest);
             left -= 1;
@@ -165,7 +179,7 @@ impl Maker<'_> {
 
     /// Links of which each leads to the one before, and the first anywhere, or in a ring to the last.
     fn add_chain(&mut self, count: usize, ring: bool) {
-        let mut text = Names::of(&self.tables).text(self.chance, &self.tables);
+        let mut text = self.names().text(self.chance, &self.tables);
         let mut first = None;
         for _ in 0..count {
             let Some((slot, path)) = self.add_symlink(&text) else {
@@ -207,7 +221,10 @@ impl Maker<'_> {
             return;
         };
         let short = self.shape.spread == Spread::Deep || self.chance.percent(60);
-        let mut fresh = name(self.chance, short);
+        let mut fresh = match self.shape.prompts {
+            Some(_) if self.chance.one_in(30) => rom::NAME.to_vec(),
+            _ => name(self.chance, short),
+        };
         while has_name(&self.tables, directory, &fresh) {
             fresh = name(self.chance, short);
         }

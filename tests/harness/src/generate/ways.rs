@@ -2,6 +2,7 @@
 
 use super::{names, paths};
 use crate::chance::Chance;
+use crate::rom;
 use crate::tree::{self, Node};
 use mritvelja::layout::*;
 use mritvelja::Tables;
@@ -28,24 +29,32 @@ impl Shortcut {
 pub struct Names {
     pub nodes: Vec<Node>,
     pub has_links: bool,
+    /// Whether /rom and what is in it are among the nodes.
+    pub sees_rom: bool,
     shortcuts: Vec<Shortcut>,
 }
 
 impl Names {
-    pub fn of(tables: &Tables) -> Names {
-        let nodes = tree::nodes(tables);
+    pub fn of(tables: &Tables, sees_rom: bool) -> Names {
+        let nodes = match sees_rom {
+            true => tree::nodes(tables),
+            false => tree::stored_nodes(tables),
+        };
         let shortcut = |link: &Node| {
-            let leads =
-                |node: &&Node| node.slot == link.target && tables.is_kind(node.slot, DIRECTORY);
+            let leads = |node: &&Node| {
+                node.slot == link.target && rom::is_kind(tables, node.slot, DIRECTORY)
+            };
             let directory = nodes.iter().find(leads)?;
             Some(Shortcut {
                 link: link.path.clone(),
                 directory: paths::without_root(&directory.path),
             })
         };
-        let links = nodes.iter().filter(|node| tables.is_kind(node.slot, LINK));
+        let is_link = |node: &&Node| rom::is_kind(tables, node.slot, LINK);
+        let links = nodes.iter().filter(is_link);
         Names {
             has_links: links.clone().next().is_some(),
+            sees_rom,
             shortcuts: links.filter_map(shortcut).collect(),
             nodes,
         }
@@ -77,15 +86,18 @@ impl Names {
         way
     }
 
-    /// The text of a link: to what there is, to the root or the deepest directory, through other links or to nothing.
+    /// The text of a link: to what there is, to the root or the deepest directory, into /rom, through other links or to
+    /// nothing.
     pub fn text(&self, chance: &mut Chance, tables: &Tables) -> Vec<u8> {
         if chance.one_in(12) {
             return vec![b'/'; chance.pick(&[1, 1, 2, 3, PATH])];
         }
         let any = |_: &&Node| true;
-        let directory = |node: &&Node| tables.is_kind(node.slot, DIRECTORY);
-        let link = |node: &&Node| tables.is_kind(node.slot, LINK);
+        let directory = |node: &&Node| rom::is_kind(tables, node.slot, DIRECTORY);
+        let link = |node: &&Node| rom::is_kind(tables, node.slot, LINK);
+        let in_rom = |node: &&Node| !rom::is_stored(node.slot);
         let path = match chance.below(10) {
+            _ if self.sees_rom && chance.one_in(6) => self.pick(chance, in_rom),
             0 | 1 => self.deepest(tables),
             2 => paths::below(&self.pick(chance, any), &names::name(chance, true)),
             3 | 4 => self.pick(chance, link),
@@ -111,10 +123,8 @@ impl Names {
     }
 
     pub fn deepest(&self, tables: &Tables) -> Vec<u8> {
-        let directories = self
-            .nodes
-            .iter()
-            .filter(|node| tables.is_kind(node.slot, DIRECTORY));
+        let stored = self.nodes.iter().filter(|node| rom::is_stored(node.slot));
+        let directories = stored.filter(|node| tables.is_kind(node.slot, DIRECTORY));
         let deepest = directories.max_by_key(|node| node.depth);
         deepest.map_or_else(|| b"/".to_vec(), |node| node.path.clone())
     }

@@ -13,8 +13,9 @@ const REASONS: [&str; 4] = [
 
 pub struct Tally {
     pub scripts: u64,
-    /// Scripts whose store was not sound.
+    /// Scripts whose store was not sound, and those with prompts.
     spoilt: u64,
+    prompted: u64,
     blocks: u64,
     granted: u64,
     /// Runs by the reason for which they stopped.
@@ -33,6 +34,7 @@ impl Tally {
         Tally {
             scripts: 0,
             spoilt: 0,
+            prompted: 0,
             blocks: 0,
             granted: 0,
             stops: [0; REASONS.len()],
@@ -46,6 +48,7 @@ impl Tally {
     pub fn count_script(&mut self, script: &Script) {
         self.scripts += 1;
         self.spoilt += u64::from(script.spoilt);
+        self.prompted += u64::from(!script.start.rom.is_empty());
         if let Some(way) = script.broken {
             self.ways[way] += 1;
         }
@@ -69,8 +72,8 @@ impl Tally {
             println!("{count:>7}  {reason}");
         }
         println!(
-            "\n{} scripts, {} of them on stores that are not sound: {} blocks answered, {} granted; {} scripts also cut and resumed, and in pieces, {} run again after damage",
-            self.scripts, self.spoilt, self.blocks, self.granted, self.resumed, self.damaged
+            "\n{} scripts, {} of them on stores that are not sound, {} with prompts: {} blocks answered, {} granted; {} scripts also cut and resumed, and in pieces, {} run again after damage",
+            self.scripts, self.spoilt, self.prompted, self.blocks, self.granted, self.resumed, self.damaged
         );
         println!("differences in scripts: {}", self.differences);
     }

@@ -3,6 +3,9 @@
 
 // The harness links the proved store, which this program does without: it takes the generator's files alone.
 #[allow(dead_code)]
+#[path = "../../../harness/src/action.rs"]
+mod action;
+#[allow(dead_code)]
 #[path = "../../../harness/src/building.rs"]
 mod building;
 #[allow(dead_code)]
@@ -18,6 +21,9 @@ mod defects;
 #[path = "../../../harness/src/generate/mod.rs"]
 mod generate;
 #[allow(dead_code)]
+#[path = "../../../harness/src/rom.rs"]
+mod rom;
+#[allow(dead_code)]
 #[path = "../../../harness/src/sizes.rs"]
 mod sizes;
 #[allow(dead_code)]
@@ -26,19 +32,20 @@ mod tree;
 
 use std::io::Write;
 
+use action::{Action, Borrow};
 use call::Call;
 use chance::Chance;
 use generate::{random_store, CallMaker};
 use mritvelja::calls::{parts, Field};
 use mritvelja::Tables;
 use reference::Request;
-use stored::records::{self, BUFFER, ROOM};
+use stored::records::{self, BUFFER, ROM_ROOM, ROOM};
 use stored::tables::{self, zero, SIZES};
 
 const SEED: u64 = 20_263;
 const STORES: usize = 60;
 const CALLS: usize = 89;
-/// How many bytes but 0 the contents of a short store have.
+/// How many bytes but 0 the contents and the factory part of a short store have.
 const SHORT: usize = 2_500;
 /// One call in so many is made on a store that is not sound.
 const UNSOUND: usize = 40;
@@ -51,6 +58,7 @@ fn held(tables: &Tables, before: &Tables) -> Tables {
         open_files: over(&tables.open_files, &before.open_files),
         processes: over(&tables.processes, &before.processes),
         policy: over(&tables.policy, &before.policy),
+        rom: tables.rom.clone(),
     }
 }
 
@@ -72,10 +80,8 @@ fn sizes_of(tables: &Tables) -> [usize; 5] {
 }
 
 fn fits(tables: &Tables) -> bool {
-    sizes_of(tables)
-        .iter()
-        .zip(ROOM)
-        .all(|(&size, room)| size <= room)
+    let mut sizes = sizes_of(tables).into_iter().zip(ROOM);
+    sizes.all(|(size, room)| size <= room) && tables.rom.len() <= ROM_ROOM
 }
 
 /// The tables with a defect, or of another size; none where the choice does not fit.
@@ -95,7 +101,8 @@ fn spoiled(tables: &Tables, chance: &mut Chance) -> Option<Tables> {
 fn store(chance: &mut Chance, number: usize) -> Tables {
     loop {
         let tables = random_store(chance);
-        let length = tables.contents.iter().filter(|&&byte| byte != 0).count();
+        let bytes = tables.contents.iter().chain(&tables.rom);
+        let length = bytes.filter(|&&byte| byte != 0).count();
         if length < SHORT || number.is_multiple_of(6) {
             return tables;
         }
@@ -126,6 +133,18 @@ impl Writer {
         }
     }
 
+    fn action(&mut self, action: &Action) {
+        match action {
+            Action::Call(call) => self.call(call),
+            Action::Borrow(borrow) => self.borrow(borrow),
+        }
+    }
+
+    fn borrow(&mut self, borrow: &Borrow) {
+        let record = records::borrow(borrow.process, borrow.descriptor, borrow.count);
+        self.out.extend(record);
+    }
+
     fn call(&mut self, call: &Call) {
         let numbers = [call.process, call.call, call.descriptor];
         let buffer = call.buffer.len();
@@ -139,7 +158,16 @@ impl Writer {
     }
 }
 
-fn make(tables: &mut Tables, call: &Call) -> u32 {
+fn make(tables: &mut Tables, action: &Action) {
+    match action {
+        Action::Call(call) => make_call(tables, call),
+        Action::Borrow(borrow) => {
+            tables::borrow(tables, borrow.process, borrow.descriptor, borrow.count);
+        }
+    }
+}
+
+fn make_call(tables: &mut Tables, call: &Call) {
     let request = Request {
         process: call.process,
         call: call.call,
@@ -147,21 +175,28 @@ fn make(tables: &mut Tables, call: &Call) -> u32 {
         number: call.number,
     };
     let mut buffer = call.buffer.clone();
-    tables::call(tables, request, &call.path, &call.data, &mut buffer).refusal
+    tables::call(tables, request, &call.path, &call.data, &mut buffer);
 }
 
-/// The call with less of what it does not look at.
-fn short(mut call: Call) -> Call {
-    let parts = parts(call.call.into()).unwrap_or_default();
-    if !parts.iter().any(|part| part.field() == Field::Data) {
-        call.data.truncate(4);
+/// The action with less of what a call does not look at.
+fn short(mut action: Action) -> Action {
+    if let Action::Call(call) = &mut action {
+        let parts = parts(call.call.into()).unwrap_or_default();
+        if !parts.iter().any(|part| part.field() == Field::Data) {
+            call.data.truncate(4);
+        }
     }
-    call
+    action
 }
 
-/// A call that can be written down, with a buffer that `crates/recorded` has.
-fn writable(call: &Call) -> bool {
-    call.path.len() < 256 && call.data.len() < 4096 && call.buffer.len() <= BUFFER
+/// Whether a call can be written down, with a buffer that `crates/recorded` has.
+fn writable(action: &Action) -> bool {
+    match action {
+        Action::Call(call) => {
+            call.path.len() < 256 && call.data.len() < 4096 && call.buffer.len() <= BUFFER
+        }
+        Action::Borrow(_) => true,
+    }
 }
 
 fn run_store(writer: &mut Writer, chance: &mut Chance, number: usize) {
@@ -170,22 +205,22 @@ fn run_store(writer: &mut Writer, chance: &mut Chance, number: usize) {
     writer.tables(&tables);
     let mut maker = CallMaker::new(&tables);
     for _ in 0..CALLS {
-        let call = short(maker.call(chance, &tables));
-        if !writable(&call) {
+        let action = short(maker.action(chance, &tables));
+        if !writable(&action) {
             continue;
         }
         if chance.one_in(UNSOUND) {
             if let Some(spoiled) = spoiled(&tables, chance) {
                 writer.tables(&spoiled);
-                writer.call(&call);
+                writer.action(&action);
                 writer.tables(&tables);
             }
             continue;
         }
-        writer.call(&call);
-        make(&mut tables, &call);
+        writer.action(&action);
+        make(&mut tables, &action);
         writer.held = held(&tables, &writer.held);
-        if call.changes_names() {
+        if action.changes_names() {
             maker.refresh(&tables);
         }
     }

@@ -5,6 +5,7 @@ use std::io::{Read, Write};
 use mritvelja::calls::{parts, reads, Field};
 use reference::Request;
 use stored::answers;
+use stored::records::ROM_ROOM;
 use stored::tables::{
     self, blank, Tables, BLOCK, FILE_WIDTH, LABELS, OPEN_FILE_WIDTH, PROCESS_WIDTH,
 };
@@ -106,6 +107,10 @@ impl Console<'_> {
         let table = words.next().ok_or(Broken)?;
         let record = number(words.next())? as usize;
         let field = number(words.next())? as usize;
+        if table == "rom" {
+            self.set_rom(BLOCK * record + field, &text(words.next())?);
+            return Ok(String::new());
+        }
         if let Some((table, width)) = self.words(table) {
             let values: Result<Vec<u32>, Broken> = words.map(|word| number(Some(word))).collect();
             put(table, width * record + field, &values?);
@@ -114,6 +119,13 @@ impl Console<'_> {
             put(table, width * record + field, &text(words.next())?);
         }
         Ok(String::new())
+    }
+
+    /// The factory part from a byte on, up to where the text ends.
+    fn set_rom(&mut self, at: usize, text: &[u8]) {
+        self.tables.rom.resize(at.min(ROM_ROOM), 0);
+        self.tables.rom.extend(text);
+        self.tables.rom.truncate(ROM_ROOM);
     }
 
     fn show(&mut self, words: &[&str]) -> Line {
@@ -156,6 +168,16 @@ impl Console<'_> {
         Ok(format!(": {}", answers::answer(&answer, bytes)))
     }
 
+    fn borrow(&mut self, process: &str, words: &[&str]) -> Line {
+        let &[descriptor, count] = words else {
+            return Err(Broken);
+        };
+        let (process, descriptor) = (small(Some(process))?, small(Some(descriptor))?);
+        let count: u16 = small(Some(count))?;
+        let (answer, bytes) = tables::borrow(&mut self.tables, process, descriptor, count.into());
+        Ok(format!(": {}", answers::answer(&answer, &bytes)))
+    }
+
     fn line(&mut self, line: &str) -> Line {
         let words: Vec<&str> = line.split(' ').filter(|word| !word.is_empty()).collect();
         match words[..] {
@@ -163,6 +185,7 @@ impl Console<'_> {
             ["fresh", ..] => self.fresh(),
             ["set", ..] => self.set(&words[1..]),
             ["show", ..] => self.show(&words[1..]),
+            [process, "borrow", ..] => self.borrow(process, &words[2..]),
             _ => self.call(&words),
         }
     }

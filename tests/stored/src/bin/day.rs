@@ -19,6 +19,7 @@ fn main() -> std::io::Result<()> {
         &mut tables.open_files,
         &mut tables.processes,
         &tables.policy,
+        &tables.rom,
         &script,
         u32::MAX,
         &mut output,

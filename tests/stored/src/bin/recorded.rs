@@ -4,8 +4,8 @@ use std::io::{Read, Write};
 
 use mritvelja::calls::reads;
 use reference::{Answer, Request};
-use stored::records::{BUFFER, BUFFER_BYTE, ROOM};
-use stored::tables::{zero, Tables, SIZES};
+use stored::records::{BUFFER, BUFFER_BYTE, ROM_ROOM, ROOM};
+use stored::tables::{borrowed, zero, Tables, SIZES};
 
 struct Recorded {
     tables: Tables,
@@ -93,6 +93,7 @@ impl Recorded {
             4 => put(&mut self.tables.processes, at, &words(values)),
             5 => put(&mut self.tables.policy, at, values),
             7 => *self = Recorded::new(),
+            8 => self.tables.rom = bytes[..bytes.len().min(ROM_ROOM)].to_vec(),
             _ => return None,
         }
         Some(())
@@ -129,6 +130,7 @@ impl Recorded {
             lent(&mut tables.open_files, open_files),
             lent(&mut tables.processes, processes),
             lent(&mut tables.policy, policy),
+            &tables.rom,
             request,
             path,
             data,
@@ -136,10 +138,35 @@ impl Recorded {
         )
     }
 
+    fn borrow(&mut self, bytes: &[u8]) -> Option<String> {
+        let &[process, descriptor, ref count @ ..] = bytes else {
+            return None;
+        };
+        let count = u32::from_le_bytes(count.try_into().ok()?);
+        let [files, contents, open_files, processes, policy] = self.sizes;
+        let tables = &mut self.tables;
+        let mut refusal = 0;
+        let bytes = reference::borrow_read(
+            lent(&mut tables.files, files),
+            lent(&mut tables.contents, contents),
+            lent(&mut tables.open_files, open_files),
+            lent(&mut tables.processes, processes),
+            lent(&mut tables.policy, policy),
+            &tables.rom,
+            process,
+            descriptor,
+            count,
+            &mut refusal,
+        );
+        let (answer, bytes) = (borrowed(refusal, bytes), bytes.to_vec());
+        Some(line(&answer, &bytes, digest(&self.tables, &bytes)))
+    }
+
     /// The line that a record writes, if it writes one.
     fn record(&mut self, kind: u8, bytes: &[u8]) -> Option<Option<String>> {
         match kind {
             6 => self.call(bytes).map(Some),
+            9 => self.borrow(bytes).map(Some),
             _ => self.set(kind, bytes).map(|()| None),
         }
     }

@@ -1,5 +1,5 @@
 use borrow.Author.Needs.{needs}
-use Rattle.allocation.proofs.Parts.{slot-part}
+use Rattle.allocation.proofs.Parts.{slot-all, slot-part}
 use Rattle.allocation.proofs.free.free_slot.Statement.{statement}
 use Rattle.allocation.proofs.free.free_slot.Tie as tie
 
@@ -13,4 +13,4 @@ free-slot-spec =
     (λ c κs. tt)
     (λ c. search slot-part)
     (λ c κs. tt)
-    (λ c. search needs))
+    (λ c. search slot-all))

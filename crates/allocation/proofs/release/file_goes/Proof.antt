@@ -11,4 +11,6 @@ file-goes-spec =
     (λ c κs. tt)
     (λ c. search steps)
     (λ c κs. tt)
+    (λ c. search steps)
+    (λ c κs. tt)
     (λ c. search steps))

@@ -1,5 +1,6 @@
 use borrow.Author.Needs.{needs}
 use Rattle.rules.specs.Effects.{released}
+use Rattle.rules.proofs.Seen.{releasing-seen}
 use Rattle.apply.proofs.carry.release_held.Statement.{statement}
 use Rattle.apply.proofs.carry.release_held.Tie as tie
 
@@ -13,7 +14,7 @@ returns c =
     let before-close-descriptor = at-close-descriptor .before .before in
     let before-close-descriptor-2 = before-close-descriptor .before .before in
     let at-release = before-close-descriptor-2 .before in
-    rw (at-release .release .ensures) at (at-close-descriptor .close-descriptor .ensures)
+    rw (at-release .release .ensures, releasing-seen) at (at-close-descriptor .close-descriptor .ensures)
 
 pub release-held-spec : {M : Type 1} → statement M
 release-held-spec =

@@ -12,12 +12,15 @@ serve-spec =
     (λ c. search needs)
     (λ c. search needs)
     (λ c. search needs)
+    (λ c. search needs)
+    (λ c κs. tt)
     (λ c κs. tt)
     (λ c κs. tt)
     (λ c. search needs)
     (λ c.
-    let before-c = c .before .before in
-    let before-c-2 = before-c .before .before in
-    let before-c-3 = before-c-2 .before .before in
-    let at-call = before-c-3 .before .before in
-    tables-after _ _ (at-call .call .ensures)))
+    let at-slice-known2 = c .before .before in
+    let at-processes3 = at-slice-known2 .before .before in
+    let at-contents3 = at-processes3 .before .before in
+    let at-call = at-contents3 .before .before in
+    let at-upto = at-call .before .before in
+    tables-after _ _ (at-upto .upto .ensures) (at-call .call .ensures)))

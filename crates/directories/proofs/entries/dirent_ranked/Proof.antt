@@ -9,10 +9,10 @@ use Rattle.directories.proofs.entries.dirent_ranked.Tie as tie
 use Rattle.rules.specs.Store.{entry}
 
 abbrev Inv-loop : tie.InvT-loop
-Inv-loop dir k i₀ i = first (isRanked dir k) i 16 ≡ first (isRanked dir k) 0 16
+Inv-loop dir k i₀ i = first (isRanked dir k) i 17 ≡ first (isRanked dir k) 0 17
 
 abbrev μ-loop : tie.MeasureT-loop
-μ-loop dir k i₀ i = 16 - i
+μ-loop dir k i₀ i = 17 - i
 
 pub dirent-ranked-spec : {M : Type 1} → statement M
 dirent-ranked-spec =

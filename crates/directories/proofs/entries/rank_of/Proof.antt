@@ -10,10 +10,10 @@ use Rattle.directories.proofs.entries.rank_of.Statement.{statement}
 use Rattle.directories.proofs.entries.rank_of.Tie as tie
 
 abbrev Inv-loop : tie.InvT-loop
-Inv-loop dir i n₀ j₀ n j = (n ≤ j) × (n + count (isBefore dir (i .0)) j 16 ≡ count (isBefore dir (i .0)) 0 16)
+Inv-loop dir i n₀ j₀ n j = (n ≤ j) × (n + count (isBefore dir (i .0)) j 17 ≡ count (isBefore dir (i .0)) 0 17)
 
 abbrev μ-loop : tie.MeasureT-loop
-μ-loop dir i n₀ j₀ n j = 16 - j
+μ-loop dir i n₀ j₀ n j = 17 - j
 
 pub rank-of-spec : {M : Type 1} → statement M
 rank-of-spec =

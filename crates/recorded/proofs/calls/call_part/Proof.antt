@@ -36,10 +36,10 @@ call-part-spec =
     let at-slice-known6 = at-slice-known7 .before .before in
     let at-call = at-slice-known6 .before .before in
     let at-upto = at-call .before .before in
-    let at-call-arg3 = at-upto .before .before in
-    let at-call-arg = at-call-arg3 .before .before in
-    let at-least4 = at-call-arg .before in
+    let at-call-arg4 = at-upto .before .before in
+    let at-call-arg2 = at-call-arg4 .before .before in
+    let at-least4 = at-call-arg2 .before .before in
     let at-least3 = at-least4 .before in
     let at-least2 = at-least3 .before in
     let at-least = at-least2 .before in
-    called _ _ _ _ _ _ _ (at-least .least .ensures) (at-least2 .least2 .ensures) (at-least3 .least3 .ensures) (at-least4 .least4 .ensures) (at-upto .upto .ensures) (at-call .call .ensures)))
+    called _ _ _ _ _ _ _ _ (at-least .least .ensures) (at-least2 .least2 .ensures) (at-least3 .least3 .ensures) (at-least4 .least4 .ensures) (at-upto .upto .ensures) (at-call .call .ensures)))

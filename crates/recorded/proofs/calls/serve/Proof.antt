@@ -11,11 +11,12 @@ serve-spec =
     (λ c. search needs)
     (λ c. search needs)
     (λ c. search needs)
-    (λ c. search needs)
+    (λ c κs. tt)
     (λ c κs. tt)
     (λ c. search needs)
     (λ c.
     let at-processes3 = c .before .before in
     let at-contents3 = at-processes3 .before .before in
     let at-call-part = at-contents3 .before .before in
-    tables-after _ _ (at-call-part .call-part .ensures)))
+    let at-part-of = at-call-part .before .before in
+    tables-after _ _ (at-part-of .part-of .ensures) (at-call-part .call-part .ensures)))

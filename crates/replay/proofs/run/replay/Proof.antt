@@ -6,14 +6,14 @@ use Rattle.replay.proofs.run.replay.Tie as tie
 
 returns : tie.Need-returns
 returns c =
-    let before-c = c .before .before in
-    let before-c-2 = before-c .before .before in
-    let before-c-3 = before-c-2 .before .before in
-    let before-c-4 = before-c-3 .before .before in
-    let at-run-by = before-c-4 .before .before in
-    let before-run-by = at-run-by .before .before in
-    let before-run-by-2 = before-run-by .before .before in
-    let at-sound = before-run-by-2 .before .before in
+    let at-slice-known9 = c .before .before in
+    let at-slice-known8 = at-slice-known9 .before .before in
+    let at-slice-known7 = at-slice-known8 .before .before in
+    let at-slice-known6 = at-slice-known7 .before .before in
+    let at-run-by = at-slice-known6 .before .before in
+    let at-run-by-arg4 = at-run-by .before .before in
+    let at-run-by-arg2 = at-run-by-arg4 .before .before in
+    let at-sound = at-run-by-arg2 .before .before in
     rw (← once _ _ _ _ _ _ _ (at-sound .sound .ensures)) (at-run-by .run-by .ensures)
 
 pub replay-spec : {M : Type 1} → statement M

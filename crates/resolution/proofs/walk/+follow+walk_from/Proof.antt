@@ -12,8 +12,7 @@ use borrow.Fn.Kinds.{In}
 use borrow.Fn.PlainCycle.{Measures, is, falls, and}
 use lib.ListN.{length, getD}
 use Rattle.rules.specs.Choice.{every}
-use Rattle.rules.specs.Layout.{FILE-WIDTH}
-use Rattle.rules.specs.Store.{tree, tab}
+use Rattle.rules.specs.Rom.{filesIn, treeIn}
 use Rattle.rules.specs.Paths.{names}
 use Rattle.rules.specs.Walk.{needAt, onReached, isLink, lookup, start, linkText, stopAt, follows, followBy, walkBy, follower, walk}
 use Rattle.rules.specs.declared.request.Subject.{Subject}
@@ -46,50 +45,50 @@ use Rattle.resolution.proofs.walk.is_followed.Reads as is-followed-read
 use Rattle.resolution.proofs.walk.look_up.Reads as look-up-reads
 use Rattle.resolution.proofs.walk.here.Reads as here-reads
 use Rattle.resolution.proofs.walk.stop_at.Reads as stop-at-reads
-use Rattle.tables.proofs.files.link_text.Reads as link-text-reads
+use Rattle.rom.proofs.seen.link_text.Reads as link-text-reads
 use Rattle.resolution.proofs.walk.+follow+walk_from.{statement}
 use Rattle.resolution.proofs.walk.+follow+walk_from.Tie.{close}
 
-abbrev μ-follow : Measures 3 follow-kinds.ps ℕ
-μ-follow κs a = a .1 .1 .1 .1 .0 .follows * 256
+abbrev μ-follow : Measures 4 follow-kinds.ps ℕ
+μ-follow κs a = a .1 .1 .1 .1 .1 .0 .follows * 256
 
-abbrev μ-walk-from : Measures 4 walk-from-kinds.ps ℕ
-μ-walk-from κs a = a .1 .1 .1 .1 .1 .1 .0 .follows * 256 + length (namesLeft (a .1 .1 .1 .1 .0 .now) (a .1 .1 .1 .1 .1 .0))
+abbrev μ-walk-from : Measures 5 walk-from-kinds.ps ℕ
+μ-walk-from κs a = a .1 .1 .1 .1 .1 .1 .1 .0 .follows * 256 + length (namesLeft (a .1 .1 .1 .1 .1 .0 .now) (a .1 .1 .1 .1 .1 .1 .0))
 
-abbrev follow-at : ℕ → In 3 follow-kinds.ps
-follow-at t = and 3 follow-kinds.ps (is 3 follow-kinds.ps μ-follow t) follow.Pre
+abbrev follow-at : ℕ → In 4 follow-kinds.ps
+follow-at t = and 4 follow-kinds.ps (is 4 follow-kinds.ps μ-follow t) follow.Pre
 
-abbrev follow-below : ℕ → In 3 follow-kinds.ps
-follow-below t = and 3 follow-kinds.ps (falls 3 follow-kinds.ps _<_ μ-follow t) follow.Pre
+abbrev follow-below : ℕ → In 4 follow-kinds.ps
+follow-below t = and 4 follow-kinds.ps (falls 4 follow-kinds.ps _<_ μ-follow t) follow.Pre
 
-abbrev walk-from-at : ℕ → In 4 walk-from-kinds.ps
-walk-from-at t = and 4 walk-from-kinds.ps (is 4 walk-from-kinds.ps μ-walk-from t) walk-from.Pre
+abbrev walk-from-at : ℕ → In 5 walk-from-kinds.ps
+walk-from-at t = and 5 walk-from-kinds.ps (is 5 walk-from-kinds.ps μ-walk-from t) walk-from.Pre
 
-abbrev walk-from-below : ℕ → In 4 walk-from-kinds.ps
-walk-from-below t = and 4 walk-from-kinds.ps (falls 4 walk-from-kinds.ps _<_ μ-walk-from t) walk-from.Pre
+abbrev walk-from-below : ℕ → In 5 walk-from-kinds.ps
+walk-from-below t = and 5 walk-from-kinds.ps (falls 5 walk-from-kinds.ps _<_ μ-walk-from t) walk-from.Pre
 
 -- ---- the follower
 
-module _ (F C Q : List ℕ) (who : Subject) (at : Location) (k : ℕ) (intent : Intent) (b : at .follows ≤ 8) (f : Bool) (p : f ≡ every (follows intent ∷ isLink (tab FILE-WIDTH F) (at .slot) ∷ [])) where
+module _ (R F C Q : List ℕ) (who : Subject) (at : Location) (k : ℕ) (intent : Intent) (b : at .follows ≤ 8) (f : Bool) (p : f ≡ every (follows intent ∷ isLink (filesIn F) (at .slot) ∷ [])) where
   abbrev leads : Walk
-  leads = follower 8 (tree F C) Q who intent k at
+  leads = follower 8 (treeIn R F C) Q who intent k at
 
   itself : not f ≡ true → Reached at ≡ leads
   unfolding followBy
-  itself e = rw (again (tree F C) Q who intent k at b, ← p, not-true f e)
+  itself e = rw (again (treeIn R F C) Q who intent k at b, ← p, not-true f e)
 
   module _ (e : not f ≡ false) where
     spent : at .follows ≡ 0 → Stopped TooDeep k ≡ leads
     unfolding followBy needAt
-    spent z = let l : at .follows ≤ 0 = omega (arith, z) in rw (again (tree F C) Q who intent k at b, ← p, not-false f e, le-ltb 0 (at .follows) l)
+    spent z = let l : at .follows ≤ 0 = omega (arith, z) in rw (again (treeIn R F C) Q who intent k at b, ← p, not-false f e, le-ltb 0 (at .follows) l)
 
-    through : (at .follows ≡ 0 → ⊥) → (root : Location) → root ≡ start (at .follows - 1) → (text : List ℕ) → text ≡ linkText (tree F C) (at .slot) → (rest : Rest) → rest ≡ restFrom text 0 1
-        → (w r : Walk) → w ≡ walk Follow (tree F C) Q who root (rest .k) (namesLeft text rest) → r ≡ stopAt k w → r ≡ leads
+    through : (at .follows ≡ 0 → ⊥) → (root : Location) → root ≡ start (at .follows - 1) → (text : List ℕ) → text ≡ linkText (treeIn R F C) (at .slot) → (rest : Rest) → rest ≡ restFrom text 0 1
+        → (w r : Walk) → w ≡ walk Follow (treeIn R F C) Q who root (rest .k) (namesLeft text rest) → r ≡ stopAt k w → r ≡ leads
     unfolding followBy needAt
     through z root d text x rest y w r u q =
         let l : 0 < at .follows = omega (arith, z) in
-        let v : w ≡ walk Follow (tree F C) Q who root 1 (names text) = u ∙ rw (y, all-left text) in
-        rw (again (tree F C) Q who intent k at b, ← p, not-false f e, lt-ltb 0 (at .follows) l, ← x, ← d, ← v) q
+        let v : w ≡ walk Follow (treeIn R F C) Q who root 1 (names text) = u ∙ rw (y, all-left text) in
+        rw (again (treeIn R F C) Q who intent k at b, ← p, not-false f e, lt-ltb 0 (at .follows) l, ← x, ← d, ← v) q
 
 -- the walk along a text: one follow less, and at most 9 names
 text-below : (at root : Location) (text : List ℕ) (rest : Rest) (μ : ℕ) → at .follows * 256 ≡ μ → at .follows ≤ 8 → (at .follows ≡ 0 → ⊥) → root ≡ start (at .follows - 1) → rest ≡ restFrom text 0 1
@@ -101,9 +100,9 @@ text-below at root text rest μ m b z d y =
 
 -- ---- the walk
 
-module _ (F C Q : List ℕ) (who : Subject) (p : List ℕ) (rest : Rest) (at : Location) (intent : Intent) (n : RestOf p rest) (f : Bool) (d : f ≡ noneLeft p rest) where
+module _ (R F C Q : List ℕ) (who : Subject) (p : List ℕ) (rest : Rest) (at : Location) (intent : Intent) (n : RestOf p rest) (f : Bool) (d : f ≡ noneLeft p rest) where
   abbrev goal : Walk
-  goal = walk intent (tree F C) Q who at (rest .k) (namesLeft p rest)
+  goal = walk intent (treeIn R F C) Q who at (rest .k) (namesLeft p rest)
 
   none : f ≡ true → Reached at ≡ goal
   unfolding walkBy
@@ -126,13 +125,13 @@ module _ (F C Q : List ℕ) (who : Subject) (p : List ℕ) (rest : Rest) (at : L
     fewer = rw split
 
     abbrev onward : Location → Walk
-    onward next = walk intent (tree F C) Q who next (ns .k) (namesLeft p ns)
+    onward next = walk intent (treeIn R F C) Q who next (ns .k) (namesLeft p ns)
 
-    module _ (bc : (j : ℕ) → getD C j 0 < 256) (bp : (j : ℕ) → getD p j 0 < 256) (l : Bool) (z : l ≡ noneLeft p ns) (it : Intent) (h : it ≡ cond l intent Follow) (w : Walk) (v : w ≡ lookupBy it (tree F C) Q who at (x .low) (x .high) (rest .k)) where
-      looked : w ≡ lookup it (tree F C) Q who (nameAt p (rest .start)) (rest .k) at
-      looked = v ∙ rw g (by-words it F C Q who at (nameAt p (rest .start)) (rest .k) bc (name-bytes p (rest .start) bp))
+    module _ (bc : (j : ℕ) → getD C j 0 < 256) (bp : (j : ℕ) → getD p j 0 < 256) (l : Bool) (z : l ≡ noneLeft p ns) (it : Intent) (h : it ≡ cond l intent Follow) (w : Walk) (v : w ≡ lookupBy it (treeIn R F C) Q who at (x .low) (x .high) (rest .k)) where
+      looked : w ≡ lookup it (treeIn R F C) Q who (nameAt p (rest .start)) (rest .k) at
+      looked = v ∙ rw g (by-words it R F C Q who at (nameAt p (rest .start)) (rest .k) bc (name-bytes p (rest .start) bp))
 
-      first : goal ≡ onReached (onReached w (follower 8 (tree F C) Q who it (rest .k))) onward
+      first : goal ≡ onReached (onReached w (follower 8 (treeIn R F C) Q who it (rest .k))) onward
       unfolding walkBy
       first = rw (split, here-left p ns remain l z intent, ← h, looked, next)
 
@@ -143,18 +142,18 @@ module _ (F C Q : List ℕ) (who : Subject) (p : List ℕ) (rest : Rest) (at : L
       module _ (met : Location) (q : w ≡ Reached met) where
         -- what was looked for has no more follows left
         kept : met .follows ≤ at .follows
-        kept = fit-at (lookup-within (tree F C) Q who (at .follows) it (nameAt p (rest .start)) (rest .k) at (le-refl (at .follows))) met (sym looked ∙ q)
+        kept = fit-at (lookup-within (treeIn R F C) Q who (at .follows) it (nameAt p (rest .start)) (rest .k) at (le-refl (at .follows))) met (sym looked ∙ q)
 
         follow-below-it : (μ : ℕ) → at .follows * 256 + length (namesLeft p rest) ≡ μ → at .follows ≤ 8 → (met .follows * 256 < μ) × (met .follows ≤ 8)
         follow-below-it μ m b = (omega (arith, kept, m, fewer), omega (arith, kept, b))
 
-        module _ (y : Walk) (o : y ≡ follower 8 (tree F C) Q who it (rest .k) met) where
+        module _ (y : Walk) (o : y ≡ follower 8 (treeIn R F C) Q who it (rest .k) met) where
           second : goal ≡ onReached y onward
           unfolding onReached
           second = rw (first, q, ← o)
 
           stop : l ≡ true → y ≡ goal
-          stop u = sym (second ∙ on-last intent (tree F C) Q who y (ns .k) (namesLeft p ns) (left-none p ns remain (sym z ∙ u)))
+          stop u = sym (second ∙ on-last intent (treeIn R F C) Q who y (ns .k) (namesLeft p ns) (left-none p ns remain (sym z ∙ u)))
 
           turn : (r : Refusal) (j : ℕ) → y ≡ Stopped r j → Stopped r j ≡ goal
           unfolding onReached
@@ -166,7 +165,7 @@ module _ (F C Q : List ℕ) (who : Subject) (p : List ℕ) (rest : Rest) (at : L
 
           walk-below-it : (to : Location) (μ : ℕ) → y ≡ Reached to → at .follows * 256 + length (namesLeft p rest) ≡ μ → at .follows ≤ 8 → (to .follows * 256 + length (namesLeft p ns) < μ) × (RestOf p ns × (to .follows ≤ 8))
           walk-below-it to μ u m b =
-              let i : to .follows ≤ met .follows = fit-at (follower-within (tree F C) Q who 8 (met .follows) it (rest .k) met (le-refl (met .follows))) to (sym o ∙ u) in
+              let i : to .follows ≤ met .follows = fit-at (follower-within (treeIn R F C) Q who 8 (met .follows) it (rest .k) met (le-refl (met .follows))) to (sym o ∙ u) in
               (omega (arith, kept, i, m, fewer), (remain, omega (arith, kept, i, b)))
 
 pub +follow+walk-from-spec : {M : Type 1} → statement M
@@ -198,8 +197,8 @@ pub +follow+walk-from-spec : {M : Type 1} → statement M
     let at-if2 = at-from-root .before .before in
     let at-if1 = at-if2 .before .before in
     let at-s = at-if1 .before .before in
-    let at-shared-slice-known2 = at-s .before .before in
-    let at-entry = at-shared-slice-known2 .before .before in
+    let at-shared-slice-known3 = at-s .before .before in
+    let at-entry = at-shared-slice-known3 .before .before .before in
     text-below (at-entry .args .at) _ _ _ _ (at-entry .pre .0) (at-entry .pre .1) (at-if2 .if2 .left) (at-from-root .from-root .ensures) (c .rest-from .ensures))
     (λ c κs. tt)
     (λ c.
@@ -210,10 +209,10 @@ pub +follow+walk-from-spec : {M : Type 1} → statement M
     let at-if2 = at-from-root .before .before in
     let at-if1 = at-if2 .before .before in
     let at-is-followed = at-if1 .before in
-    let at-shared-slice-known3 = at-is-followed .before .before in
-    let at-shared-slice-known = at-shared-slice-known3 .before .before in
-    let at-entry = at-shared-slice-known .before in
-    through (at-entry .args .files .now) (at-entry .args .contents .now) (at-entry .args .policy .now) (at-entry .args .who) (at-entry .args .at) (at-entry .args .k) (at-entry .args .intent) (at-entry .pre .1) _ (at-is-followed .is-followed .ensures) (at-if1 .if1 .left) (at-if2 .if2 .left) _ (at-from-root .from-root .ensures) _ (at-link-text .link-text .ensures) _ (at-rest-from .rest-from .ensures) _ _ (at-walk-from .walk-from .ensures) (c .stop-at .ensures)))
+    let at-shared-slice-known4 = at-is-followed .before .before in
+    let at-shared-slice-known2 = at-shared-slice-known4 .before .before in
+    let at-entry = at-shared-slice-known2 .before .before in
+    through (at-entry .args .rom .now) (at-entry .args .files .now) (at-entry .args .contents .now) (at-entry .args .policy .now) (at-entry .args .who) (at-entry .args .at) (at-entry .args .k) (at-entry .args .intent) (at-entry .pre .1) _ (at-is-followed .is-followed .ensures) (at-if1 .if1 .left) (at-if2 .if2 .left) _ (at-from-root .from-root .ensures) _ (at-link-text .link-text .ensures) _ (at-rest-from .rest-from .ensures) _ _ (at-walk-from .walk-from .ensures) (c .stop-at .ensures)))
     λ t. walk-from-lts.spec (
       none-left-reads.Asked,
       none-left-reads.Learnt,
@@ -237,10 +236,10 @@ pub +follow+walk-from-spec : {M : Type 1} → statement M
     (λ c κs. tt)
     (λ c.
     let at-none-left = c .before .before in
-    let at-shared-slice-known3 = at-none-left .before .before in
-    let at-shared-slice-known = at-shared-slice-known3 .before .before in
-    let at-entry = at-shared-slice-known .before in
-    record { fits = small (at-entry .args .files .now) (at-entry .args .contents .now) (at-entry .args .policy .now) (at-entry .args .who) (at-entry .args .path .now) (at-entry .args .rest) (at-entry .args .at) (at-entry .args .intent) (at-entry .pre .1 .0) _ (at-none-left .none-left .ensures) })
+    let at-shared-slice-known4 = at-none-left .before .before in
+    let at-shared-slice-known2 = at-shared-slice-known4 .before .before in
+    let at-entry = at-shared-slice-known2 .before .before in
+    record { fits = small (at-entry .args .rom .now) (at-entry .args .files .now) (at-entry .args .contents .now) (at-entry .args .policy .now) (at-entry .args .who) (at-entry .args .path .now) (at-entry .args .rest) (at-entry .args .at) (at-entry .args .intent) (at-entry .pre .1 .0) _ (at-none-left .none-left .ensures) })
     (λ c κs. tt)
     (λ c κs. tt)
     (λ c κs. tt)
@@ -256,10 +255,10 @@ pub +follow+walk-from-spec : {M : Type 1} → statement M
     let at-read-name = at-rest-from .before in
     let at-if1 = at-read-name .before in
     let at-none-left = at-if1 .before in
-    let at-shared-slice-known4 = at-none-left .before in
-    let at-shared-slice-known2 = at-shared-slice-known4 .before .before in
+    let at-shared-slice-known5 = at-none-left .before in
+    let at-shared-slice-known2 = at-shared-slice-known5 .before .before .before in
     let at-entry = at-shared-slice-known2 .before .before in
-    follow-below-it (at-entry .args .files .now) (at-entry .args .contents .now) (at-entry .args .policy .now) (at-entry .args .who) (at-entry .args .path .now) (at-entry .args .rest) (at-entry .args .at) (at-entry .args .intent) (at-entry .pre .1 .0) _ (at-none-left .none-left .ensures) (at-if1 .if1 .left) _ (at-read-name .read-name .ensures) _ (at-rest-from .rest-from .ensures) (λ j. at-shared-slice-known2 .shared-slice-known2 .given j .fits) (λ j. at-shared-slice-known4 .shared-slice-known4 .given j .fits) _ (at-none-left2 .none-left2 .ensures) _ (at-here .here .ensures) _ (at-look-up .look-up .ensures) _ (at-met .met .given .1) _ (at-entry .pre .0) (at-entry .pre .1 .1))
+    follow-below-it (at-entry .args .rom .now) (at-entry .args .files .now) (at-entry .args .contents .now) (at-entry .args .policy .now) (at-entry .args .who) (at-entry .args .path .now) (at-entry .args .rest) (at-entry .args .at) (at-entry .args .intent) (at-entry .pre .1 .0) _ (at-none-left .none-left .ensures) (at-if1 .if1 .left) _ (at-read-name .read-name .ensures) _ (at-rest-from .rest-from .ensures) (λ j. at-shared-slice-known2 .shared-slice-known2 .given j .fits) (λ j. at-shared-slice-known5 .shared-slice-known5 .given j .fits) _ (at-none-left2 .none-left2 .ensures) _ (at-here .here .ensures) _ (at-look-up .look-up .ensures) _ (at-met .met .given .1) _ (at-entry .pre .0) (at-entry .pre .1 .1))
     (λ c.
     let at-follow = c .before in
     let at-met = at-follow .before .before in
@@ -270,10 +269,10 @@ pub +follow+walk-from-spec : {M : Type 1} → statement M
     let at-read-name = at-rest-from .before in
     let at-if1 = at-read-name .before in
     let at-none-left = at-if1 .before in
-    let at-shared-slice-known4 = at-none-left .before in
-    let at-shared-slice-known2 = at-shared-slice-known4 .before .before in
+    let at-shared-slice-known5 = at-none-left .before in
+    let at-shared-slice-known2 = at-shared-slice-known5 .before .before .before in
     let at-entry = at-shared-slice-known2 .before .before in
-    stop (at-entry .args .files .now) (at-entry .args .contents .now) (at-entry .args .policy .now) (at-entry .args .who) (at-entry .args .path .now) (at-entry .args .rest) (at-entry .args .at) (at-entry .args .intent) (at-entry .pre .1 .0) _ (at-none-left .none-left .ensures) (at-if1 .if1 .left) _ (at-read-name .read-name .ensures) _ (at-rest-from .rest-from .ensures) (λ j. at-shared-slice-known2 .shared-slice-known2 .given j .fits) (λ j. at-shared-slice-known4 .shared-slice-known4 .given j .fits) _ (at-none-left2 .none-left2 .ensures) _ (at-here .here .ensures) _ (at-look-up .look-up .ensures) _ (at-met .met .given .1) _ (at-follow .follow .ensures) (c .if2 .taken))
+    stop (at-entry .args .rom .now) (at-entry .args .files .now) (at-entry .args .contents .now) (at-entry .args .policy .now) (at-entry .args .who) (at-entry .args .path .now) (at-entry .args .rest) (at-entry .args .at) (at-entry .args .intent) (at-entry .pre .1 .0) _ (at-none-left .none-left .ensures) (at-if1 .if1 .left) _ (at-read-name .read-name .ensures) _ (at-rest-from .rest-from .ensures) (λ j. at-shared-slice-known2 .shared-slice-known2 .given j .fits) (λ j. at-shared-slice-known5 .shared-slice-known5 .given j .fits) _ (at-none-left2 .none-left2 .ensures) _ (at-here .here .ensures) _ (at-look-up .look-up .ensures) _ (at-met .met .given .1) _ (at-follow .follow .ensures) (c .if2 .taken))
     (λ c. search needs)
     (λ c. search needs)
     (λ c κs.
@@ -288,10 +287,10 @@ pub +follow+walk-from-spec : {M : Type 1} → statement M
     let at-read-name = at-rest-from .before in
     let at-if1 = at-read-name .before in
     let at-none-left = at-if1 .before in
-    let at-shared-slice-known4 = at-none-left .before in
-    let at-shared-slice-known2 = at-shared-slice-known4 .before .before in
+    let at-shared-slice-known5 = at-none-left .before in
+    let at-shared-slice-known2 = at-shared-slice-known5 .before .before .before in
     let at-entry = at-shared-slice-known2 .before .before in
-    walk-below-it (at-entry .args .files .now) (at-entry .args .contents .now) (at-entry .args .policy .now) (at-entry .args .who) (at-entry .args .path .now) (at-entry .args .rest) (at-entry .args .at) (at-entry .args .intent) (at-entry .pre .1 .0) _ (at-none-left .none-left .ensures) (at-if1 .if1 .left) _ (at-read-name .read-name .ensures) _ (at-rest-from .rest-from .ensures) (λ j. at-shared-slice-known2 .shared-slice-known2 .given j .fits) (λ j. at-shared-slice-known4 .shared-slice-known4 .given j .fits) _ (at-none-left2 .none-left2 .ensures) _ (at-here .here .ensures) _ (at-look-up .look-up .ensures) _ (at-met .met .given .1) _ (at-follow .follow .ensures) _ _ (at-w2 .w2 .given .1) (at-entry .pre .0) (at-entry .pre .1 .1))
+    walk-below-it (at-entry .args .rom .now) (at-entry .args .files .now) (at-entry .args .contents .now) (at-entry .args .policy .now) (at-entry .args .who) (at-entry .args .path .now) (at-entry .args .rest) (at-entry .args .at) (at-entry .args .intent) (at-entry .pre .1 .0) _ (at-none-left .none-left .ensures) (at-if1 .if1 .left) _ (at-read-name .read-name .ensures) _ (at-rest-from .rest-from .ensures) (λ j. at-shared-slice-known2 .shared-slice-known2 .given j .fits) (λ j. at-shared-slice-known5 .shared-slice-known5 .given j .fits) _ (at-none-left2 .none-left2 .ensures) _ (at-here .here .ensures) _ (at-look-up .look-up .ensures) _ (at-met .met .given .1) _ (at-follow .follow .ensures) _ _ (at-w2 .w2 .given .1) (at-entry .pre .0) (at-entry .pre .1 .1))
     (λ c.
     let at-r = c .before in
     let at-look-up = at-r .before .before in
@@ -301,10 +300,10 @@ pub +follow+walk-from-spec : {M : Type 1} → statement M
     let at-read-name = at-rest-from .before in
     let at-if1 = at-read-name .before in
     let at-none-left = at-if1 .before in
-    let at-shared-slice-known4 = at-none-left .before in
-    let at-shared-slice-known2 = at-shared-slice-known4 .before .before in
+    let at-shared-slice-known5 = at-none-left .before in
+    let at-shared-slice-known2 = at-shared-slice-known5 .before .before .before in
     let at-entry = at-shared-slice-known2 .before .before in
-    refuse (at-entry .args .files .now) (at-entry .args .contents .now) (at-entry .args .policy .now) (at-entry .args .who) (at-entry .args .path .now) (at-entry .args .rest) (at-entry .args .at) (at-entry .args .intent) (at-entry .pre .1 .0) _ (at-none-left .none-left .ensures) (at-if1 .if1 .left) _ (at-read-name .read-name .ensures) _ (at-rest-from .rest-from .ensures) (λ j. at-shared-slice-known2 .shared-slice-known2 .given j .fits) (λ j. at-shared-slice-known4 .shared-slice-known4 .given j .fits) _ (at-none-left2 .none-left2 .ensures) _ (at-here .here .ensures) _ (at-look-up .look-up .ensures) _ _ (at-r .r .given .1))
+    refuse (at-entry .args .rom .now) (at-entry .args .files .now) (at-entry .args .contents .now) (at-entry .args .policy .now) (at-entry .args .who) (at-entry .args .path .now) (at-entry .args .rest) (at-entry .args .at) (at-entry .args .intent) (at-entry .pre .1 .0) _ (at-none-left .none-left .ensures) (at-if1 .if1 .left) _ (at-read-name .read-name .ensures) _ (at-rest-from .rest-from .ensures) (λ j. at-shared-slice-known2 .shared-slice-known2 .given j .fits) (λ j. at-shared-slice-known5 .shared-slice-known5 .given j .fits) _ (at-none-left2 .none-left2 .ensures) _ (at-here .here .ensures) _ (at-look-up .look-up .ensures) _ _ (at-r .r .given .1))
     (λ c.
     let at-w = c .before in
     let at-if2 = at-w .before .before in
@@ -317,10 +316,10 @@ pub +follow+walk-from-spec : {M : Type 1} → statement M
     let at-read-name = at-rest-from .before in
     let at-if1 = at-read-name .before in
     let at-none-left = at-if1 .before in
-    let at-shared-slice-known4 = at-none-left .before in
-    let at-shared-slice-known2 = at-shared-slice-known4 .before .before in
+    let at-shared-slice-known5 = at-none-left .before in
+    let at-shared-slice-known2 = at-shared-slice-known5 .before .before .before in
     let at-entry = at-shared-slice-known2 .before .before in
-    turn (at-entry .args .files .now) (at-entry .args .contents .now) (at-entry .args .policy .now) (at-entry .args .who) (at-entry .args .path .now) (at-entry .args .rest) (at-entry .args .at) (at-entry .args .intent) (at-entry .pre .1 .0) _ (at-none-left .none-left .ensures) (at-if1 .if1 .left) _ (at-read-name .read-name .ensures) _ (at-rest-from .rest-from .ensures) (λ j. at-shared-slice-known2 .shared-slice-known2 .given j .fits) (λ j. at-shared-slice-known4 .shared-slice-known4 .given j .fits) _ (at-none-left2 .none-left2 .ensures) _ (at-here .here .ensures) _ (at-look-up .look-up .ensures) _ (at-met .met .given .1) _ (at-follow .follow .ensures) _ _ (at-w .w .given .1))
+    turn (at-entry .args .rom .now) (at-entry .args .files .now) (at-entry .args .contents .now) (at-entry .args .policy .now) (at-entry .args .who) (at-entry .args .path .now) (at-entry .args .rest) (at-entry .args .at) (at-entry .args .intent) (at-entry .pre .1 .0) _ (at-none-left .none-left .ensures) (at-if1 .if1 .left) _ (at-read-name .read-name .ensures) _ (at-rest-from .rest-from .ensures) (λ j. at-shared-slice-known2 .shared-slice-known2 .given j .fits) (λ j. at-shared-slice-known5 .shared-slice-known5 .given j .fits) _ (at-none-left2 .none-left2 .ensures) _ (at-here .here .ensures) _ (at-look-up .look-up .ensures) _ (at-met .met .given .1) _ (at-follow .follow .ensures) _ _ (at-w .w .given .1))
     (λ c.
     let at-w2 = c .before .before in
     let at-if2 = at-w2 .before .before in
@@ -333,7 +332,7 @@ pub +follow+walk-from-spec : {M : Type 1} → statement M
     let at-read-name = at-rest-from .before in
     let at-if1 = at-read-name .before in
     let at-none-left = at-if1 .before in
-    let at-shared-slice-known4 = at-none-left .before in
-    let at-shared-slice-known2 = at-shared-slice-known4 .before .before in
+    let at-shared-slice-known5 = at-none-left .before in
+    let at-shared-slice-known2 = at-shared-slice-known5 .before .before .before in
     let at-entry = at-shared-slice-known2 .before .before in
-    on (at-entry .args .files .now) (at-entry .args .contents .now) (at-entry .args .policy .now) (at-entry .args .who) (at-entry .args .path .now) (at-entry .args .rest) (at-entry .args .at) (at-entry .args .intent) (at-entry .pre .1 .0) _ (at-none-left .none-left .ensures) (at-if1 .if1 .left) _ (at-read-name .read-name .ensures) _ (at-rest-from .rest-from .ensures) (λ j. at-shared-slice-known2 .shared-slice-known2 .given j .fits) (λ j. at-shared-slice-known4 .shared-slice-known4 .given j .fits) _ (at-none-left2 .none-left2 .ensures) _ (at-here .here .ensures) _ (at-look-up .look-up .ensures) _ (at-met .met .given .1) _ (at-follow .follow .ensures) _ _ (at-w2 .w2 .given .1) (c .walk-from .ensures))
+    on (at-entry .args .rom .now) (at-entry .args .files .now) (at-entry .args .contents .now) (at-entry .args .policy .now) (at-entry .args .who) (at-entry .args .path .now) (at-entry .args .rest) (at-entry .args .at) (at-entry .args .intent) (at-entry .pre .1 .0) _ (at-none-left .none-left .ensures) (at-if1 .if1 .left) _ (at-read-name .read-name .ensures) _ (at-rest-from .rest-from .ensures) (λ j. at-shared-slice-known2 .shared-slice-known2 .given j .fits) (λ j. at-shared-slice-known5 .shared-slice-known5 .given j .fits) _ (at-none-left2 .none-left2 .ensures) _ (at-here .here .ensures) _ (at-look-up .look-up .ensures) _ (at-met .met .given .1) _ (at-follow .follow .ensures) _ _ (at-w2 .w2 .given .1) (c .walk-from .ensures))

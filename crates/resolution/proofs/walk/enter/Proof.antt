@@ -1,10 +1,10 @@
-use Rattle.rules.specs.Walk.{entered}
+use Rattle.resolution.specs.Walks.{enteredBy}
 use borrow.Author.Needs.{needs}
 use Rattle.resolution.proofs.walk.enter.Statement.{statement}
 use Rattle.resolution.proofs.walk.enter.Tie as tie
 
 pub enter-spec : {M : Type 1} → statement M
-unfolding entered
+unfolding enteredBy
 enter-spec =
     tie.close
     (tie.spec

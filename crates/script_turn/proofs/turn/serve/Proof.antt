@@ -18,14 +18,14 @@ serve-spec =
     (λ c. search needs)
     (λ c. search needs)
     (λ c.
-    let before-c = c .before .before in
-    let at-write-answer = before-c .before in
-    let before-write-answer = at-write-answer .before .before in
-    let before-write-answer-2 = before-write-answer .before .before in
-    let at-answer = before-write-answer-2 .before in
-    let before-answer = at-answer .before .before in
-    let before-answer-2 = before-answer .before .before in
-    let at-judge = before-answer-2 .before .before in
+    let at-output = c .before .before in
+    let at-write-answer = at-output .before in
+    let at-write-answer-arg = at-write-answer .before .before in
+    let at-buffer = at-write-answer-arg .before .before in
+    let at-answer = at-buffer .before in
+    let at-answer-arg4 = at-answer .before .before in
+    let at-answer-arg2 = at-answer-arg4 .before .before in
+    let at-judge = at-answer-arg2 .before .before in
     unserved _ _ _ _ _ _ _ (at-judge .judge .ensures) _ _ (at-answer .answer .ensures) _ _ (at-write-answer .write-answer .ensures) (c .if1 .taken))
     (λ c κs. tt)
     (λ c. search needs)
@@ -35,27 +35,27 @@ serve-spec =
     (λ c. search needs)
     (λ c. search needs)
     (λ c.
-    let before-c = c .before .before in
-    let before-c-2 = before-c .before .before in
-    let before-c-3 = before-c-2 .before .before in
-    let at-carry = before-c-3 .before .before in
-    let before-carry = at-carry .before .before in
-    let before-carry-2 = before-carry .before .before in
-    let at-if1 = before-carry-2 .before in
-    let before-if1 = at-if1 .before .before in
-    let at-write-answer = before-if1 .before in
-    let before-write-answer = at-write-answer .before .before in
-    let before-write-answer-2 = before-write-answer .before .before in
-    let at-answer = before-write-answer-2 .before in
-    let before-answer = at-answer .before .before in
-    let before-answer-2 = before-answer .before .before in
-    let at-judge = before-answer-2 .before .before in
-    let before-judge = at-judge .before .before in
-    let before-judge-2 = before-judge .before .before in
-    let before-judge-3 = before-judge-2 .before .before in
-    let before-judge-4 = before-judge-3 .before .before in
-    let before-judge-5 = before-judge-4 .before .before in
-    let before-judge-6 = before-judge-5 .before .before in
-    let before-judge-7 = before-judge-6 .before .before in
-    let at-entry = before-judge-7 .before in
+    let at-slice-known11 = c .before .before in
+    let at-slice-known10 = at-slice-known11 .before .before in
+    let at-slice-known9 = at-slice-known10 .before .before in
+    let at-carry = at-slice-known9 .before .before in
+    let at-carry-arg3 = at-carry .before .before in
+    let at-carry-arg = at-carry-arg3 .before .before in
+    let at-if1 = at-carry-arg .before in
+    let at-output = at-if1 .before .before in
+    let at-write-answer = at-output .before in
+    let at-write-answer-arg = at-write-answer .before .before in
+    let at-buffer = at-write-answer-arg .before .before in
+    let at-answer = at-buffer .before in
+    let at-answer-arg4 = at-answer .before .before in
+    let at-answer-arg2 = at-answer-arg4 .before .before in
+    let at-judge = at-answer-arg2 .before .before in
+    let at-judge-arg4 = at-judge .before .before in
+    let at-judge-arg2 = at-judge-arg4 .before .before in
+    let at-slice-known6 = at-judge-arg2 .before .before in
+    let at-shared-slice-known4 = at-slice-known6 .before .before in
+    let at-shared-slice-known2 = at-shared-slice-known4 .before .before in
+    let at-slice-known4 = at-shared-slice-known2 .before .before in
+    let at-slice-known2 = at-slice-known4 .before .before in
+    let at-entry = at-slice-known2 .before .before in
     serves _ _ _ _ _ _ _ (at-judge .judge .ensures) _ _ (at-answer .answer .ensures) _ _ (at-write-answer .write-answer .ensures) (at-if1 .if1 .left) (at-carry .carry .ensures (at-entry .args .buffer .now))))

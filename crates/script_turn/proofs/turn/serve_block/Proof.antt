@@ -10,26 +10,26 @@ part-buffer-end c = search (needs, room-few)
 
 returns : tie.Need-returns
 returns c =
-    let before-c = c .before .before in
-    let before-c-2 = before-c .before .before in
-    let before-c-3 = before-c-2 .before .before in
-    let before-c-4 = before-c-3 .before .before in
-    let before-c-5 = before-c-4 .before .before in
-    let at-serve = before-c-5 .before in
-    let before-serve = at-serve .before .before in
-    let at-upto = before-serve .before in
+    let at-buffer2 = c .before .before in
+    let at-processes = at-buffer2 .before .before in
+    let at-open-files = at-processes .before .before in
+    let at-contents = at-open-files .before .before in
+    let at-files = at-contents .before .before in
+    let at-serve = at-files .before in
+    let at-buffer = at-serve .before .before in
+    let at-upto = at-buffer .before in
     let at-text2 = at-upto .before .before in
     let at-request-for = at-text2 .before in
-    let before-request-for = at-request-for .before .before in
-    let before-request-for-2 = before-request-for .before .before in
-    let at-room-for = before-request-for-2 .before in
+    let at-serve-arg3 = at-request-for .before .before in
+    let at-serve-arg = at-serve-arg3 .before .before in
+    let at-room-for = at-serve-arg .before in
     let at-read-bytes = at-room-for .before .before in
     let at-text = at-read-bytes .before .before in
-    let before-text = at-text .before .before in
-    let before-text-2 = before-text .before .before in
-    let before-text-3 = before-text-2 .before .before in
-    let before-text-4 = before-text-3 .before .before in
-    let at-entry = before-text-4 .before in
+    let at-shared-slice-known4 = at-text .before .before in
+    let at-shared-slice-known2 = at-shared-slice-known4 .before .before in
+    let at-slice-known4 = at-shared-slice-known2 .before .before in
+    let at-slice-known2 = at-slice-known4 .before .before in
+    let at-entry = at-slice-known2 .before .before in
     block-serves
     _
     _

@@ -18,16 +18,16 @@ take-block-spec =
     (λ c. search needs)
     (λ c. search needs)
     (λ c.
-    let before-c = c .before .before in
-    let before-c-2 = before-c .before .before in
-    let before-c-3 = before-c-2 .before .before in
-    let before-c-4 = before-c-3 .before .before in
-    let before-c-5 = before-c-4 .before .before in
-    let at-serve-block = before-c-5 .before in
-    let before-serve-block = at-serve-block .before .before in
-    let before-serve-block-2 = before-serve-block .before .before in
-    let before-serve-block-3 = before-serve-block-2 .before .before in
-    let at-if1 = before-serve-block-3 .before in
+    let at-output = c .before .before in
+    let at-processes = at-output .before .before in
+    let at-open-files = at-processes .before .before in
+    let at-contents = at-open-files .before .before in
+    let at-files = at-contents .before .before in
+    let at-serve-block = at-files .before in
+    let at-serve-block-arg4 = at-serve-block .before .before in
+    let at-serve-block-arg2 = at-serve-block-arg4 .before .before in
+    let at-block-size = at-serve-block-arg2 .before .before in
+    let at-if1 = at-block-size .before in
     let at-block-ok = at-if1 .before in
     full _ _ _ _ _ _ _ _ _ _ (at-block-ok .block-ok .ensures) (at-if1 .if1 .left) _ _ _ (at-serve-block .serve-block .ensures) (c .if2 .taken))
     (λ c. search needs)
@@ -36,15 +36,15 @@ take-block-spec =
     (λ c. search needs)
     (λ c. search needs)
     (λ c.
-    let before-c = c .before .before in
-    let before-c-2 = before-c .before .before in
-    let before-c-3 = before-c-2 .before .before in
-    let before-c-4 = before-c-3 .before .before in
-    let before-c-5 = before-c-4 .before .before in
-    let at-serve-block = before-c-5 .before in
-    let before-serve-block = at-serve-block .before .before in
-    let before-serve-block-2 = before-serve-block .before .before in
-    let at-block-size = before-serve-block-2 .before .before in
+    let at-output = c .before .before in
+    let at-processes = at-output .before .before in
+    let at-open-files = at-processes .before .before in
+    let at-contents = at-open-files .before .before in
+    let at-files = at-contents .before .before in
+    let at-serve-block = at-files .before in
+    let at-serve-block-arg4 = at-serve-block .before .before in
+    let at-serve-block-arg2 = at-serve-block-arg4 .before .before in
+    let at-block-size = at-serve-block-arg2 .before .before in
     let at-if1 = at-block-size .before in
     let at-block-ok = at-if1 .before in
     answered _ _ _ _ _ _ _ _ _ _ (at-block-ok .block-ok .ensures) (at-if1 .if1 .left) _ _ _ (at-serve-block .serve-block .ensures) (c .if2 .left) _ (at-block-size .block-size .ensures)))

@@ -19,15 +19,15 @@ take-turn-spec =
     (λ c. search needs)
     (λ c. search needs)
     (λ c.
-    let before-c = c .before .before in
-    let before-c-2 = before-c .before .before in
-    let before-c-3 = before-c-2 .before .before in
-    let before-c-4 = before-c-3 .before .before in
-    let at-take-block = before-c-4 .before .before in
+    let at-slice-known9 = c .before .before in
+    let at-slice-known8 = at-slice-known9 .before .before in
+    let at-slice-known7 = at-slice-known8 .before .before in
+    let at-slice-known6 = at-slice-known7 .before .before in
+    let at-take-block = at-slice-known6 .before .before in
     let at-read-numbers = at-take-block .before .before in
-    let before-read-numbers = at-read-numbers .before .before in
-    let before-read-numbers-2 = before-read-numbers .before .before in
-    let at-after-line = before-read-numbers-2 .before in
+    let at-take-block-arg3 = at-read-numbers .before .before in
+    let at-take-block-arg = at-take-block-arg3 .before .before in
+    let at-after-line = at-take-block-arg .before in
     let at-from-path = at-after-line .before in
     let at-if2 = at-from-path .before in
     let at-if1 = at-if2 .before in

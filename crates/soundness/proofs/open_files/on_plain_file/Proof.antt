@@ -9,6 +9,7 @@ on-plain-file-spec =
     tie.close
     (tie.spec
     (λ c κs. tt)
+    (λ c κs. tt)
     (λ c. search steps)
     (λ c κs. tt)
     (λ c. search steps))

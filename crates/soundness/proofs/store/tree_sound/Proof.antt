@@ -11,4 +11,6 @@ tree-sound-spec =
     (λ c κs. tt)
     (λ c. search steps)
     (λ c κs. tt)
+    (λ c. search steps)
+    (λ c κs. tt)
     (λ c. search steps))

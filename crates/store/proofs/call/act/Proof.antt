@@ -6,14 +6,14 @@ use Rattle.store.proofs.call.act.Tie as tie
 returns : tie.Need-returns
 unfolding act
 returns c =
-    let before-c = c .before .before in
-    let before-c-2 = before-c .before .before in
-    let before-c-3 = before-c-2 .before .before in
-    let before-c-4 = before-c-3 .before .before in
-    let at-settle = before-c-4 .before .before in
-    let before-settle = at-settle .before .before in
-    let before-settle-2 = before-settle .before .before in
-    let at-decide-call = before-settle-2 .before .before in
+    let at-slice-known9 = c .before .before in
+    let at-slice-known8 = at-slice-known9 .before .before in
+    let at-slice-known7 = at-slice-known8 .before .before in
+    let at-slice-known6 = at-slice-known7 .before .before in
+    let at-settle = at-slice-known6 .before .before in
+    let at-settle-arg4 = at-settle .before .before in
+    let at-settle-arg2 = at-settle-arg4 .before .before in
+    let at-decide-call = at-settle-arg2 .before .before in
     rw (at-decide-call .decide-call .ensures) at (at-settle .settle .ensures)
 
 pub act-spec : {M : Type 1} → statement M

@@ -12,14 +12,14 @@ returns c = rw (sym (c .before .before .sound .ensures) ∙ not-true (c .before 
 returns-2 : tie.Need-returns-2
 unfolding step
 returns-2 c =
-    let before-c = c .before .before in
-    let before-c-2 = before-c .before .before in
-    let before-c-3 = before-c-2 .before .before in
-    let before-c-4 = before-c-3 .before .before in
-    let at-act = before-c-4 .before .before in
-    let before-act = at-act .before .before in
-    let before-act-2 = before-act .before .before in
-    let at-if1 = before-act-2 .before .before in
+    let at-slice-known9 = c .before .before in
+    let at-slice-known8 = at-slice-known9 .before .before in
+    let at-slice-known7 = at-slice-known8 .before .before in
+    let at-slice-known6 = at-slice-known7 .before .before in
+    let at-act = at-slice-known6 .before .before in
+    let at-act-arg4 = at-act .before .before in
+    let at-act-arg2 = at-act-arg4 .before .before in
+    let at-if1 = at-act-arg2 .before .before in
     let at-sound = at-if1 .before in
     rw (sym (at-sound .sound .ensures) ∙ not-false (at-sound .sound .result) (at-if1 .if1 .left)) (at-act .act .ensures)
 

@@ -1,0 +1,3 @@
+-- Laws of the borrowing read.
+pub mod Steps
+pub mod Spans

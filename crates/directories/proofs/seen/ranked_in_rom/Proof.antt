@@ -1,0 +1,14 @@
+use borrow.Author.Needs.{needs}
+use Rattle.directories.proofs.seen.ranked_in_rom.Statement.{statement}
+use Rattle.directories.proofs.seen.ranked_in_rom.Tie as tie
+
+pub ranked-in-rom-spec : {M : Type 1} → statement M
+ranked-in-rom-spec =
+    tie.close
+    (tie.spec
+    (λ c κs. tt)
+    (λ c. search needs)
+    (λ c κs. tt)
+    (λ c κs. tt)
+    (λ c κs. tt)
+    (λ c. cc))
