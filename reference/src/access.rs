@@ -1,7 +1,7 @@
 //! Who is calling, and what the caller may do with a file.
 
 use crate::numbers::{Descriptor, OpenFileNumber, ProcessNumber, Slot};
-use crate::records::File;
+use crate::records::{File, OpenFile};
 use crate::refusal::Refusal;
 use crate::rights::Rights;
 use crate::tables::{Store, Tables};
@@ -65,6 +65,27 @@ impl Tables<'_, '_> {
             OpenFileNumber::from_word(words[descriptor.index()]).ok_or(Refusal::NotHeld)?;
         Ok((descriptor, open_file))
     }
+
+    /// Refuses the wanted rights by the labels alone.
+    pub fn check_label(&self, caller: Caller, file: &File, wanted: Rights) -> Result<(), Refusal> {
+        if self.label_rights(caller.label, file.label).hold(wanted) {
+            Ok(())
+        } else {
+            Err(Refusal::LabelForbids)
+        }
+    }
+
+    /// Refuses the wanted rights over what is open, by the label that the
+    /// caller has now: it may have moved since the file was opened. The
+    /// bits were asked then and are not asked again.
+    pub fn check_still_allowed(
+        &self,
+        caller: Caller,
+        open_file: &OpenFile,
+        wanted: Rights,
+    ) -> Result<(), Refusal> {
+        self.check_label(caller, &self.file(open_file.slot), wanted)
+    }
 }
 
 impl Store<'_> {
@@ -77,7 +98,7 @@ impl Store<'_> {
         if !passes && !caller.rights_by_bits(&file).hold(wanted) {
             return Err(Refusal::BitsForbid);
         }
-        self.check_label(caller, &file, wanted)
+        self.tables().check_label(caller, &file, wanted)
     }
 
     /// Refuses to execute a file. Searching a directory is not executing it:
@@ -87,14 +108,5 @@ impl Store<'_> {
             return Err(Refusal::BitsForbid);
         }
         self.check_rights(caller, slot, Rights::EXECUTE)
-    }
-
-    /// Refuses the wanted rights by the labels alone.
-    pub fn check_label(&self, caller: Caller, file: &File, wanted: Rights) -> Result<(), Refusal> {
-        if self.label_rights(caller.label, file.label).hold(wanted) {
-            Ok(())
-        } else {
-            Err(Refusal::LabelForbids)
-        }
     }
 }

@@ -6,6 +6,7 @@ use crate::directory::BLOCK;
 use crate::numbers::OpenFileNumber;
 use crate::records::{OpenFile, OPEN_FILE_WIDTH};
 use crate::refusal::Refusal;
+use crate::rights::Rights;
 use crate::sound::is_sound;
 use crate::tables::Tables;
 
@@ -44,6 +45,7 @@ impl<'bytes> Tables<'_, 'bytes> {
         if !open_file.mode.reads() {
             return Err(Refusal::WrongDirection);
         }
+        self.check_still_allowed(caller, &open_file, Rights::READ)?;
         let bytes = self.bytes(open_file.slot);
         Ok(Ahead {
             number,

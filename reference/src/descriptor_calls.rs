@@ -4,7 +4,7 @@ use crate::access::Caller;
 use crate::answer::Answer;
 use crate::directory::BLOCK;
 use crate::refusal::{Refusal, Refused};
-use crate::rights::OpenMode;
+use crate::rights::{OpenMode, Rights};
 use crate::tables::Store;
 
 impl Store<'_> {
@@ -42,6 +42,9 @@ impl Store<'_> {
         if !open_file.mode.writes() {
             return Err(Refusal::WrongDirection.into());
         }
+        // Before a write of no data is granted: it asks the label too.
+        self.tables()
+            .check_still_allowed(caller, &open_file, Rights::WRITE)?;
         if data.is_empty() {
             return Ok(Answer::done());
         }

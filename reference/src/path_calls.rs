@@ -85,7 +85,7 @@ impl Store<'_> {
         if slot.is_in_rom() || !caller.is_master_of(&file) {
             return Err(Refusal::BitsForbid.into());
         }
-        self.check_label(caller, &file, Rights::WRITE)?;
+        self.tables().check_label(caller, &file, Rights::WRITE)?;
         self.change_file(slot, |file| file.bits = bits);
         Ok(Answer::done())
     }

@@ -76,6 +76,11 @@ impl<'a, 'bytes> Tables<'a, 'bytes> {
     pub fn process(&self, number: ProcessNumber) -> Process {
         Process::from_words(self.processes[number.index()])
     }
+
+    /// The rights of a process label over a file label.
+    pub fn label_rights(&self, process_label: u32, file_label: u32) -> Rights {
+        Rights(u32::from(self.policy[cell(process_label, file_label)]))
+    }
 }
 
 /// The tables and ROM, lent for a call.
@@ -181,11 +186,6 @@ impl<'a> Store<'a> {
     ) {
         let column = PROCESS_DESCRIPTOR + descriptor.index();
         self.processes[process.index()][column] = OpenFileNumber::to_word(held);
-    }
-
-    /// The rights of a process label over a file label.
-    pub fn label_rights(&self, process_label: u32, file_label: u32) -> Rights {
-        Rights(u32::from(self.policy[cell(process_label, file_label)]))
     }
 
     /// The label to which a program's label moves a process's.

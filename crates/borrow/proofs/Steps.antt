@@ -33,7 +33,7 @@ module _ (K : Fixed) (s : Store) (p : Pid) (i : Fd) (n : ℕ) where
 
   moves-fit : Fit Moves (decideBorrow K w p i n)
   unfolding decideBorrow decideRead readOpen
-  moves-fit = need-fit _ _ _ (λ _. need-fit _ _ _ (λ _. need-fit _ _ _ (λ _. need-fit _ _ _ (λ _. granting _ _ _ (λ c t. unfold offsetMoved carryOut in refl)))))
+  moves-fit = need-fit _ _ _ (λ _. need-fit _ _ _ (λ _. need-fit _ _ _ (λ _. need-fit _ _ _ (λ _. need-fit _ _ _ (λ _. granting _ _ _ (λ c t. unfold offsetMoved carryOut in refl))))))
 
   -- a decision in steps
   abbrev steps : Decision → LentBack

@@ -55,7 +55,7 @@ module _ (K : Fixed) (v : View) (p : Pid) (i : Fd) (n : ℕ) where
 
   lent-fit : Fit Lent (decideBorrow K v p i n)
   unfolding decideBorrow decideRead readOpen
-  lent-fit = need-fit _ _ _ (λ u. need-fit _ _ _ (λ _. need-fit _ _ _ (λ h. need-fit _ _ _ (λ _. granting _ _ _ (lent u h)))))
+  lent-fit = need-fit _ _ _ (λ u. need-fit _ _ _ (λ _. need-fit _ _ _ (λ h. need-fit _ _ _ (λ _. need-fit _ _ _ (λ _. granting _ _ _ (lent u h))))))
 
 -- no file is changed
 pub borrow-leaves : (K : Fixed) (s : Store) (p : Pid) (i : Fd) (n f : ℕ) → SameFile s (stepBorrow K s p i n .store) f

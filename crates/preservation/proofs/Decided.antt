@@ -273,9 +273,9 @@ module _ (K : Fixed) (s : Store) (a : AllSound K s) (c : Call) (u : Caller (tabl
   facts o n out e k f (passed.describes at w) = nothing 0 _
   facts o n out e k f (passed.closes t) =
       rw (releasing-seen (view s .tree .file) (view s .openFiles) (view s .desc) (c .process) (c .fd)) (closes (c .fd) u (holds s h (c .process) (c .fd) u t .fd-small))
-  facts o n out e k f (passed.fetches t r) = reads mine (count K v c) (open-at t) (within (open-at t))
-  facts o n out e k f (passed.storesNothing t r z) = nothing 0 _
-  facts o n out e k f (passed.stores t r z l) =
+  facts o n out e k f (passed.fetches t r y) = reads mine (count K v c) (open-at t) (within (open-at t))
+  facts o n out e k f (passed.storesNothing t r y z) = nothing 0 _
+  facts o n out e k f (passed.stores t r y z l) =
       let hs = write-stored (open-at t) r in
       rw (row-is (slot (view s .openFiles mine OPEN-SLOT)) hs)
       (stores mine _ (open-at t) hs (leb-true (writeAt (v .tree .file) (view s .openFiles) (ofd K v c) + length (c .«data»)) BLOCK l) (k, (omega (arith, eqb-false (length (c .«data»)) 0 z), refl)))

@@ -9,6 +9,7 @@ pub mod Written
 pub mod Guards
 pub mod LinkGuards
 pub mod RomGuards
+pub mod StaleGuards
 pub mod Walks
 pub mod Passed
 pub mod Unused

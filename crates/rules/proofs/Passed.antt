@@ -16,7 +16,7 @@ use Rattle.rules.specs.Calls.{Call, operationOf, operation, formOk, well
 use Rattle.rules.specs.Checks.{need, after, inUse, held, ofdHeld, isAbsent, freeSlot, freeOfd, freeFd, freePid, gains, loses, freed, unnaming, releasing}
 use Rattle.rules.specs.DecidePaths.{allowed, mayName, naming, newOpen, truncated, opening, openRoom, openFile, openMode, decideOpen, newFile, newRecord, making, createRoom, depthOk, createAt, decideCreate, newLink, decideSymlink, unlinkAt, decideUnlink, removeAt, decideRemove}
 use Rattle.rules.specs.DecidePaths.{linkRoom, linkAt, linkTo, decideLink, listEntry, listAt, decideList, mayChange, changeBitsAt, decideChangeBits, decideStat, bitsAllowExecute, executeAt, decideExecute, readLinkAt, decideReadLink}
-use Rattle.rules.specs.Decide.{decideClose, remaining, readOpen, decideRead, writeAt, placement, writeFile, writeSome, writeOpen, decideWrite, decideSeek, duplicateTo, decideDuplicate, forkTo, decideFork, decideOwn, decide, decideBorrow}
+use Rattle.rules.specs.Decide.{decideClose, labelAllowsOpen, remaining, readOpen, decideRead, writeAt, placement, writeFile, writeSome, writeOpen, decideWrite, decideSeek, duplicateTo, decideDuplicate, forkTo, decideFork, decideOwn, decide, decideBorrow}
 use Rattle.rules.specs.Step.{readOf}
 use Rattle.rules.specs.declared.ids.Slot.{Slot}
 use Rattle.rules.specs.declared.ids.Pid.{Pid}
@@ -140,6 +140,10 @@ module _ (K : Fixed) (v : View) (c : Call) where
   abbrev pub mode : OpenMode
   mode = modeAt (v .openFiles (ofd .0) OPEN-MODE)
 
+  -- the caller's label still has the rights over the file that it holds open
+  abbrev pub StillAllowed : Rights → Type 0
+  StillAllowed want = labelAllowsOpen file (v .openFiles) Q who ofd want ≡ true
+
   -- how many bytes are read
   abbrev pub count : ℕ
   count = min (length (c .buffer)) (remaining (K .rom) file (v .openFiles) ofd)
@@ -181,10 +185,10 @@ module _ (K : Fixed) (v : View) (c : Call) where
         Passed op.ChangeBits 0 output.Nothing (effect.BitsChanged (at .slot) b)
     describes : (at : Location) → Walked at → Passed op.Stat 0 (output.Fields (recordOf (K .rom) file (at .slot))) effect.Nothing
     closes : Holding → Passed op.Close 0 output.Nothing (effect.Closed (c .fd) (releasing file (v .openFiles) (v .desc) (c .process) (c .fd)))
-    fetches : Holding → reads mode ≡ true →
+    fetches : Holding → reads mode ≡ true → StillAllowed READ →
         Passed op.Read count (output.Bytes (slot (v .openFiles (ofd .0) OPEN-SLOT)) (v .openFiles (ofd .0) OPEN-OFFSET) count) (effect.Moved ofd (plus (v .openFiles (ofd .0) OPEN-OFFSET) count))
-    storesNothing : Holding → writes mode ≡ true → eqb (length (c .«data»)) 0 ≡ true → Passed op.Write 0 output.Nothing effect.Nothing
-    stores : Holding → writes mode ≡ true → eqb (length (c .«data»)) 0 ≡ false → leb (writeAt file (v .openFiles) ofd + length (c .«data»)) BLOCK ≡ true →
+    storesNothing : Holding → writes mode ≡ true → StillAllowed WRITE → eqb (length (c .«data»)) 0 ≡ true → Passed op.Write 0 output.Nothing effect.Nothing
+    stores : Holding → writes mode ≡ true → StillAllowed WRITE → eqb (length (c .«data»)) 0 ≡ false → leb (writeAt file (v .openFiles) ofd + length (c .«data»)) BLOCK ≡ true →
         Passed op.Write (length (c .«data»)) output.Nothing (effect.Stored (placement file ofd (slot (v .openFiles (ofd .0) OPEN-SLOT)) (writeAt file (v .openFiles) ofd) (length (c .«data»))))
     seeks : Holding → Passed op.Seek (c .number) output.Nothing (effect.Moved ofd (c .number))
     duplicates : Holding → isFd (freeFd (v .desc) (c .process)) ≡ true →
@@ -259,9 +263,9 @@ module _ (K : Fixed) (v : View) (c : Call) where
   bits-fit bitsNumber.OutOfRange e = refusing _ _
   bits-fit (bitsNumber.Valid b) e = after-fit _ _ (λ at w. need-fit _ _ _ (λ o. need-fit _ _ _ (λ l. granting _ _ _ (changesBits at b e w (test 0 _ o) (test 1 _ o) l))))
 
-  write-fit : Fit (Passed op.Write) (decideWrite file (v .openFiles) (v .desc) (c .process) (c .fd) (length (c .«data»)))
+  write-fit : Fit (Passed op.Write) (decideWrite Q file (v .openFiles) (v .desc) (c .process) who (c .fd) (length (c .«data»)))
   unfolding decideWrite writeOpen writeSome writeFile
-  write-fit = need-fit _ _ _ (λ h. need-fit _ _ _ (λ w. cond-fit _ _ _ (λ z. granting _ _ _ (storesNothing h w z)) (λ z. need-fit _ _ _ (λ l. granting _ _ _ (stores h w z l)))))
+  write-fit = need-fit _ _ _ (λ h. need-fit _ _ _ (λ w. need-fit _ _ _ (λ a. cond-fit _ _ _ (λ z. granting _ _ _ (storesNothing h w a z)) (λ z. need-fit _ _ _ (λ l. granting _ _ _ (stores h w a z l))))))
 
   own-fit : (o : Operation) → Fit (Passed o) (decideOwn K v c o)
   unfolding decideOwn decideOpen decideUnlink unlinkAt decideRemove removeAt decideStat decideClose decideRead readOpen decideSeek decideDuplicate duplicateTo forkTo decideExecute executeAt decideReadLink readLinkAt
@@ -275,7 +279,7 @@ module _ (K : Fixed) (v : View) (c : Call) where
   own-fit op.ChangeBits = bits-fit (bitsOf (c .number)) refl
   own-fit op.Stat = after-fit _ _ (λ at w. granting _ _ _ (describes at w))
   own-fit op.Close = need-fit _ _ _ (λ h. granting _ _ _ (closes h))
-  own-fit op.Read = need-fit _ _ _ (λ h. need-fit _ _ _ (λ r. granting _ _ _ (fetches h r)))
+  own-fit op.Read = need-fit _ _ _ (λ h. need-fit _ _ _ (λ r. need-fit _ _ _ (λ a. granting _ _ _ (fetches h r a))))
   own-fit op.Write = write-fit
   own-fit op.Seek = need-fit _ _ _ (λ h. granting _ _ _ (seeks h))
   own-fit op.Duplicate = need-fit _ _ _ (λ h. need-fit _ _ _ (λ i. granting _ _ _ (duplicates h i)))
@@ -301,4 +305,4 @@ module _ (K : Fixed) (v : View) (p : Pid) (i : Fd) (n : ℕ) where
   unfolding decideBorrow decideOwn operationOf formOk
   borrow-permitted = need-fit _ _ _ (λ u. need-fit _ _ _ (λ s.
       fit-map (λ value o e h. record { small = s; permit = record { used = u; formed = refl; passed = h } })
-      (subst (λ m. Fit (Passed K v (readOf p i n) op.Read) (decideRead (K .rom) (v .tree .file) (v .openFiles) (v .desc) p i m)) (length-zeros n) (own-fit K v (readOf p i n) op.Read))))
+      (subst (λ m. Fit (Passed K v (readOf p i n) op.Read) (decideRead (K .policy) (K .rom) (v .tree .file) (v .openFiles) (v .desc) p (subjectOf (v .proc) p) i m)) (length-zeros n) (own-fit K v (readOf p i n) op.Read))))

@@ -70,9 +70,9 @@ module _ (K : Fixed) (v : View) (c d : Call) where
   carried-same t o n out e a (passed.changesBits at b q w p y l) = refl
   carried-same t o n out e a (passed.describes at w) = refl
   carried-same t o n out e a (passed.closes h) = rw (a .process)
-  carried-same t o n out e a (passed.fetches h r) = refl
-  carried-same t o n out e a (passed.storesNothing h r z) = refl
-  carried-same t o n out e a (passed.stores h r z l) = rw (a .«data» (λ z. omega (arith, z)))
+  carried-same t o n out e a (passed.fetches h r l) = refl
+  carried-same t o n out e a (passed.storesNothing h r y z) = refl
+  carried-same t o n out e a (passed.stores h r y z l) = rw (a .«data» (λ z. omega (arith, z)))
   carried-same t o n out e a (passed.seeks h) = refl
   carried-same t o n out e a (passed.duplicates h i) = rw (a .process)
   carried-same t o n out e a (passed.forks q) = rw (a .process)

@@ -7,7 +7,8 @@ use lib.ListN.{length}
 use Rattle.rules.specs.Layout.{BLOCK, DESCRIPTORS, PROCESSES, PLAIN, DIRECTORY, FILE-LENGTH, FILE-VERSION, OPEN-SLOT, OPEN-MODE, OPEN-OFFSET, OPEN-REFERENCES, PROCESS-USER, PROCESS-LABEL}
 use Rattle.rules.specs.Store.{Fixed, Table, View, slot, isPid, isFd, modeAt, subjectOf, up, plus}
 use Rattle.rules.specs.Rom.{lengthIn}
-use Rattle.rules.specs.Rights.{bitsOf, reads, writes, appends}
+use Rattle.rules.specs.Rights.{READ, WRITE, bitsOf, reads, writes, appends}
+use Rattle.rules.specs.Walk.{labelAllows}
 use Rattle.rules.specs.Calls.{Call, operation, wellFormed}
 use Rattle.rules.specs.Checks.{need, granted, inUse, held, ofdHeld, freeFd, freePid, releasing}
 use Rattle.rules.specs.DecidePaths.{decideOpen, decideCreate, decideUnlink, decideRemove, decideLink, decideList, decideChangeBits, decideStat, decideExecute, decideSymlink, decideReadLink}
@@ -15,10 +16,11 @@ use Rattle.rules.specs.declared.ids.Slot.{Slot}
 use Rattle.rules.specs.declared.ids.Pid.{Pid}
 use Rattle.rules.specs.declared.ids.Fd.{Fd}
 use Rattle.rules.specs.declared.ids.Ofd.{Ofd}
+use Rattle.rules.specs.declared.rights.Rights.{Rights}
 use Rattle.rules.specs.declared.request.Subject.{Subject}
 use Rattle.rules.specs.declared.request.Operation.{Operation}
 use Rattle.rules.specs.declared.request.Operation.the-variants as op
-use Rattle.rules.specs.declared.refusal.Refusal.the-variants.{NoProcess, Malformed, NotHeld, WrongDirection, TableFull, TooLong}
+use Rattle.rules.specs.declared.refusal.Refusal.the-variants.{NoProcess, Malformed, NotHeld, WrongDirection, LabelForbids, TableFull, TooLong}
 use Rattle.rules.specs.declared.decision.Placement.{Placement}
 use Rattle.rules.specs.declared.decision.Output.the-variants as output
 use Rattle.rules.specs.declared.decision.Effect.{Effect}
@@ -34,7 +36,13 @@ closed file openFiles desc p i = granted 0 (effect.Closed i (releasing file open
 unfoldable pub decideClose : (file openFiles desc : Table) → Pid → Fd → Decision
 decideClose file openFiles desc p i = need (held desc p i) NotHeld (closed file openFiles desc p i)
 
--- ---- 11. Read (4, 5): "as many bytes as it holds and the file has from the position; the position moves by that count"
+-- ---- an open file is no right (paper 02, R-8): "calls 11, 12 and the borrowing read ask the caller's present label each time: 10, after 5 and before 14"
+
+-- the label of who has the rights over the file of open file e. Bits are not asked again
+abbrev pub labelAllowsOpen : (file openFiles : Table) → List ℕ → Subject → Ofd → Rights → Bool
+labelAllowsOpen file openFiles Q who e want = labelAllows file Q who (slot (openFiles (e .0) OPEN-SLOT)) want
+
+-- ---- 11. Read (4, 5, 10): "as many bytes as it holds and the file has from the position; the position moves by that count"
 
 -- what the file of open file e has from its offset on
 abbrev pub remaining : List ℕ → (file openFiles : Table) → Ofd → ℕ
@@ -43,13 +51,17 @@ remaining R file openFiles e = lengthIn R file (slot (openFiles (e .0) OPEN-SLOT
 abbrev pub fetching : Table → Ofd → ℕ → Decision
 fetching openFiles e n = Granted n (output.Bytes (slot (openFiles (e .0) OPEN-SLOT)) (openFiles (e .0) OPEN-OFFSET) n) (effect.Moved e (plus (openFiles (e .0) OPEN-OFFSET) n))
 
-unfoldable pub readOpen : List ℕ → (file openFiles : Table) → Ofd → (size : ℕ) → Decision
-readOpen R file openFiles e size = need (reads (modeAt (openFiles (e .0) OPEN-MODE))) WrongDirection (fetching openFiles e (min size (remaining R file openFiles e)))
+-- a read of size 0 asks the label too
+unfoldable pub readOpen : (Q R : List ℕ) → (file openFiles : Table) → Subject → Ofd → (size : ℕ) → Decision
+readOpen Q R file openFiles who e size =
+    need (reads (modeAt (openFiles (e .0) OPEN-MODE))) WrongDirection
+    (need (labelAllowsOpen file openFiles Q who e READ) LabelForbids
+    (fetching openFiles e (min size (remaining R file openFiles e))))
 
-unfoldable pub decideRead : List ℕ → (file openFiles desc : Table) → Pid → Fd → (size : ℕ) → Decision
-decideRead R file openFiles desc p i size = need (held desc p i) NotHeld (readOpen R file openFiles (ofdHeld desc p i) size)
+unfoldable pub decideRead : (Q R : List ℕ) → (file openFiles desc : Table) → Pid → Subject → Fd → (size : ℕ) → Decision
+decideRead Q R file openFiles desc p who i size = need (held desc p i) NotHeld (readOpen Q R file openFiles who (ofdHeld desc p i) size)
 
--- ---- 12. Write (4, 5, 14): "all or nothing, at the position, or at the length for append; a gap is filled with 0. Position moves to the end
+-- ---- 12. Write (4, 5, 10, 14): "all or nothing, at the position, or at the length for append; a gap is filled with 0. Position moves to the end
 -- of what was written; value is the count. Zero bytes change nothing"
 
 unfoldable pub writeAt : (file openFiles : Table) → Ofd → ℕ
@@ -73,11 +85,15 @@ writeFile file openFiles e at n = need (leb (at + n) BLOCK) TooLong (granted n (
 unfoldable pub writeSome : (file openFiles : Table) → Ofd → (n : ℕ) → Decision
 writeSome file openFiles e n = cond (eqb n 0) (granted 0 effect.Nothing) (writeFile file openFiles e (writeAt file openFiles e) n)
 
-unfoldable pub writeOpen : (file openFiles : Table) → Ofd → (n : ℕ) → Decision
-writeOpen file openFiles e n = need (writes (modeAt (openFiles (e .0) OPEN-MODE))) WrongDirection (writeSome file openFiles e n)
+-- a write of no bytes asks the label too
+unfoldable pub writeOpen : List ℕ → (file openFiles : Table) → Subject → Ofd → (n : ℕ) → Decision
+writeOpen Q file openFiles who e n =
+    need (writes (modeAt (openFiles (e .0) OPEN-MODE))) WrongDirection
+    (need (labelAllowsOpen file openFiles Q who e WRITE) LabelForbids
+    (writeSome file openFiles e n))
 
-unfoldable pub decideWrite : (file openFiles desc : Table) → Pid → Fd → (n : ℕ) → Decision
-decideWrite file openFiles desc p i n = need (held desc p i) NotHeld (writeOpen file openFiles (ofdHeld desc p i) n)
+unfoldable pub decideWrite : List ℕ → (file openFiles desc : Table) → Pid → Subject → Fd → (n : ℕ) → Decision
+decideWrite Q file openFiles desc p who i n = need (held desc p i) NotHeld (writeOpen Q file openFiles who (ofdHeld desc p i) n)
 
 -- ---- 13. Seek (4): "position 0 to 512; value is the position"
 
@@ -127,8 +143,8 @@ decideOwn K v c op.List = decideList (K .policy) (v .tree) (asker v c) (c .numbe
 decideOwn K v c op.ChangeBits = decideChangeBits (K .policy) (v .tree) (asker v c) (bitsOf (c .number)) (c .path)
 decideOwn K v c op.Stat = decideStat (K .policy) (K .rom) (v .tree) (asker v c) (c .path)
 decideOwn K v c op.Close = decideClose (v .tree .file) (v .openFiles) (v .desc) (c .process) (c .fd)
-decideOwn K v c op.Read = decideRead (K .rom) (v .tree .file) (v .openFiles) (v .desc) (c .process) (c .fd) (length (c .buffer))
-decideOwn K v c op.Write = decideWrite (v .tree .file) (v .openFiles) (v .desc) (c .process) (c .fd) (length (c .«data»))
+decideOwn K v c op.Read = decideRead (K .policy) (K .rom) (v .tree .file) (v .openFiles) (v .desc) (c .process) (asker v c) (c .fd) (length (c .buffer))
+decideOwn K v c op.Write = decideWrite (K .policy) (v .tree .file) (v .openFiles) (v .desc) (c .process) (asker v c) (c .fd) (length (c .«data»))
 decideOwn K v c op.Seek = decideSeek (v .desc) (c .process) (c .fd) (c .number)
 decideOwn K v c op.Duplicate = decideDuplicate (v .openFiles) (v .desc) (c .process) (c .fd)
 decideOwn K v c op.Fork = decideFork (v .proc) (c .process)
@@ -145,4 +161,7 @@ decide K v c = need (inUse (v .proc) (c .process)) NoProcess (need (wellFormed c
 -- ---- the borrowing read (paper 02, R-6): "up to a given count (over 512 is 3); checks, value and position are as in read"
 
 unfoldable pub decideBorrow : Fixed → View → Pid → Fd → (n : ℕ) → Decision
-decideBorrow K v p i n = need (inUse (v .proc) p) NoProcess (need (leb n BLOCK) Malformed (decideRead (K .rom) (v .tree .file) (v .openFiles) (v .desc) p i n))
+decideBorrow K v p i n =
+    need (inUse (v .proc) p) NoProcess
+    (need (leb n BLOCK) Malformed
+    (decideRead (K .policy) (K .rom) (v .tree .file) (v .openFiles) (v .desc) p (subjectOf (v .proc) p) i n))

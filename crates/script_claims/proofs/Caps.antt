@@ -12,17 +12,17 @@ use lib.ListN.{length, take}
 use lib.Seq.{length-take-le, take-all}
 use Rattle.rules.specs.Choice.{every}
 use Rattle.rules.specs.Layout.{BLOCK, PROCESSES, DESCRIPTORS, PATH, OPEN-MODE}
-use Rattle.rules.specs.Rights.{writes}
-use Rattle.rules.specs.Store.{Store, Fixed, Table, View, pidOf, fdOf, modeAt, view, descOf}
+use Rattle.rules.specs.Rights.{WRITE, writes}
+use Rattle.rules.specs.Store.{Store, Fixed, Table, View, pidOf, fdOf, modeAt, subjectOf, view, descOf}
 use Rattle.rules.specs.Rom.{seen}
 use Rattle.rules.specs.Paths.{sizeOk, shapeOk, pathOk}
 use Rattle.rules.specs.Calls.{Call, operationOf, uses, Agree, formOk, pathBelowRoot}
 use Rattle.rules.specs.Written.{Written}
 use Rattle.rules.specs.Checks.{need, inUse, held, ofdHeld}
-use Rattle.rules.specs.Decide.{decideClose, decideRead, decideWrite, writeOpen, writeSome, writeFile, decideSeek, decideDuplicate, decideOwn, decide}
+use Rattle.rules.specs.Decide.{decideClose, labelAllowsOpen, decideRead, decideWrite, writeOpen, writeSome, writeFile, decideSeek, decideDuplicate, decideOwn, decide}
 use Rattle.rules.specs.Step.{replyTo, storeAfter, outcomeOf, into, act, step}
 use Rattle.rules.specs.declared.ids.Ofd.{Ofd}
-use Rattle.rules.specs.declared.refusal.Refusal.the-variants.{NoProcess, Malformed, NotHeld, WrongDirection, TooLong}
+use Rattle.rules.specs.declared.refusal.Refusal.the-variants.{NoProcess, Malformed, NotHeld, WrongDirection, LabelForbids, TooLong}
 use Rattle.rules.specs.declared.request.Operation.{Operation}
 use Rattle.rules.specs.declared.request.Operation.the-variants as op
 use Rattle.rules.specs.declared.decision.Decision.{Decision}
@@ -151,11 +151,15 @@ module _ (K : Fixed) (s : Store) (k : ℕ) (path buffer : List ℕ) where
 
   -- what becomes of a write of too much
   unwritten : (p i : ℕ) → Decision
-  unwritten p i = need (held (v .desc) (pidOf p) (fdOf i)) NotHeld (need (writes (modeAt (v .openFiles (ofdHeld (v .desc) (pidOf p) (fdOf i) .0) OPEN-MODE))) WrongDirection (Refused TooLong 0))
+  unwritten p i =
+      need (held (v .desc) (pidOf p) (fdOf i)) NotHeld
+      (need (writes (modeAt (v .openFiles (ofdHeld (v .desc) (pidOf p) (fdOf i) .0) OPEN-MODE))) WrongDirection
+      (need (labelAllowsOpen (v .tree .file) (v .openFiles) (K .policy) (subjectOf (v .proc) (pidOf p)) (ofdHeld (v .desc) (pidOf p) (fdOf i)) WRITE) LabelForbids
+      (Refused TooLong 0)))
 
   unwritten-refuses : (p i : ℕ) → Refuses (unwritten p i)
   unfolding unwritten
-  unwritten-refuses p i = need-fit _ _ _ (λ _. need-fit _ _ _ (λ _. refusing TooLong 0))
+  unwritten-refuses p i = need-fit _ _ _ (λ _. need-fit _ _ _ (λ _. need-fit _ _ _ (λ _. refusing TooLong 0)))
 
   module _ (p n i j : ℕ) (a b : List ℕ) (fd : Cap Large i j) (text : Cap Long a b) where
     abbrev Same : Operation → Type 0

@@ -4,7 +4,7 @@ use mathlib.Core.Bool.{Bool, true, false, cond}
 use mathlib.Core.List.{List, [], _∷_}
 use Prim.Native.Nat.{ℕ, _<_}
 use Rattle.rules.specs.Choice.{every}
-use Rattle.rules.specs.Layout.{LABELS}
+use Rattle.rules.specs.Layout.{LABELS, PROCESS-LABEL}
 use Rattle.rules.specs.Rights.{moved}
 use Rattle.rules.specs.Store.{Store, Fixed, View, view}
 use Rattle.rules.specs.Rom.{seen, romSound}
@@ -69,9 +69,12 @@ module _ (K : Fixed) (reach : ℕ → Type 0) (f n L : ℕ) (no-right : (l : ℕ
   outcome-alike s s′ a z h c put _ (refusing r k) = record { replies = refl; stores = apart a z }
   outcome-alike s s′ a z h c put _ (granting value o e g) = record {
     replies = ap₂ (λ (x y : List ℕ). record { refusal = GRANTED; stop = 0; value = value; name = x; fields = fieldsOut o; buffer = put y })
-        (name-same K reach f n L no-right closed-under s s′ a z (small-label K s h) o) (bytes-same K reach f n L no-right closed-under s s′ a z (small-label K s h) o (g .output-fit));
-    stores = effect-keep K reach f n L no-right closed-under s s′ a z (small-label K s h) c e (z .labels .used (c .process .0) (g .caller .small) (g .caller .used)) (g .effect-fit);
+        (name-same K reach f n L no-right closed-under s s′ a z (small-label K s h) o) (bytes-same K reach f n L no-right closed-under s s′ a z (small-label K s h) (c .process) o reached (g .output-fit));
+    stores = effect-keep K reach f n L no-right closed-under s s′ a z (small-label K s h) c e reached (g .effect-fit);
   }
+    where
+      reached : reach (view s .proc (c .process .0) PROCESS-LABEL)
+      reached = z .labels .used (c .process .0) (g .caller .small) (g .caller .used)
 
   -- a decision made on what the rules see
   decided-alike : (s s′ : Store) → Apart f n s s′ → Secret reach f n L s → sound K s ≡ true → (c : Call) (put : List ℕ → List ℕ) (g : View → Decision) → Fit (Grant (K .policy) (seenOf s) (c .process)) (g (seenOf s))

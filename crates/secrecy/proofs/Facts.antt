@@ -9,7 +9,7 @@ use native.Mathlib.Decide.{decLt}
 use borrow.Author.Tests.{eqb-true, leb-true, ltb-true}
 use lib.Dec.{ltb}
 use lib.ListN.{length, getD, List·getD-eq-default}
-use Rattle.rules.specs.Layout.{SLOTS, BLOCK, FILE-WIDTH, OPEN-FILES, OPEN-FILE-WIDTH, PROCESSES, PROCESS-WIDTH, PROCESS-DESCRIPTOR, LABELS, LABEL-MAX, FILE-KIND, FILE-LABEL, FILE-LENGTH, PLAIN, DESCRIPTORS}
+use Rattle.rules.specs.Layout.{SLOTS, BLOCK, FILE-WIDTH, PROCESSES, PROCESS-WIDTH, PROCESS-DESCRIPTOR, LABELS, LABEL-MAX, FILE-KIND, FILE-LABEL, FILE-LENGTH, PLAIN, DESCRIPTORS}
 use Rattle.rules.specs.Store.{Store, Fixed, view, tab, descOf}
 use Rattle.rules.specs.Rom.{seen, seenFile}
 use Rattle.rules.specs.Sound.{sound, storeSound, slotsSized, sizesSound, treeSound, tablesSound, slotSound, accessSound, fieldsSound, recordSound, kindSound, plainSound}
@@ -35,10 +35,6 @@ module _ (K : Fixed) (s : Store) (h : sound K s ≡ true) where
   pub files-size : length (s .files) ≡ SLOTS * FILE-WIDTH
   unfolding sizesSound slotsSized
   files-size = eqb-true _ _ (test 0 _ (test 0 _ (parts .0)))
-
-  pub open-files-size : length (s .openFiles) ≡ OPEN-FILES * OPEN-FILE-WIDTH
-  unfolding sizesSound
-  open-files-size = eqb-true _ _ (test 1 _ (parts .0))
 
   pub processes-size : length (s .processes) ≡ PROCESSES * PROCESS-WIDTH
   unfolding sizesSound

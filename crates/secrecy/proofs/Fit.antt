@@ -6,11 +6,11 @@ use mathlib.Core.Logic.{_≢_}
 use Prim.Native.Nat.{ℕ, _≤_, _<_, max}
 use native.Mathlib.Omega.{arith}
 use borrow.Author.Tests.{ltb-true, eqb-true, eqb-false, not-true}
-use Rattle.rules.specs.Layout.{SLOTS, PROCESSES, DESCRIPTORS, FILE-LABEL, FILE-LENGTH, OPEN-SLOT, OPEN-MODE, PROCESS-USED}
-use Rattle.rules.specs.Store.{Fixed, Tree, View, slot, isSlot, modeAt, subjectOf}
-use Rattle.rules.specs.Rights.{reads, labelGrants, moved, modeRights}
+use Rattle.rules.specs.Layout.{SLOTS, PROCESSES, DESCRIPTORS, FILE-LABEL, FILE-LENGTH, PROCESS-USED}
+use Rattle.rules.specs.Store.{Fixed, Tree, View, slot, isSlot, subjectOf}
+use Rattle.rules.specs.Rights.{READ, moved}
 use Rattle.rules.specs.Paths.{Name, names}
-use Rattle.rules.specs.Walk.{isDirectory, isLink, linkText, entered, lookup, follows, walkBy, walk, ROOT}
+use Rattle.rules.specs.Walk.{isDirectory, isLink, labelAllows, linkText, entered, lookup, follows, walkBy, walk, ROOT}
 use Rattle.rules.specs.Checks.{inUse, held, slotFree, freeSlot}
 use Rattle.rules.specs.Calls.{Call, operation}
 use Rattle.rules.specs.Decide.{decide, decideBorrow}
@@ -21,7 +21,6 @@ use Rattle.rules.specs.declared.ids.Fd.{Fd}
 use Rattle.rules.specs.declared.ids.Ofd.{Ofd}
 use Rattle.rules.specs.declared.ids.Dirent.{Dirent}
 use Rattle.rules.specs.declared.rights.Bits.{Bits}
-use Rattle.rules.specs.declared.rights.OpenMode.{OpenMode}
 use Rattle.rules.specs.declared.request.Subject.{Subject}
 use Rattle.rules.specs.declared.request.Operation.{Operation}
 use Rattle.rules.specs.declared.decision.Location.{Location}
@@ -41,7 +40,7 @@ use Rattle.rules.specs.declared.decision.Effect.the-variants as effect
 use Rattle.rules.proofs.Scans.{first-passes}
 use Rattle.rules.proofs.Walks.{WalkFit, reached, needAt-fit, fit-at, any-names, Kept, walk-fit}
 use Rattle.rules.proofs.Passed as passed
-use Rattle.rules.proofs.Passed.{Fit, fit-map, Passed, Opening, newest, Permit, permitted, borrow-permitted}
+use Rattle.rules.proofs.Passed.{Fit, fit-map, Passed, Permit, permitted, borrow-permitted}
 use Rattle.rules.proofs.Tests.{test}
 
 -- ---- the facts
@@ -56,28 +55,18 @@ pub record Caller (v : View) (p : Pid) : Type 0 where
   pub small : p .0 < PROCESSES
   pub used : v .proc (p .0) PROCESS-USED ≡ 1
 
--- bytes are given out of slots that an open file reads, or out of links
-pub record Fetched (v : View) (s : ℕ) : Type 0 where
-  pub ofd : Ofd
-  pub mode : reads (modeAt (v .openFiles (ofd .0) OPEN-MODE)) ≡ true
-  pub names : v .openFiles (ofd .0) OPEN-SLOT ≡ s
-
-pub data OutputFit (v : View) : Output → Type 0 where
-  silent : OutputFit v output.Nothing
-  listed : (d : Slot) (i : Dirent) → OutputFit v (output.Name d i)
-  described : (r : Record) → OutputFit v (output.Fields r)
-  fetched : (s : Slot) (from n : ℕ) → Fetched v (s .0) → OutputFit v (output.Bytes s from n)
-  texted : (s : Slot) (from n : ℕ) → isLink (v .tree .file) s ≡ true → OutputFit v (output.Bytes s from n)
-
--- a file is opened with a descriptor of the eight, in a mode whose rights the labels grant
-pub record OpenFit (Q : List ℕ) (v : View) (p : Pid) (n : NewOpen) : Type 0 where
-  pub eight : n .fd .0 < DESCRIPTORS
-  pub rights : labelGrants Q (subjectOf (v .proc) p) (v .tree .file (n .slot .0) FILE-LABEL) (modeRights (n .mode)) ≡ true
+-- bytes are given out of files that the caller's label may read, or out of links
+pub data OutputFit (Q : List ℕ) (v : View) (p : Pid) : Output → Type 0 where
+  silent : OutputFit Q v p output.Nothing
+  listed : (d : Slot) (i : Dirent) → OutputFit Q v p (output.Name d i)
+  described : (r : Record) → OutputFit Q v p (output.Fields r)
+  fetched : (s : Slot) (from n : ℕ) → labelAllows (v .tree .file) Q (subjectOf (v .proc) p) s READ ≡ true → OutputFit Q v p (output.Bytes s from n)
+  texted : (s : Slot) (from n : ℕ) → isLink (v .tree .file) s ≡ true → OutputFit Q v p (output.Bytes s from n)
 
 pub data EffectFit (Q : List ℕ) (v : View) (p : Pid) : Effect → Type 0 where
   nothing : EffectFit Q v p effect.Nothing
-  opened : (n : NewOpen) → OpenFit Q v p n → EffectFit Q v p (effect.Opened n)
-  truncates : (n : NewOpen) (r : Record) → OpenFit Q v p n → EffectFit Q v p (effect.Truncated n r)
+  opened : (n : NewOpen) → n .fd .0 < DESCRIPTORS → EffectFit Q v p (effect.Opened n)
+  truncates : (n : NewOpen) (r : Record) → n .fd .0 < DESCRIPTORS → EffectFit Q v p (effect.Truncated n r)
   created : (d : DirChange) (s : Slot) (r : Record) → isDirectory (v .tree .file) (d .dir) ≡ true → slotFree (v .tree .file) (s .0) ≡ true → EffectFit Q v p (effect.Created d s r)
   unlinked : (d : DirChange) (u : Unnamed) → isDirectory (v .tree .file) (d .dir) ≡ true → EffectFit Q v p (effect.Unlinked d u)
   removed : (d : DirChange) (s : Slot) (r : Record) → isDirectory (v .tree .file) (d .dir) ≡ true → EffectFit Q v p (effect.Removed d s r)
@@ -94,7 +83,7 @@ pub data EffectFit (Q : List ℕ) (v : View) (p : Pid) : Effect → Type 0 where
 
 pub record Grant (Q : List ℕ) (v : View) (p : Pid) (n : ℕ) (o : Output) (e : Effect) : Type 0 where
   pub caller : Caller v p
-  pub output-fit : OutputFit v o
+  pub output-fit : OutputFit Q v p o
   pub effect-fit : EffectFit Q v p e
 
 -- ---- a walk ends in a directory: in the root, or in the one that its last name was looked for in; a link sends it to the root
@@ -133,9 +122,6 @@ module _ (K : Fixed) (v : View) (b : Based v) (c : Call) where
   parent : (intent : Intent) → follows intent ≡ false → (path : List ℕ) (at : Location) → walk intent (v .tree) (K .policy) (subjectOf (v .proc) (c .process)) ROOT 1 (names path) ≡ Reached at → InDirectory (v .tree) at
   parent intent stays path at w = fit-at (in-directory (K .policy) (v .tree) (subjectOf (v .proc) (c .process)) intent stays (names path) (b .root)) at w
 
-  open-fit : (at : Location) (m : OpenMode) → Opening K v c at m → OpenFit (K .policy) v (c .process) (newest K v c at m)
-  open-fit at m h = record { eight = ltb-true _ _ (h .fd-free); rights = h .allows .label }
-
   held-small : held (v .desc) (c .process) (c .fd) ≡ true → c .fd .0 < DESCRIPTORS
   unfolding held
   held-small h = b .eight (c .process .0) (c .fd .0) (eqb-false _ _ (not-true _ h))
@@ -148,10 +134,10 @@ module _ (K : Fixed) (v : View) (b : Based v) (c : Call) where
   free-slot s = first-passes (slotFree (v .tree .file)) SLOTS (ltb-true _ _ s)
 
   -- one case a call
-  own-fit : (o : Operation) {n : ℕ} {out : Output} {e : Effect} → Passed K v c o n out e → OutputFit v out × EffectFit (K .policy) v (c .process) e
+  own-fit : (o : Operation) {n : ℕ} {out : Output} {e : Effect} → Passed K v c o n out e → OutputFit (K .policy) v (c .process) out × EffectFit (K .policy) v (c .process) e
   unfolding follows
-  own-fit _ (passed.opens at m t k h q) = (silent, opened _ (open-fit at m h))
-  own-fit _ (passed.opensTruncating at m t k h q) = (silent, truncates _ _ (open-fit at m h))
+  own-fit _ (passed.opens at m t k h q) = (silent, opened _ (ltb-true _ _ (h .fd-free)))
+  own-fit _ (passed.opensTruncating at m t k h q) = (silent, truncates _ _ (ltb-true _ _ (h .fd-free)))
   own-fit _ (passed.creates o kind at bits k e h d s) = (silent, created _ _ _ (parent Create refl (c .path) at (h .walked)) (free-slot s))
   own-fit _ (passed.unlinks at w p a y) = (silent, unlinked _ _ (parent Find refl (c .path) at w))
   own-fit _ (passed.removes at w d a y z) = (silent, removed _ _ _ (parent Find refl (c .path) at w))
@@ -161,9 +147,9 @@ module _ (K : Fixed) (v : View) (b : Based v) (c : Call) where
   own-fit _ (passed.changesBits at bits e w o y l) = (silent, rebitted _ _)
   own-fit _ (passed.describes at w) = (described _, nothing)
   own-fit _ (passed.closes h) = (silent, closed _ _ (held-small h))
-  own-fit _ (passed.fetches h m) = (fetched _ _ _ (record { ofd = _; mode = m; names = refl }), shifted _ _)
-  own-fit _ (passed.storesNothing h w z) = (silent, nothing)
-  own-fit _ (passed.stores h w z l) = (silent, stored _ (longer _ _))
+  own-fit _ (passed.fetches h m l) = (fetched _ _ _ l, shifted _ _)
+  own-fit _ (passed.storesNothing h w l z) = (silent, nothing)
+  own-fit _ (passed.stores h w a z l) = (silent, stored _ (longer _ _))
   own-fit _ (passed.seeks h) = (silent, shifted _ _)
   own-fit _ (passed.duplicates h i) = (silent, duplicated _ _ _ (ltb-true _ _ i))
   own-fit _ (passed.forks q) = (silent, forked _ _ refl)
@@ -175,7 +161,7 @@ module _ (K : Fixed) (v : View) (b : Based v) (c : Call) where
   grant : (n : ℕ) (o : Output) (e : Effect) → Permit K v c n o e → Grant (K .policy) v (c .process) n o e
   unfolding inUse
   grant n o e p =
-      let f : OutputFit v o × EffectFit (K .policy) v (c .process) e = own-fit (operation c) (p .passed) in
+      let f : OutputFit (K .policy) v (c .process) o × EffectFit (K .policy) v (c .process) e = own-fit (operation c) (p .passed) in
       record { caller = record { small = ltb-true _ _ (test 0 _ (p .used)); used = eqb-true _ _ (test 1 _ (p .used)) }; output-fit = f .0; effect-fit = f .1 }
 
   pub decide-fit : Fit (Grant (K .policy) v (c .process)) (decide K v c)

@@ -1,20 +1,19 @@
 -- What a granted call does keeps two stores related, and its answer is the same from both.
 use mathlib.Core.Path.{_≡_, refl, sym, ap, _∙_, subst}
-use mathlib.Core.Bool.{Bool, true, false, false≢true, cond}
+use mathlib.Core.Bool.{true, false, false≢true, cond}
 use mathlib.Core.List.{List, [], _∷_}
 use mathlib.Core.Logic.{_≢_}
-use Prim.Native.Nat.{ℕ, _-_, _/_, _%_, _≤_, _<_}
+use Prim.Native.Nat.{ℕ, _-_, _≤_, _<_}
 use native.Mathlib.Omega.{arith}
 use borrow.Author.Tests.{eqb-true}
 use lib.Dec.{eqb}
 use lib.ListN.{length, take, drop}
-use Rattle.rules.specs.Choice.{every, some, implies}
 use Rattle.rules.specs.Layout.{SLOTS, DESCRIPTORS, LABELS, FILE-WIDTH, FILE-KIND, FILE-BITS, FILE-LABEL, FILE-LENGTH, FILE-LINKS, FILE-VERSION, FREE, PLAIN, DIRECTORY, LINK, PROCESS-LABEL}
-use Rattle.rules.specs.Rights.{READ, READ-WRITE, WRITE, MODE-READ, MODE-BOTH, reads, stands, covers, labelGrants, modeRights, moved}
-use Rattle.rules.specs.Store.{Store, Fixed, View, view, tab, isSlot, words, clearTo, fdOf}
+use Rattle.rules.specs.Rights.{READ, labelGrants, moved}
+use Rattle.rules.specs.Store.{Store, Fixed, View, view, tab, isSlot, subjectOf, words, clearTo, fdOf}
 use Rattle.rules.specs.Rom.{seen, seenFile, prompt}
 use Rattle.rules.specs.Paths.{Name}
-use Rattle.rules.specs.Walk.{isDirectory, isLink}
+use Rattle.rules.specs.Walk.{isDirectory, isLink, labelAllows}
 use Rattle.rules.specs.Calls.{Call}
 use Rattle.rules.specs.Checks.{slotFree, releasing, shareOf}
 use Rattle.rules.specs.Effects.{nameChanges, unnameChanges, createChanges, symlinkChanges, linkChanges, unnamedChanges, unlinkChanges, removeChanges, openChanges, truncateChanges, releaseChanges, closeChanges, storeChanges, duplicateChanges, shareChanges, shared, sharedAll, released, releasedAll, forkChanges, carryOut, dirWords}
@@ -23,8 +22,6 @@ use Rattle.rules.specs.declared.ids.Slot.{Slot}
 use Rattle.rules.specs.declared.ids.Pid.{Pid}
 use Rattle.rules.specs.declared.ids.Fd.{Fd}
 use Rattle.rules.specs.declared.ids.Ofd.{Ofd}
-use Rattle.rules.specs.declared.rights.Rights.{Rights}
-use Rattle.rules.specs.declared.rights.OpenMode.{OpenMode}
 use Rattle.rules.specs.declared.decision.DirChange.{DirChange}
 use Rattle.rules.specs.declared.decision.NewOpen.{NewOpen}
 use Rattle.rules.specs.declared.decision.Record.{Record}
@@ -42,30 +39,8 @@ use Rattle.secrecy.specs.Claim.{mayRead}
 use Rattle.secrecy.proofs.Tables.{OwnWord}
 use Rattle.secrecy.proofs.Agree.{agree-block}
 use Rattle.secrecy.proofs.Related.{Apart, Secret, Related, apart, view-same, Keeps, KeepsAll, all-keep, append-keep, repeat-keep, alike-keep}
-use Rattle.secrecy.proofs.Fit.{OutputFit, silent, listed, described, fetched, texted, OpenFit, EffectFit, nothing, opened, truncates, created, unlinked, removed, linked, rebitted, closed, stored, shifted, duplicated, forked, exited, relabelled, symlinked}
+use Rattle.secrecy.proofs.Fit.{OutputFit, silent, listed, described, fetched, texted, EffectFit, nothing, opened, truncates, created, unlinked, removed, linked, rebitted, closed, stored, shifted, duplicated, forked, exited, relabelled, symlinked}
 use Rattle.rules.specs.declared.request.Subject.{Subject}
-
--- ---- an open that reads has asked for the right to read
-
-covers-read : (r : Rights) → covers r READ-WRITE ≡ true → covers r READ ≡ true
-unfolding covers stands implies every
-covers-read r h = go (eqb (r .0 / 4 % 2) 1) (eqb (r .0 / 2 % 2) 1) h
-  where
-    go : (b c : Bool) → cond b (cond c true false) false ≡ true → cond b true false ≡ true
-    go true c e = refl
-    go false c e = e
-
-mode-asked : (m : OpenMode) (r : Rights) → reads m ≡ true → covers r (modeRights m) ≡ true → covers r READ ≡ true
-unfolding reads some modeRights
-mode-asked m r rd h = one (eqb (m .0) (MODE-READ .0)) rd h
-  where
-    two : (b : Bool) → cond b true false ≡ true → covers r (cond b READ-WRITE WRITE) ≡ true → covers r READ ≡ true
-    two true rd h = covers-read r h
-    two false rd h = absurd (false≢true rd)
-
-    one : (b : Bool) → cond b true (cond (eqb (m .0) (MODE-BOTH .0)) true false) ≡ true → covers r (cond b READ (cond (eqb (m .0) (MODE-BOTH .0)) READ-WRITE WRITE)) ≡ true → covers r READ ≡ true
-    one true rd h = h
-    one false rd h = two (eqb (m .0) (MODE-BOTH .0)) rd h
 
 -- ---- changes that keep any two related stores
 
@@ -82,14 +57,14 @@ module _ (reach : ℕ → Type 0) (f n : ℕ) where
   close-keep : (L : ℕ) (p : Pid) (i : Fd) (r : Release) → i .0 < DESCRIPTORS → KeepsAll reach f n L (closeChanges p i r)
   unfolding closeChanges releaseChanges KeepsAll Keeps
   close-keep L p i release.Nothing h = (h, tt)
-  close-keep L p i (release.Kept e refs) h = (h, ((omega arith, omega arith), tt))
+  close-keep L p i (release.Kept e refs) h = (h, (tt, tt))
   close-keep L p i (release.Gone e) h = (h, (tt, tt))
   close-keep L p i (release.Freed e s r) h = (h, (tt, (refl, tt)))
 
   share-keep : (L : ℕ) (q : Pid) (i : Fd) (x : Share) → i .0 < DESCRIPTORS → KeepsAll reach f n L (shareChanges q i x)
   unfolding shareChanges KeepsAll Keeps
   share-keep L q i share.Nothing h = (h, tt)
-  share-keep L q i (share.Held e refs) h = (h, ((omega arith, omega arith), tt))
+  share-keep L q i (share.Held e refs) h = (h, (tt, tt))
 
   released-keep : (L : ℕ) (p : Pid) (i : ℕ) → i < DESCRIPTORS → (s s′ : Store) → Related reach f n L s s′ → Related reach f n L (released p i s) (released p i s′)
   unfolding released
@@ -150,20 +125,13 @@ module _ (K : Fixed) (reach : ℕ → Type 0) (f n L : ℕ) (no-right : (l : ℕ
     unfolding unnameChanges KeepsAll Keeps
     unname-keep d h = (tt, dir-keep d h)
 
-    -- an open file that reads f needs a label that may
-    unreadable : (p : Pid) (w : NewOpen) → reach (v .proc (p .0) PROCESS-LABEL) → OpenFit (K .policy) v p w → reads (w .mode) ≡ true → w .slot .0 ≡ f → ⊥
-    unfolding labelGrants
-    unreadable p w r o rd e =
-        let l : v .tree .file (w .slot .0) FILE-LABEL ≡ L = own-seen FILE-LABEL (w .slot .0) e ∙ z .own .label in
-        false≢true (sym (no-right _ r) ∙ mode-asked (w .mode) _ rd (rw l at (o .rights)))
-
-    open-keep : (p : Pid) (w : NewOpen) → reach (v .proc (p .0) PROCESS-LABEL) → OpenFit (K .policy) v p w → KeepsAll reach f n L (openChanges p w)
+    open-keep : (p : Pid) (w : NewOpen) → w .fd .0 < DESCRIPTORS → KeepsAll reach f n L (openChanges p w)
     unfolding openChanges KeepsAll Keeps
-    open-keep p w r o = ((refl, unreadable p w r o), (o .eight, tt))
+    open-keep p w h = (tt, (h, tt))
 
-    truncate-keep : (p : Pid) (w : NewOpen) (x : Record) → reach (v .proc (p .0) PROCESS-LABEL) → OpenFit (K .policy) v p w → KeepsAll reach f n L (truncateChanges p w x)
+    truncate-keep : (p : Pid) (w : NewOpen) (x : Record) → w .fd .0 < DESCRIPTORS → KeepsAll reach f n L (truncateChanges p w x)
     unfolding truncateChanges
-    truncate-keep p w x r o = append-keep reach f n L (openChanges p w) _ (open-keep p w r o) (clear-keep reach f n L (w .slot) x)
+    truncate-keep p w x h = append-keep reach f n L (openChanges p w) _ (open-keep p w h) (clear-keep reach f n L (w .slot) x)
 
     create-keep : (nm : Name) (d : DirChange) (t : Slot) (x : Record) → isDirectory (v .tree .file) (d .dir) ≡ true → slotFree (v .tree .file) (t .0) ≡ true → KeepsAll reach f n L (createChanges nm d t x)
     unfolding createChanges KeepsAll Keeps
@@ -190,7 +158,7 @@ module _ (K : Fixed) (reach : ℕ → Type 0) (f n L : ℕ) (no-right : (l : ℕ
     unfolding storeChanges KeepsAll Keeps
     store-keep bs w h = (
       tt,
-      (tt, ((omega arith, longer), ((omega arith, λ _. word reach f n FILE-VERSION (w .version) (λ e. omega arith) (λ e. omega arith) (λ e. omega arith)), ((omega arith, omega arith), tt)))),
+      (tt, ((omega arith, longer), ((omega arith, λ _. word reach f n FILE-VERSION (w .version) (λ e. omega arith) (λ e. omega arith) (λ e. omega arith)), (tt, tt)))),
     )
       where
         longer : w .slot .0 ≡ f → OwnWord n FILE-LENGTH (w .length)
@@ -200,7 +168,7 @@ module _ (K : Fixed) (reach : ℕ → Type 0) (f n L : ℕ) (no-right : (l : ℕ
 
     duplicate-keep : (p : Pid) (i : Fd) (e : Ofd) (refs : ℕ) → i .0 < DESCRIPTORS → KeepsAll reach f n L (duplicateChanges p i e refs)
     unfolding duplicateChanges KeepsAll Keeps
-    duplicate-keep p i e refs h = (h, ((omega arith, omega arith), tt))
+    duplicate-keep p i e refs h = (h, (tt, tt))
 
     fork-keep : (q : Pid) (who : Subject) → reach (who .label) → KeepsAll reach f n L (forkChanges q who)
     unfolding forkChanges KeepsAll Keeps
@@ -209,8 +177,8 @@ module _ (K : Fixed) (reach : ℕ → Type 0) (f n L : ℕ) (no-right : (l : ℕ
     pub effect-keep : (c : Call) (e : Effect) → reach (v .proc (c .process .0) PROCESS-LABEL) → EffectFit (K .policy) v (c .process) e → Related reach f n L (carryOut c e s) (carryOut c e s′)
     unfolding carryOut KeepsAll Keeps
     effect-keep c _ r nothing = apart a z
-    effect-keep c _ r (opened w o) = all-keep reach f n L _ s s′ (open-keep (c .process) w r o) (apart a z)
-    effect-keep c _ r (truncates w x o) = all-keep reach f n L _ s s′ (truncate-keep (c .process) w x r o) (apart a z)
+    effect-keep c _ r (opened w o) = all-keep reach f n L _ s s′ (open-keep (c .process) w o) (apart a z)
+    effect-keep c _ r (truncates w x o) = all-keep reach f n L _ s s′ (truncate-keep (c .process) w x o) (apart a z)
     effect-keep c _ r (created d t x h g) = all-keep reach f n L _ s s′ (create-keep _ d t x h g) (apart a z)
     effect-keep c _ r (unlinked d u h) = all-keep reach f n L _ s s′ (unlink-keep d u h) (apart a z)
     effect-keep c _ r (removed d t x h) = all-keep reach f n L _ s s′ (remove-keep d t x h) (apart a z)
@@ -218,7 +186,7 @@ module _ (K : Fixed) (reach : ℕ → Type 0) (f n L : ℕ) (no-right : (l : ℕ
     effect-keep c _ r (rebitted t x) = all-keep reach f n L _ s s′ ((omega arith, λ _. word reach f n FILE-BITS (x .0) (λ e. omega arith) (λ e. omega arith) (λ e. omega arith)), tt) (apart a z)
     effect-keep c _ r (closed i x h) = all-keep reach f n L _ s s′ (close-keep reach f n L (c .process) i x h) (apart a z)
     effect-keep c _ r (stored w h) = all-keep reach f n L _ s s′ (store-keep (c .«data») w h) (apart a z)
-    effect-keep c _ r (shifted e offset) = all-keep reach f n L _ s s′ ((omega arith, omega arith), tt) (apart a z)
+    effect-keep c _ r (shifted e offset) = all-keep reach f n L _ s s′ (tt, tt) (apart a z)
     effect-keep c _ r (duplicated i e refs h) = all-keep reach f n L _ s s′ (duplicate-keep (c .process) i e refs h) (apart a z)
     effect-keep c _ r (forked q who h) = all-keep reach f n L _ _ _ (fork-keep q who (subst reach h r)) (sharedAll-keep reach f n L (c .process) q s s′ (apart a z))
     effect-keep c _ r exited = all-keep reach f n L _ _ _ (tt, tt) (releasedAll-keep reach f n L (c .process) s s′ (apart a z))
@@ -230,13 +198,20 @@ module _ (K : Fixed) (reach : ℕ → Type 0) (f n L : ℕ) (no-right : (l : ℕ
     unfolding bytesOf
     bytes-of t ne = ap (λ (l : List ℕ). cond (isSlot t) l (prompt (K .rom) (t .0 - SLOTS))) (agree-block f n (s .contents) (s′ .contents) (a .contents) (a .small) (t .0) ne)
 
-    pub bytes-same : (o : Output) → OutputFit v o → bytesOut (K .rom) (s .contents) o ≡ bytesOut (K .rom) (s′ .contents) o
+    -- a label that is held or reached may not read f
+    not-readable : (p : Pid) (t : Slot) → reach (v .proc (p .0) PROCESS-LABEL) → labelAllows (v .tree .file) (K .policy) (subjectOf (v .proc) p) t READ ≡ true → t .0 ≢ f
+    unfolding labelGrants
+    not-readable p t r l e =
+        let same : v .tree .file (t .0) FILE-LABEL ≡ L = own-seen FILE-LABEL (t .0) e ∙ z .own .label in
+        false≢true (sym (no-right _ r) ∙ (rw same at l))
+
+    pub bytes-same : (p : Pid) (o : Output) → reach (v .proc (p .0) PROCESS-LABEL) → OutputFit (K .policy) v p o → bytesOut (K .rom) (s .contents) o ≡ bytesOut (K .rom) (s′ .contents) o
     unfolding bytesOut
-    bytes-same _ silent = refl
-    bytes-same _ (listed d i) = refl
-    bytes-same _ (described x) = refl
-    bytes-same _ (fetched t from m h) = ap (λ (l : List ℕ). take m (drop from l)) (bytes-of t (λ e. z .unread (h .ofd .0) (h .mode) (h .names ∙ e)))
-    bytes-same _ (texted t from m l) = ap (λ (l : List ℕ). take m (drop from l)) (bytes-of t (not-link t l))
+    bytes-same p _ r silent = refl
+    bytes-same p _ r (listed d i) = refl
+    bytes-same p _ r (described x) = refl
+    bytes-same p _ r (fetched t from m l) = ap (λ (l : List ℕ). take m (drop from l)) (bytes-of t (not-readable p t r l))
+    bytes-same p _ r (texted t from m l) = ap (λ (l : List ℕ). take m (drop from l)) (bytes-of t (not-link t l))
 
     pub name-same : (o : Output) → nameOut (v .tree) o ≡ nameOut (seen (K .rom) (view s′) .tree) o
     name-same o = ap (λ (u : View). nameOut (seen (K .rom) u .tree) o) (view-same f n L s s′ a (z .own))

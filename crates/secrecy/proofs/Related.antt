@@ -11,12 +11,11 @@ use native.Mathlib.Decide.{ℕ-discrete}
 use lib.ListN.{length, getD, drop, set}
 use lib.Seq.{sets}
 use Rattle.rules.specs.Scan.{iterate, repeat}
-use Rattle.rules.specs.Layout.{BLOCK, FILE-WIDTH, FILE-KIND, FILE-LENGTH, PLAIN, OPEN-FILE-WIDTH, OPEN-SLOT, OPEN-MODE, PROCESS-WIDTH, PROCESS-DESCRIPTOR, DESCRIPTORS, PROCESS-USED, PROCESS-LABEL}
-use Rattle.rules.specs.Rights.{reads}
-use Rattle.rules.specs.Store.{Store, View, store, tab, procOf, descOf, view, block, modeAt, hidden, shownOf, puts, zeros, Change, fileWord, fileTo, clearTo, bytesTo, openWord, openTo, openZero, descTo, procWord, procTo, procZero, change, applyAll}
+use Rattle.rules.specs.Layout.{BLOCK, FILE-WIDTH, FILE-KIND, FILE-LENGTH, PLAIN, OPEN-FILE-WIDTH, PROCESS-WIDTH, PROCESS-DESCRIPTOR, DESCRIPTORS, PROCESS-USED, PROCESS-LABEL}
+use Rattle.rules.specs.Store.{Store, View, store, tab, procOf, descOf, view, block, hidden, shownOf, puts, zeros, Change, fileWord, fileTo, clearTo, bytesTo, openWord, openTo, openZero, descTo, procWord, procTo, procZero, change, applyAll}
 use Rattle.rules.proofs.Lists.{length-zeros}
 use Rattle.secrecy.proofs.Agree.{Agree, agree-sets, agree-clear, agree-block, agree-rest}
-use Rattle.secrecy.proofs.Tables.{Own, OwnWord, own-word, own-record, Unread, unread-word, unread-record, unread-zero, Labels, labels-desc, labels-word, labels-own, labels-zero}
+use Rattle.secrecy.proofs.Tables.{Own, OwnWord, own-word, own-record, Labels, labels-desc, labels-word, labels-own, labels-zero}
 
 -- two stores, equal but for the first n bytes of slot f
 pub record Apart (f n : ℕ) (s s′ : Store) : Type 0 where
@@ -26,10 +25,9 @@ pub record Apart (f n : ℕ) (s s′ : Store) : Type 0 where
   pub contents : Agree (BLOCK * f) (BLOCK * f + n) (s .contents) (s′ .contents)
   pub small : n ≤ BLOCK
 
--- slot f has a plain file with label L, not shorter than n; no open file reads it; every label in use is among those reached
+-- slot f has a plain file with label L, not shorter than n; every label in use is among those reached. Open files are no part of it
 pub record Secret (reach : ℕ → Type 0) (f n L : ℕ) (s : Store) : Type 0 where
   pub own : Own f n L (s .files)
-  pub unread : Unread f (s .openFiles)
   pub labels : Labels reach (s .processes)
 
 pub data Related (reach : ℕ → Type 0) (f n L : ℕ) (s s′ : Store) : Type 0 where
@@ -68,8 +66,8 @@ Keeps reach f n (fileWord t k x) = (k < FILE-WIDTH) × (t ≡ f → OwnWord n k 
 Keeps reach f n (fileTo t ws) = (length ws ≡ FILE-WIDTH) × (t ≢ f)
 Keeps reach f n (clearTo t ws) = length ws ≡ FILE-WIDTH
 Keeps reach f n (bytesTo t at bs) = Unit {0}
-Keeps reach f n (openWord e k x) = (OPEN-MODE < k) × (k < OPEN-FILE-WIDTH)
-Keeps reach f n (openTo e ws) = (length ws ≡ OPEN-FILE-WIDTH) × (reads (modeAt (getD ws OPEN-MODE 0)) ≡ true → getD ws OPEN-SLOT 0 ≡ f → ⊥)
+Keeps reach f n (openWord e k x) = Unit {0}
+Keeps reach f n (openTo e ws) = Unit {0}
 Keeps reach f n (openZero e) = Unit {0}
 Keeps reach f n (descTo p i x) = i < DESCRIPTORS
 Keeps reach f n (procWord p k x) = (k ≡ PROCESS-LABEL) × reach x
@@ -90,10 +88,10 @@ module _ (reach : ℕ → Type 0) (f n L : ℕ) where
   change-keeps c s s′ h (same e) = same (ap (change c) e)
   change-keeps (fileWord t k x) s s′ h (apart a z) = apart
       (record { files = ap (λ (F : List ℕ). set F (FILE-WIDTH * t + k) x) (a .files); openFiles = a .openFiles; processes = a .processes; contents = a .contents; small = a .small })
-      (record { own = own-word f n L (s .files) t k x (h .0) (h .1) (z .own); unread = z .unread; labels = z .labels })
+      (record { own = own-word f n L (s .files) t k x (h .0) (h .1) (z .own); labels = z .labels })
   change-keeps (fileTo t ws) s s′ h (apart a z) = apart
       (record { files = ap (λ (F : List ℕ). puts FILE-WIDTH F t 0 ws) (a .files); openFiles = a .openFiles; processes = a .processes; contents = a .contents; small = a .small })
-      (record { own = own-record f n L (s .files) t ws (h .0) (h .1) (z .own); unread = z .unread; labels = z .labels })
+      (record { own = own-record f n L (s .files) t ws (h .0) (h .1) (z .own); labels = z .labels })
   change-keeps (clearTo t ws) s s′ h (apart a z) = go (ℕ-discrete t f)
     where
       go : Dec (t ≡ f) → Related reach f n L (change (clearTo t ws) s) (change (clearTo t ws) s′)
@@ -106,31 +104,31 @@ module _ (reach : ℕ → Type 0) (f n L : ℕ) where
             contents = agree-sets (BLOCK * f) (BLOCK * f + n) (s .contents) (s′ .contents) (a .contents) (BLOCK * t + 0) (zeros BLOCK);
             small = a .small;
           })
-          (record { own = own-record f n L (s .files) t ws h ne (z .own); unread = z .unread; labels = z .labels })
+          (record { own = own-record f n L (s .files) t ws h ne (z .own); labels = z .labels })
   change-keeps (bytesTo t at bs) s s′ h (apart a z) = apart
       (record { files = a .files; openFiles = a .openFiles; processes = a .processes; contents = agree-sets (BLOCK * f) (BLOCK * f + n) (s .contents) (s′ .contents) (a .contents) (BLOCK * t + at) bs; small = a .small })
-      (record { own = z .own; unread = z .unread; labels = z .labels })
+      (record { own = z .own; labels = z .labels })
   change-keeps (openWord e k x) s s′ h (apart a z) = apart
       (record { files = a .files; openFiles = ap (λ (E : List ℕ). set E (OPEN-FILE-WIDTH * e + k) x) (a .openFiles); processes = a .processes; contents = a .contents; small = a .small })
-      (record { own = z .own; unread = unread-word f (s .openFiles) e k x (h .0) (h .1) (z .unread); labels = z .labels })
+      (record { own = z .own; labels = z .labels })
   change-keeps (openTo e ws) s s′ h (apart a z) = apart
       (record { files = a .files; openFiles = ap (λ (E : List ℕ). puts OPEN-FILE-WIDTH E e 0 ws) (a .openFiles); processes = a .processes; contents = a .contents; small = a .small })
-      (record { own = z .own; unread = unread-record f (s .openFiles) e ws (h .0) (h .1) (z .unread); labels = z .labels })
+      (record { own = z .own; labels = z .labels })
   change-keeps (openZero e) s s′ h (apart a z) = apart
       (record { files = a .files; openFiles = ap (λ (E : List ℕ). sets E (OPEN-FILE-WIDTH * e + 0) (zeros OPEN-FILE-WIDTH)) (a .openFiles); processes = a .processes; contents = a .contents; small = a .small })
-      (record { own = z .own; unread = unread-zero f (s .openFiles) e (z .unread); labels = z .labels })
+      (record { own = z .own; labels = z .labels })
   change-keeps (descTo p i x) s s′ h (apart a z) = apart
       (record { files = a .files; openFiles = a .openFiles; processes = ap (λ (P : List ℕ). set P (PROCESS-WIDTH * p + (PROCESS-DESCRIPTOR + i)) x) (a .processes); contents = a .contents; small = a .small })
-      (record { own = z .own; unread = z .unread; labels = labels-desc reach (s .processes) (z .labels) p i x h })
+      (record { own = z .own; labels = labels-desc reach (s .processes) (z .labels) p i x h })
   change-keeps (procWord p k x) s s′ h (apart a z) = apart
       (record { files = a .files; openFiles = a .openFiles; processes = ap (λ (P : List ℕ). set P (PROCESS-WIDTH * p + k) x) (a .processes); contents = a .contents; small = a .small })
-      (record { own = z .own; unread = z .unread; labels = rw (h .0) (labels-word reach (s .processes) (z .labels) p x (h .1)) })
+      (record { own = z .own; labels = rw (h .0) (labels-word reach (s .processes) (z .labels) p x (h .1)) })
   change-keeps (procTo p ws) s s′ h (apart a z) = apart
       (record { files = a .files; openFiles = a .openFiles; processes = ap (λ (P : List ℕ). puts PROCESS-WIDTH P p 0 ws) (a .processes); contents = a .contents; small = a .small })
-      (record { own = z .own; unread = z .unread; labels = labels-own reach (s .processes) (z .labels) p ws (h .0) (h .1) })
+      (record { own = z .own; labels = labels-own reach (s .processes) (z .labels) p ws (h .0) (h .1) })
   change-keeps (procZero p) s s′ h (apart a z) = apart
       (record { files = a .files; openFiles = a .openFiles; processes = ap (λ (P : List ℕ). sets P (PROCESS-WIDTH * p + 0) (zeros PROCESS-WIDTH)) (a .processes); contents = a .contents; small = a .small })
-      (record { own = z .own; unread = z .unread; labels = labels-zero reach (s .processes) (z .labels) p })
+      (record { own = z .own; labels = labels-zero reach (s .processes) (z .labels) p })
 
   -- ---- a list of changes, and a number of turns
 

@@ -5,22 +5,20 @@ use mathlib.Core.List.{List, [], _∷_}
 use mathlib.Core.Logic.{inl, inr}
 use Prim.Native.Nat.{ℕ, _≤_, _<_}
 use native.Mathlib.Omega.{arith}
-use native.Mathlib.Decide.{decLt}
 use borrow.Author.Tests.{eqb-false, lt-ltb, eq-eqb}
 use lib.Dec.{eqb}
-use lib.ListN.{List·getD-eq-default}
 use Rattle.rules.specs.Choice.{every, some}
-use Rattle.rules.specs.Layout.{SLOTS, BLOCK, FILE-WIDTH, OPEN-FILES, OPEN-FILE-WIDTH, PROCESSES, LABELS, FILE-KIND, FILE-LABEL, FILE-LENGTH, PLAIN, NO-TRANSITION, OPEN-MODE}
+use Rattle.rules.specs.Layout.{SLOTS, BLOCK, FILE-WIDTH, PROCESSES, LABELS, FILE-KIND, FILE-LABEL, FILE-LENGTH, PLAIN, NO-TRANSITION}
 use Rattle.rules.specs.Rights.{transition, moved}
-use Rattle.rules.specs.Store.{Store, Fixed, view, tab, pidOf, ofdOf}
+use Rattle.rules.specs.Store.{Store, Fixed, view, tab, pidOf}
 use Rattle.rules.specs.Checks.{inUse, slotFree}
 use Rattle.rules.specs.Sound.{sound}
 use Rattle.rules.specs.Step.{Reply, Action, serve, answers, final}
-use Rattle.secrecy.specs.Claim.{DifferInBytes, Reached, held, given, mayRead, OpenForReading, Supposed, freed, Claimed, Secrecy}
+use Rattle.secrecy.specs.Claim.{DifferInBytes, Reached, held, given, mayRead, Supposed, freed, Claimed, Secrecy}
 use Rattle.secrecy.proofs.Agree.{agree-block, agree-rest, agree-of-blocks}
-use Rattle.secrecy.proofs.Tables.{Own, Unread, no-mode, Labels}
+use Rattle.secrecy.proofs.Tables.{Own, Labels}
 use Rattle.secrecy.proofs.Related.{Apart, Related, apart, same}
-use Rattle.secrecy.proofs.Facts.{files-size, open-files-size, processes-size, plain-slot, plain-length}
+use Rattle.secrecy.proofs.Facts.{files-size, processes-size, plain-slot, plain-length}
 use Rattle.secrecy.proofs.Alike.{Alike, serve-alike}
 
 -- ---- from what is supposed to the relation that the calls keep
@@ -34,16 +32,6 @@ apart-of f s s′ small d = record {
   small = small;
 }
 
--- no open file, of whatever number, reads the slot
-unread-of : (K : Fixed) (s : Store) (f : ℕ) → sound K s ≡ true → (OpenForReading s f → ⊥) → Unread f (s .openFiles)
-unread-of K s f h none e r q = go (decLt e OPEN-FILES)
-  where
-    go : Dec (e < OPEN-FILES) → ⊥
-    go (yes lt) = none (record { ofd = ofdOf e; number = lt; mode = r; names = q })
-    go (no ge) =
-        let z : tab OPEN-FILE-WIDTH (s .openFiles) e OPEN-MODE ≡ 0 = List·getD-eq-default (s .openFiles) 0 (omega (arith, open-files-size K s h)) in
-        no-mode (rw z at r)
-
 labels-of : (K : Fixed) (s : Store) → sound K s ≡ true → Labels (Reached (K .policy) s) (s .processes)
 unfolding inUse every
 labels-of K s h = record { room = processes-size K s h; used = λ p lt u. held _ (record { process = pidOf p; used = simp (lt-ltb p PROCESSES lt, eq-eqb _ _ u); has = refl }) }
@@ -55,7 +43,6 @@ start K f s s′ h =
     apart (apart-of f s s′ (plain-length K s (h .sound-one) f plain) (h .differ))
     (record {
       own = record { plain = plain; label = refl; within = omega arith; room = omega (arith, files-size K s (h .sound-one)); slot = slot };
-      unread = unread-of K s f (h .sound-one) (h .not-open);
       labels = labels-of K s (h .sound-one);
     })
 

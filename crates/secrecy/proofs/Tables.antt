@@ -1,17 +1,14 @@
 -- What the relation of two stores asks of each table, and that it is kept where a record is put anew.
-use mathlib.Core.Path.{_≡_, refl, _∙_}
-use mathlib.Core.Bool.{true, false≢true}
-use mathlib.Core.List.{List, [], _∷_}
+use mathlib.Core.Path.{_≡_, _∙_}
+use mathlib.Core.List.{List}
 use mathlib.Core.Logic.{_≢_}
 use Prim.Native.Nat.{ℕ, _+_, _*_, _≤_, _<_}
 use native.Mathlib.Omega.{arith}
 use native.Mathlib.Decide.{decLt, ℕ-discrete}
-use lib.ListN.{length, getD, set, length-set, List·getD-eq-default}
+use lib.ListN.{length, getD, set, length-set}
 use lib.Seq.{sets, length-sets, getD-set-same, getD-set-other}
-use Rattle.rules.specs.Choice.{some}
-use Rattle.rules.specs.Layout.{SLOTS, FILE-WIDTH, FILE-KIND, FILE-LABEL, FILE-LENGTH, PLAIN, OPEN-FILE-WIDTH, OPEN-SLOT, OPEN-MODE, PROCESSES, PROCESS-WIDTH, PROCESS-DESCRIPTOR, DESCRIPTORS, PROCESS-USED, PROCESS-LABEL}
-use Rattle.rules.specs.Rights.{reads}
-use Rattle.rules.specs.Store.{tab, procOf, modeAt, puts, zeros}
+use Rattle.rules.specs.Layout.{SLOTS, FILE-WIDTH, FILE-KIND, FILE-LABEL, FILE-LENGTH, PLAIN, PROCESSES, PROCESS-WIDTH, PROCESS-DESCRIPTOR, DESCRIPTORS, PROCESS-USED, PROCESS-LABEL}
+use Rattle.rules.specs.Store.{tab, procOf, puts, zeros}
 use Rattle.rules.proofs.Lists.{puts-sets, length-zeros}
 use Rattle.secrecy.proofs.Agree.{getD-sets-before, getD-sets-past, getD-sets-in}
 
@@ -65,56 +62,6 @@ own-record f n L F t ws w ne o = record {
   room = rw (puts-sets, length-sets) (o .room);
   slot = o .slot;
 }
-
--- ---- the open files: none that reads is on slot f
-
-abbrev pub Unread : ℕ → List ℕ → Type 0
-Unread f E = (e : ℕ) → reads (modeAt (tab OPEN-FILE-WIDTH E e OPEN-MODE)) ≡ true → tab OPEN-FILE-WIDTH E e OPEN-SLOT ≡ f → ⊥
-
--- an offset or a count of references
-pub unread-word : (f : ℕ) (E : List ℕ) (e k x : ℕ) → OPEN-MODE < k → k < OPEN-FILE-WIDTH → Unread f E → Unread f (set E (OPEN-FILE-WIDTH * e + k) x)
-unread-word f E e k x lo hi old y r q =
-    let m : getD (set E (OPEN-FILE-WIDTH * e + k) x) (OPEN-FILE-WIDTH * y + OPEN-MODE) 0 ≡ getD E (OPEN-FILE-WIDTH * y + OPEN-MODE) 0 = getD-set-other E (OPEN-FILE-WIDTH * e + k) (OPEN-FILE-WIDTH * y + OPEN-MODE) x 0 (λ z. omega arith) in
-    let s : getD (set E (OPEN-FILE-WIDTH * e + k) x) (OPEN-FILE-WIDTH * y + OPEN-SLOT) 0 ≡ getD E (OPEN-FILE-WIDTH * y + OPEN-SLOT) 0 = getD-set-other E (OPEN-FILE-WIDTH * e + k) (OPEN-FILE-WIDTH * y + OPEN-SLOT) x 0 (λ z. omega arith) in
-    old y (rw m at r) (rw s at q)
-
-pub no-mode : reads (modeAt 0) ≡ true → ⊥
-unfolding reads some
-no-mode e = false≢true e
-
-pub unread-sets : (f : ℕ) (E : List ℕ) (e : ℕ) (ws : List ℕ) → length ws ≡ OPEN-FILE-WIDTH → (reads (modeAt (getD ws OPEN-MODE 0)) ≡ true → getD ws OPEN-SLOT 0 ≡ f → ⊥) → Unread f E
-    → Unread f (sets E (OPEN-FILE-WIDTH * e + 0) ws)
-unread-sets f E e ws w new old y = go (ℕ-discrete e y) (decLt (OPEN-FILE-WIDTH * e + OPEN-MODE) (length E))
-  where
-    go : Dec (e ≡ y) → Dec (OPEN-FILE-WIDTH * e + OPEN-MODE < length E) → reads (modeAt (getD (sets E (OPEN-FILE-WIDTH * e + 0) ws) (OPEN-FILE-WIDTH * y + OPEN-MODE) 0)) ≡ true → getD (sets E (OPEN-FILE-WIDTH * e + 0) ws) (OPEN-FILE-WIDTH * y + OPEN-SLOT) 0 ≡ f → ⊥
-    go (no ne) b r q = other (decLt e y) r q
-      where
-        other : Dec (e < y) → reads (modeAt (getD (sets E (OPEN-FILE-WIDTH * e + 0) ws) (OPEN-FILE-WIDTH * y + OPEN-MODE) 0)) ≡ true → getD (sets E (OPEN-FILE-WIDTH * e + 0) ws) (OPEN-FILE-WIDTH * y + OPEN-SLOT) 0 ≡ f → ⊥
-        other (yes lt) r q =
-            let m : getD (sets E (OPEN-FILE-WIDTH * e + 0) ws) (OPEN-FILE-WIDTH * y + OPEN-MODE) 0 ≡ getD E (OPEN-FILE-WIDTH * y + OPEN-MODE) 0 = getD-sets-past E (OPEN-FILE-WIDTH * e + 0) ws (OPEN-FILE-WIDTH * y + OPEN-MODE) (omega arith) in
-            let s : getD (sets E (OPEN-FILE-WIDTH * e + 0) ws) (OPEN-FILE-WIDTH * y + OPEN-SLOT) 0 ≡ getD E (OPEN-FILE-WIDTH * y + OPEN-SLOT) 0 = getD-sets-past E (OPEN-FILE-WIDTH * e + 0) ws (OPEN-FILE-WIDTH * y + OPEN-SLOT) (omega arith) in
-            old y (rw m at r) (rw s at q)
-        other (no ge) r q =
-            let m : getD (sets E (OPEN-FILE-WIDTH * e + 0) ws) (OPEN-FILE-WIDTH * y + OPEN-MODE) 0 ≡ getD E (OPEN-FILE-WIDTH * y + OPEN-MODE) 0 = getD-sets-before E (OPEN-FILE-WIDTH * e + 0) ws (OPEN-FILE-WIDTH * y + OPEN-MODE) (omega (arith, ne)) in
-            let s : getD (sets E (OPEN-FILE-WIDTH * e + 0) ws) (OPEN-FILE-WIDTH * y + OPEN-SLOT) 0 ≡ getD E (OPEN-FILE-WIDTH * y + OPEN-SLOT) 0 = getD-sets-before E (OPEN-FILE-WIDTH * e + 0) ws (OPEN-FILE-WIDTH * y + OPEN-SLOT) (omega (arith, ne)) in
-            old y (rw m at r) (rw s at q)
-    go (yes z) (yes lt) r q =
-        let e0 : OPEN-FILE-WIDTH * y + OPEN-SLOT ≡ OPEN-FILE-WIDTH * e + 0 + OPEN-SLOT = omega arith in
-        let e1 : OPEN-FILE-WIDTH * y + OPEN-MODE ≡ OPEN-FILE-WIDTH * e + 0 + OPEN-MODE = omega arith in
-        let m : getD (sets E (OPEN-FILE-WIDTH * e + 0) ws) (OPEN-FILE-WIDTH * e + 0 + OPEN-MODE) 0 ≡ getD ws OPEN-MODE 0 = getD-sets-in E (OPEN-FILE-WIDTH * e + 0) ws OPEN-MODE (omega arith) (omega arith) in
-        let s : getD (sets E (OPEN-FILE-WIDTH * e + 0) ws) (OPEN-FILE-WIDTH * e + 0 + OPEN-SLOT) 0 ≡ getD ws OPEN-SLOT 0 = getD-sets-in E (OPEN-FILE-WIDTH * e + 0) ws OPEN-SLOT (omega arith) (omega arith) in
-        new (rw (e1, m) at r) (rw (e0, s) at q)
-    go (yes z) (no ge) r q =
-        let m : getD (sets E (OPEN-FILE-WIDTH * e + 0) ws) (OPEN-FILE-WIDTH * y + OPEN-MODE) 0 ≡ 0 = List·getD-eq-default (sets E (OPEN-FILE-WIDTH * e + 0) ws) 0 (rw length-sets (omega arith)) in
-        no-mode (rw m at r)
-
-pub unread-record : (f : ℕ) (E : List ℕ) (e : ℕ) (ws : List ℕ) → length ws ≡ OPEN-FILE-WIDTH → (reads (modeAt (getD ws OPEN-MODE 0)) ≡ true → getD ws OPEN-SLOT 0 ≡ f → ⊥) → Unread f E
-    → Unread f (puts OPEN-FILE-WIDTH E e 0 ws)
-unread-record f E e ws w new old = rw puts-sets (unread-sets f E e ws w new old)
-
-pub unread-zero : (f : ℕ) (E : List ℕ) (e : ℕ) → Unread f E → Unread f (sets E (OPEN-FILE-WIDTH * e + 0) (zeros OPEN-FILE-WIDTH))
-unfolding zeros
-unread-zero f E e old = unread-sets f E e (0 ∷ 0 ∷ 0 ∷ 0 ∷ []) refl (λ r _. no-mode r) old
 
 -- ---- the processes: every label in use is among those reached
 

@@ -7,14 +7,13 @@ use mathlib.Core.Logic.{_⊎_, _≢_}
 use mathlib.Core.List.{List, [], _∷_}
 use lib.ListN.{length, drop}
 use Rattle.rules.specs.Choice.{some}
-use Rattle.rules.specs.Layout.{OPEN-FILES, LABELS, NO-TRANSITION, FILE-KIND, FILE-LABEL, FILE-LENGTH, PLAIN, OPEN-SLOT, OPEN-MODE}
-use Rattle.rules.specs.Rights.{READ, reads, covers, policyRights, transition}
-use Rattle.rules.specs.Store.{Store, Fixed, view, block, modeAt, subjectOf}
+use Rattle.rules.specs.Layout.{LABELS, NO-TRANSITION, FILE-KIND, FILE-LABEL, FILE-LENGTH, PLAIN}
+use Rattle.rules.specs.Rights.{READ, covers, policyRights, transition}
+use Rattle.rules.specs.Store.{Store, Fixed, view, block, subjectOf}
 use Rattle.rules.specs.Checks.{inUse, slotFree}
 use Rattle.rules.specs.Sound.{sound}
 use Rattle.rules.specs.Step.{Action, serve, answers, final}
 use Rattle.rules.specs.declared.ids.Pid.{Pid}
-use Rattle.rules.specs.declared.ids.Ofd.{Ofd}
 
 -- ---- the file in slot f
 
@@ -51,23 +50,15 @@ pub data Reached (Q : List ℕ) (s : Store) : ℕ → Type 0 where
 abbrev pub mayRead : List ℕ → (l m : ℕ) → Bool
 mayRead Q l m = covers (policyRights Q l m) READ
 
--- "A file is open for reading if an open entry in mode 1 or 3 names its slot"
-pub record OpenForReading (s : Store) (f : ℕ) : Type 0 where
-  pub ofd : Ofd
-  pub number : ofd .0 < OPEN-FILES
-  pub mode : reads (modeAt (view s .openFiles (ofd .0) OPEN-MODE)) ≡ true
-  pub names : view s .openFiles (ofd .0) OPEN-SLOT ≡ f
-
 -- ---- "What the demand supposes is supposed where the list starts"
 
--- two sound stores that differ only in the file's bytes; no label that is held or can be reached may read the file's label; the file is not open for
--- reading. The records are equal, so what is said of labels and open files of the one store holds of the other
+-- two sound stores that differ only in the file's bytes; no label that is held or can be reached may read the file's label. The records are equal, so what is
+-- said of labels of the one store holds of the other. "Demand 3 then needs no premise about files already open" (paper 02, R-8)
 pub record Supposed (K : Fixed) (f : ℕ) (s s′ : Store) : Type 0 where
   pub sound-one : sound K s ≡ true
   pub sound-other : sound K s′ ≡ true
   pub differ : DifferInBytes f s s′
   pub no-reader : (l : ℕ) → Reached (K .policy) s l → mayRead (K .policy) l (recordField s f FILE-LABEL) ≡ false
-  pub not-open : OpenForReading s f → ⊥
 
 -- ---- what is claimed of the list
 

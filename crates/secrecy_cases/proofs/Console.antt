@@ -7,11 +7,11 @@ use native.Mathlib.Omega.{arith}
 use native.Mathlib.Decide.{decLt}
 use borrow.Author.Tests.{eqb-true, ltb-true}
 use lib.Dec.{eqb, ltb}
-use lib.ListN.{length, getD, length-append, replicate, getD-replicate, length-replicate, List·getD-eq-default}
+use lib.ListN.{length, getD, length-append}
 use Rattle.rules.specs.Computing.{computing}
 use Rattle.rules.specs.Choice.{implies}
 use Rattle.rules.specs.Scan.{all}
-use Rattle.rules.specs.Layout.{SLOTS, BLOCK, FILE-WIDTH, OPEN-FILES, OPEN-FILE-WIDTH, OPEN-MODE, PROCESSES, FILE-LABEL, NO-TRANSITION, PROCESS-LABEL}
+use Rattle.rules.specs.Layout.{SLOTS, BLOCK, FILE-WIDTH, PROCESSES, FILE-LABEL, NO-TRANSITION, PROCESS-LABEL}
 use Rattle.rules.specs.Rights.{transition}
 use Rattle.rules.specs.Store.{view, tab, procOf, zeros, slot, pidOf}
 use Rattle.rules.specs.Directories.{dirent}
@@ -23,10 +23,10 @@ use Rattle.rules.specs.declared.ids.Pid.{Pid}
 use Rattle.rules.proofs.Scans.{all-at}
 use Rattle.cases.proofs.Quick.{no-prompts, sound-of}
 use Rattle.cases.proofs.Cases.{policy-sound}
-use Rattle.secrecy.specs.Claim.{Reached, held, given, mayRead, OpenForReading, Supposed, Claimed}
+use Rattle.secrecy.specs.Claim.{Reached, held, given, mayRead, Supposed, Claimed}
 use Rattle.secrecy_cases.specs.Needed.{KEY-ONE, KEY-OTHER}
 use Rattle.secrecy.proofs.Agree.{Agree}
-use Rattle.secrecy.proofs.Tables.{Own, no-mode}
+use Rattle.secrecy.proofs.Tables.{Own}
 use Rattle.secrecy.proofs.Related.{Apart}
 use Rattle.rules.proofs.Tests.{test}
 use Rattle.secrecy.proofs.Alike.{sound-same}
@@ -150,22 +150,6 @@ key-label : (k : List ℕ) → tab FILE-WIDTH (consoleWith k .files) 3 FILE-LABE
 unfolding computing
 key-label k = refl
 
--- ---- nothing is open
-
-getD-zeros : (n i : ℕ) → getD (zeros n) i 0 ≡ 0
-unfolding zeros
-getD-zeros n i = go (decLt i n)
-  where
-    go : Dec (i < n) → getD (replicate {A = ℕ} n 0) i 0 ≡ 0
-    go (yes lt) = getD-replicate n i 0 0 lt
-    go (no ge) =
-        let le : length (replicate {A = ℕ} n 0) ≤ i = rw length-replicate (omega arith) in
-        List·getD-eq-default (replicate {A = ℕ} n 0) 0 le
-
-nothing-open : (k : List ℕ) → OpenForReading (consoleWith k) 3 → ⊥
-unfolding consoleWith
-nothing-open k o = no-mode (rw (getD-zeros (OPEN-FILES * OPEN-FILE-WIDTH) (OPEN-FILE-WIDTH * o .ofd .0 + OPEN-MODE)) at (o .mode))
-
 -- ---- all that is supposed
 
 pub console-supposed : (k k′ : List ℕ) → length k ≡ 4 → length k′ ≡ 4 → Supposed consoleFixed 3 (consoleWith k) (consoleWith k′)
@@ -174,7 +158,6 @@ console-supposed k k′ e e′ = record {
   sound-other = sound-with k′ e′;
   differ = differ-of 3 4 3 (consoleWith k) (consoleWith k′) (console-apart k k′ e e′) (console-own k);
   no-reader = λ l r. rw (key-label k) (no-right l (reached-few k l r));
-  not-open = nothing-open k;
 }
 
 -- so the answers to no list of calls and borrowing reads depend on the key

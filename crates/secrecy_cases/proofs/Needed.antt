@@ -1,4 +1,5 @@
--- Each of these runs leaves one supposition out and gets different answers, so what demand 3 claims does not hold of it.
+-- Each of these runs but the last leaves one supposition out and gets different answers, so what demand 3 claims does not hold of it; the last, with the
+-- file open where the list starts, are refused.
 use Prim.Native.Nat.{ℕ}
 use mathlib.Core.Path.{_≡_, refl, sym, ap, _∙_}
 use mathlib.Core.Bool.{Bool, true, false, not, cond}
@@ -22,7 +23,7 @@ use Rattle.cases.proofs.Quick.{quick, quickSound, no-prompts, sound-of}
 use Rattle.cases.proofs.Cases.{policy-sound, console-sound}
 use Rattle.secrecy.specs.Claim.{mayRead, Claimed}
 use Rattle.secrecy.proofs.Alike.{attempt, unsound, serve-is}
-use Rattle.secrecy_cases.specs.Needed.{KEY-ONE, KEY-OTHER, firstBytes, heldPolicy, heldFixed, heldCalls, heldBorrows, reachedPolicy, reachedFixed, reachedCalls, opened, openedCalls}
+use Rattle.secrecy_cases.specs.Needed.{KEY-ONE, KEY-OTHER, firstBytes, heldPolicy, heldFixed, heldCalls, heldBorrows, reachedPolicy, reachedFixed, reachedCalls, opened, openedCalls, refusals, StaleRefused}
 use Rattle.rules.proofs.Tests.{test, both}
 
 -- ---- a run without the soundness test, and that test at each store that an action after the first finds
@@ -157,50 +158,28 @@ reached-other = refl
 pub reached-needed : Claimed reachedFixed 3 (consoleWith KEY-ONE) (consoleWith KEY-OTHER) reachedCalls → ⊥
 reached-needed c = different reachedFixed (consoleWith KEY-ONE) (consoleWith KEY-OTHER) reachedCalls 3 _ _ (test 1 _ policies-sound) no-prompts key-one-sound reached-along reached-granted reached-one reached-other (λ e. omega arith) (c .same-answers)
 
--- the file is open in mode 1
-opened-sound : quickSound [] (opened 1 KEY-ONE) ≡ true
+-- ---- the file is open for reading, in mode 1 and in mode 3, by a process whose label may not read it: nothing of the key is in the answers
+
+stale-sound : every (quickSound [] (opened 1 KEY-ONE) ∷ quickSound [] (opened 1 KEY-OTHER) ∷ quickSound [] (opened 3 KEY-ONE) ∷ quickSound [] (opened 3 KEY-OTHER) ∷ []) ≡ true
 unfolding computing quick opened
-opened-sound = refl
+stale-sound = refl
 
-opened-along : soundAfter consoleFixed (opened 1 KEY-ONE) openedCalls ≡ true
+stale-along : every (soundAfter consoleFixed (opened 1 KEY-ONE) openedCalls ∷ soundAfter consoleFixed (opened 1 KEY-OTHER) openedCalls ∷ soundAfter consoleFixed (opened 3 KEY-ONE) openedCalls ∷ soundAfter consoleFixed (opened 3 KEY-OTHER) openedCalls ∷ []) ≡ true
 unfolding computing quick soundAfter opened
-opened-along = refl
+stale-along = refl
 
-opened-granted : allGranted (actAnswers consoleFixed (opened 1 KEY-ONE) openedCalls) ≡ true
-unfolding computing actAnswers allGranted opened
-opened-granted = refl
+abbrev Tens : (mode : ℕ) (key : List ℕ) → Type 0
+Tens mode key = refusals (actAnswers consoleFixed (opened mode key) openedCalls) ≡ 10 ∷ 10 ∷ []
 
-opened-one : firstBytes (actAnswers consoleFixed (opened 1 KEY-ONE) openedCalls) ≡ 1 ∷ []
-unfolding computing actAnswers firstBytes opened
-opened-one = refl
+stale-tens : (Tens 1 KEY-ONE × Tens 1 KEY-OTHER) × (Tens 3 KEY-ONE × Tens 3 KEY-OTHER)
+unfolding computing actAnswers refusals opened
+stale-tens = ((refl, refl), (refl, refl))
 
-opened-other : firstBytes (actAnswers consoleFixed (opened 1 KEY-OTHER) openedCalls) ≡ 5 ∷ []
-unfolding computing actAnswers firstBytes opened
-opened-other = refl
+stale : (mode : ℕ) (key : List ℕ) → quickSound [] (opened mode key) ≡ true → soundAfter consoleFixed (opened mode key) openedCalls ≡ true → Tens mode key → StaleRefused mode key
+stale mode key start along e = ap refusals (answers-act consoleFixed policy-sound no-prompts openedCalls (opened mode key) start along) ∙ e
 
-pub opened-needed : Claimed consoleFixed 3 (opened 1 KEY-ONE) (opened 1 KEY-OTHER) openedCalls → ⊥
-opened-needed c = different consoleFixed (opened 1 KEY-ONE) (opened 1 KEY-OTHER) openedCalls 0 _ _ policy-sound no-prompts opened-sound opened-along opened-granted opened-one opened-other (λ e. omega arith) (c .same-answers)
+pub stale-mode-1 : StaleRefused 1 KEY-ONE × StaleRefused 1 KEY-OTHER
+stale-mode-1 = (stale 1 KEY-ONE (test 0 _ stale-sound) (test 0 _ stale-along) (stale-tens .0 .0), stale 1 KEY-OTHER (test 1 _ stale-sound) (test 1 _ stale-along) (stale-tens .0 .1))
 
--- and in mode 3
-mode-3-sound : quickSound [] (opened 3 KEY-ONE) ≡ true
-unfolding computing quick opened
-mode-3-sound = refl
-
-mode-3-along : soundAfter consoleFixed (opened 3 KEY-ONE) openedCalls ≡ true
-unfolding computing quick soundAfter opened
-mode-3-along = refl
-
-mode-3-granted : allGranted (actAnswers consoleFixed (opened 3 KEY-ONE) openedCalls) ≡ true
-unfolding computing actAnswers allGranted opened
-mode-3-granted = refl
-
-mode-3-one : firstBytes (actAnswers consoleFixed (opened 3 KEY-ONE) openedCalls) ≡ 1 ∷ []
-unfolding computing actAnswers firstBytes opened
-mode-3-one = refl
-
-mode-3-other : firstBytes (actAnswers consoleFixed (opened 3 KEY-OTHER) openedCalls) ≡ 5 ∷ []
-unfolding computing actAnswers firstBytes opened
-mode-3-other = refl
-
-pub mode-3-needed : Claimed consoleFixed 3 (opened 3 KEY-ONE) (opened 3 KEY-OTHER) openedCalls → ⊥
-mode-3-needed c = different consoleFixed (opened 3 KEY-ONE) (opened 3 KEY-OTHER) openedCalls 0 _ _ policy-sound no-prompts mode-3-sound mode-3-along mode-3-granted mode-3-one mode-3-other (λ e. omega arith) (c .same-answers)
+pub stale-mode-3 : StaleRefused 3 KEY-ONE × StaleRefused 3 KEY-OTHER
+stale-mode-3 = (stale 3 KEY-ONE (test 2 _ stale-sound) (test 2 _ stale-along) (stale-tens .1 .0), stale 3 KEY-OTHER (test 3 _ stale-sound) (test 3 _ stale-along) (stale-tens .1 .1))

@@ -1,12 +1,14 @@
--- That each supposition is needed: runs that leave one out, and whose answers give the file's bytes, to a read and to a borrowing read. The file is /key of the test console, slot 3, label 3.
+-- That each supposition is needed: runs that leave one out, and whose answers give the file's bytes, to a read and to a borrowing read; and runs on stores
+-- where the file is open for reading, which nothing is supposed about. The file is /key of the test console, slot 3, label 3.
 use Prim.Native.Nat.{ℕ, _+_, _*_}
+use mathlib.Core.Path.{_≡_}
 use mathlib.Core.List.{List, [], _∷_, _++_}
 use lib.ListN.{getD, set}
 use Rattle.rules.specs.Layout.{SLASH, LABELS, RIGHTS-SIZE, OPEN-FILE-WIDTH, OPEN-FILES, PROCESS-WIDTH, PROCESS-DESCRIPTOR}
 use Rattle.rules.specs.Rights.{READ, MODE-READ}
 use Rattle.rules.specs.Store.{Store, Fixed, fixed, store, pidOf, fdOf}
-use Rattle.rules.specs.Step.{Reply, Action, Calls, Borrows}
-use Rattle.rules.specs.Console.{FARES, NOW, KEY, filled, consoleWith, consolePolicy}
+use Rattle.rules.specs.Step.{Reply, Action, Calls, Borrows, answers}
+use Rattle.rules.specs.Console.{FARES, NOW, KEY, filled, consoleWith, consolePolicy, consoleFixed}
 
 -- two keys
 abbrev pub KEY-ONE : List ℕ
@@ -78,7 +80,7 @@ reachedFixed = fixed reachedPolicy []
 abbrev pub reachedCalls : List Action
 reachedCalls = executesNow 1 ∷ executesNow 1 ∷ opensKey 1 ∷ readsByte 1 ∷ []
 
--- ---- /key is open: descriptor 0 of process 2, whose label may not read it, holds open file 0
+-- ---- /key is open, and nothing is supposed about that: descriptor 0 of process 2, whose label may not read it, holds open file 0
 
 unfoldable pub opened : (mode : ℕ) → (key : List ℕ) → Store
 opened mode key =
@@ -86,4 +88,12 @@ opened mode key =
     (set (consoleWith key .processes) (PROCESS-WIDTH * 2 + PROCESS-DESCRIPTOR) 1)
 
 abbrev pub openedCalls : List Action
-openedCalls = readsByte 2 ∷ []
+openedCalls = readsByte 2 ∷ borrowsByte 2 ∷ []
+
+unfoldable pub refusals : List Reply → List ℕ
+refusals [] = []
+refusals (r ∷ rs) = r .refusal ∷ refusals rs
+
+-- both are refused with 10, whatever the key is: an open file is no right (paper 02, R-8)
+abbrev pub StaleRefused : (mode : ℕ) (key : List ℕ) → Type 0
+StaleRefused mode key = refusals (answers consoleFixed (opened mode key) openedCalls) ≡ 10 ∷ 10 ∷ []

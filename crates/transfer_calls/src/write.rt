@@ -9,6 +9,7 @@ ghost use Rattle.rules.specs.Rom.{filesIn};
 ghost use Rattle.rules.specs.Checks.{ofdHeld};
 ghost use Rattle.rules.specs.Decide.{writeAt, placement, writeFile, writeSome, writeOpen, decideWrite};
 ghost use Rattle.transfer_calls.specs.Stored.{stored};
+use crate::open_files::label_allows_open;
 use crate::open_files::open_appends;
 use crate::open_files::open_length;
 use crate::open_files::open_writes;
@@ -25,6 +26,8 @@ use rules::ids::Ofd;
 use rules::ids::Pid;
 use rules::ids::Slot;
 use rules::refusal::Refusal;
+use rules::request::Subject;
+use rules::rights::Rights;
 use tables::layout::BLOCK;
 use tables::numbers::add_length;
 use tables::numbers::larger;
@@ -104,11 +107,21 @@ fn write_some(files: &[u32], open_files: &[u32], e: Ofd, n: usize) -> Decision
     write_from_start(files, open_files, e, n)
 }
 
-fn write_open(files: &[u32], open_files: &[u32], e: Ofd, n: usize) -> Decision
-    ensures { λ r. ⌜ r ≡ writeOpen (filesIn (now (files .entry))) (tab OPEN-FILE-WIDTH (now («open_files» .entry))) e n ⌝ }
+fn write_open(
+    files: &[u32],
+    open_files: &[u32],
+    policy: &[u8],
+    who: Subject,
+    e: Ofd,
+    n: usize,
+) -> Decision
+    ensures { λ r. ⌜ r ≡ writeOpen (now (policy .entry)) (filesIn (now (files .entry))) (tab OPEN-FILE-WIDTH (now («open_files» .entry))) who e n ⌝ }
 {
     if !open_writes(open_files, e) {
         return Decision::Refused(Refusal::WrongDirection, 0);
+    }
+    if !label_allows_open(files, open_files, policy, who, e, Rights::WRITE) {
+        return Decision::Refused(Refusal::LabelForbids, 0);
     }
     write_some(files, open_files, e, n)
 }
@@ -117,27 +130,31 @@ fn write_held(
     files: &[u32],
     open_files: &[u32],
     processes: &[u32],
+    policy: &[u8],
     p: Pid,
+    who: Subject,
     i: Fd,
     n: usize,
 ) -> Decision
-    ensures { λ r. ⌜ r ≡ writeOpen (filesIn (now (files .entry))) (tab OPEN-FILE-WIDTH (now («open_files» .entry))) (ofdHeld (descOf (now (processes .entry))) p i) n ⌝ }
+    ensures { λ r. ⌜ r ≡ writeOpen (now (policy .entry)) (filesIn (now (files .entry))) (tab OPEN-FILE-WIDTH (now («open_files» .entry))) who (ofdHeld (descOf (now (processes .entry))) p i) n ⌝ }
 {
-    write_open(files, open_files, ofd_held(processes, p, i), n)
+    write_open(files, open_files, policy, who, ofd_held(processes, p, i), n)
 }
 
 pub fn decide_write(
     files: &[u32],
     open_files: &[u32],
     processes: &[u32],
+    policy: &[u8],
     p: Pid,
+    who: Subject,
     i: Fd,
     n: usize,
 ) -> Decision
-    ensures { λ r. ⌜ r ≡ decideWrite (filesIn (now (files .entry))) (tab OPEN-FILE-WIDTH (now («open_files» .entry))) (descOf (now (processes .entry))) p i n ⌝ }
+    ensures { λ r. ⌜ r ≡ decideWrite (now (policy .entry)) (filesIn (now (files .entry))) (tab OPEN-FILE-WIDTH (now («open_files» .entry))) (descOf (now (processes .entry))) p who i n ⌝ }
 {
     if !is_held(processes, p, i) {
         return Decision::Refused(Refusal::NotHeld, 0);
     }
-    write_held(files, open_files, processes, p, i, n)
+    write_held(files, open_files, processes, policy, p, who, i, n)
 }

@@ -1,4 +1,4 @@
-//! When a borrowing read is refused: 1, 2, 3, 4, 5, in this order, with
+//! When a borrowing read is refused: 1, 2, 3, 4, 5, 10, in this order, with
 //! nothing changed.
 
 use crate::console::{Console, FILE_KIND, FILE_LENGTH};
@@ -116,12 +116,29 @@ fn refusal_5_for_what_is_not_open_to_read() {
     assert_eq!(console.borrow(1, 3, 2), Ok(b"2.".to_vec()));
 }
 
-/// Neither bits nor labels are asked of what is open.
+/// After 3, 4 and 5, for a count of 0 too, and for prompts.
 #[test]
-fn no_right_is_asked() {
+fn refusal_10_where_the_label_may_not_read() {
+    let mut console = holding();
+    for rights in 0..8 {
+        console.policy[16] = rights;
+        let granted = rights & 4 == 4;
+        for descriptor in [0, 1, 3] {
+            for count in [0, 1] {
+                let answer = console.borrow(1, descriptor, count);
+                assert_eq!(answer.is_ok(), granted, "rights {rights}");
+                assert!(granted || answer == Err(10));
+            }
+            assert_eq!(console.borrow(1, descriptor, 513), Err(3));
+        }
+        assert_eq!(console.borrow(1, 2, 1), Err(5));
+        assert_eq!(console.borrow(1, 5, 1), Err(4));
+    }
+}
+
+#[test]
+fn bits_are_not_asked_of_what_is_open() {
     let mut console = holding();
     assert_eq!(console.change_bits(1, "/fares/now", 0), Ok(0));
-    console.policy[..256].fill(0);
     assert_eq!(console.borrow(1, 1, 9), Ok(b"2.40\n".to_vec()));
-    assert_eq!(console.borrow(1, 0, 4), Ok(b"next".to_vec()));
 }

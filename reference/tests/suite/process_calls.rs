@@ -95,7 +95,7 @@ fn execute_leaves_user_group_and_descriptors() {
     assert_eq!(console.open(1, "/fares/now", 3), Ok(0));
     assert_eq!(console.execute(1, "/fares/now"), Ok(0));
     assert_eq!(console.process(1), [1, 10, 1, 2, 1, 0, 0, 0, 0, 0, 0, 0]);
-    assert_eq!(console.write(1, 0, b"3"), Ok(1));
+    assert_eq!(console.read(1, 0, 2), Ok(b"2.".to_vec()));
 }
 
 #[test]

@@ -103,15 +103,19 @@ fn all_classes_may_read_and_search() {
     }
 }
 
-/// As with other files, what is open stays readable after the label moved.
+/// As with other files, what is open is refused after the label moved.
 #[test]
-fn reading_asks_the_label_no_more() {
+fn reading_asks_the_present_label() {
     let mut console = Console::talking();
     console.set_bits(2, 0o755);
     console.policy[256 + 16 * 2] = 8; // from label 2 by a program of label 0
     assert_eq!(console.open(2, "/rom/00", 1), Ok(0));
     assert_eq!(console.execute(2, "/fares/now"), Ok(0));
     assert_eq!(console.open(2, "/rom/00", 1), stopped(10, 1));
-    assert_eq!(console.read(2, 0, 4), Ok(b"next".to_vec()));
-    assert_eq!(console.borrow(2, 0, 5), Ok(b" stop".to_vec()));
+    for size in [0, 4] {
+        assert_eq!(console.read(2, 0, size), Err((10, 0)));
+        assert_eq!(console.borrow(2, 0, size as u32), Err(10));
+    }
+    assert_eq!(console.write(2, 0, b"x"), no(5));
+    assert_eq!(console.open_file(0), [128, 1, 0, 1]);
 }

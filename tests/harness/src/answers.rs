@@ -31,14 +31,7 @@ impl Answers {
     }
 
     pub fn print(&self) {
-        print!("{:17}{:>8}", "call", "granted");
-        for refusal in 1..REFUSALS {
-            print!("{refusal:>7}");
-        }
-        println!();
-        for row in (1..ROWS).chain([0]) {
-            print_row(name_of(row), &self.0[row]);
-        }
+        self.print_rows((1..ROWS).chain([0]));
         let mut sums = [0; REFUSALS];
         for row in &self.0 {
             for (sum, count) in sums.iter_mut().zip(row) {
@@ -46,6 +39,18 @@ impl Answers {
             }
         }
         print_row("all", &sums);
+    }
+
+    /// Some of the rows, under a head.
+    pub fn print_rows(&self, rows: impl IntoIterator<Item = usize>) {
+        print!("{:17}{:>8}", "call", "granted");
+        for refusal in 1..REFUSALS {
+            print!("{refusal:>7}");
+        }
+        println!();
+        for row in rows {
+            print_row(name_of(row), &self.0[row]);
+        }
     }
 }
 

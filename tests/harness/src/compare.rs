@@ -81,6 +81,7 @@ impl Comparison {
         self.before = random_store(&mut self.chance);
         self.tally.stores += 1;
         self.tally.features.count(&self.before);
+        self.tally.stale.start();
         if !(store_sound(&self.before) && reference_sound(&self.before)) {
             self.report("a store made to be sound is not", None, None);
             return;
@@ -116,6 +117,8 @@ impl Comparison {
             self.report("a sound store became unsound", Some(&action), answers);
             return false;
         }
+        let tables = [&self.before, &self.store];
+        self.tally.stale.count(tables, &action, &answer);
         if answer.is_granted() {
             self.before.clone_from(&self.store);
             if action.changes_names() {
@@ -286,6 +289,7 @@ impl Comparison {
         self.tally.pairs += 1;
         self.tally.pairs_linked += u64::from(pair.has_links());
         self.tally.pairs_prompted += u64::from(pair.has_prompts());
+        self.tally.pairs_read += u64::from(pair.has_reader());
         for _ in 0..self.chance.between(10, 100) {
             self.tally.pair_calls += 1;
             match pair.step(&mut self.chance) {
@@ -301,6 +305,9 @@ impl Comparison {
             }
         }
         self.tally.pairs_freed += u64::from(pair.freed);
+        for (sum, refused) in self.tally.pair_refused.iter_mut().zip(pair.refused) {
+            *sum += refused;
+        }
     }
 
     fn report(&mut self, what: &str, action: Option<&Action>, answers: Option<(&Answer, &Answer)>) {

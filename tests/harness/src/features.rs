@@ -7,7 +7,7 @@ use mritvelja::Tables;
 
 type Test = fn(&Tables) -> bool;
 
-const FEATURES: [(&str, Test); 31] = [
+const FEATURES: [(&str, Test); 33] = [
     ("a directory 8 names deep", eight_deep),
     ("a directory with 16 names", full_directory),
     ("no free slot", no_free_slot),
@@ -15,6 +15,12 @@ const FEATURES: [(&str, Test); 31] = [
     ("no free process", no_free_process),
     ("an open file with several references", shared_open_file),
     ("an open file without a name", unnamed),
+    ("a reader whose label may not read", |tables| {
+        unentitled(tables, READ, &[1, 3])
+    }),
+    ("a writer whose label may not write", |tables| {
+        unentitled(tables, WRITE, &[2, 3, 4])
+    }),
     ("a version at the wrap", at_wrap),
     ("a transition", has_transition),
     ("an owner with fewer rights than others", owner_below_others),
@@ -47,8 +53,13 @@ const FEATURES: [(&str, Test); 31] = [
     }),
 ];
 
-#[derive(Default)]
 pub struct Features([u64; FEATURES.len()]);
+
+impl Default for Features {
+    fn default() -> Features {
+        Features([0; FEATURES.len()])
+    }
+}
 
 impl Features {
     pub fn count(&mut self, tables: &Tables) {
@@ -166,6 +177,20 @@ fn shared_open_file(tables: &Tables) -> bool {
 
 fn unnamed(tables: &Tables) -> bool {
     (0..SLOTS).any(|slot| tables.is_kind(slot, PLAIN) && tables.file(slot)[FILE_LINKS] == 0)
+}
+
+/// Whether a process holds a file open in one of the modes that its label has not this right over.
+fn unentitled(tables: &Tables, right: u32, modes: &[u32]) -> bool {
+    let without = |process: usize, word: u32| {
+        let open_file = tables.open_file(word as usize - 1);
+        let over = rom::file(tables, open_file[OPEN_SLOT] as usize)[FILE_LABEL] as usize;
+        let label = tables.process(process)[PROCESS_LABEL] as usize;
+        modes.contains(&open_file[OPEN_MODE]) && u32::from(tables.rights(label, over)) & right == 0
+    };
+    (0..PROCESSES).any(|process| {
+        let mut held = tables.descriptors(process).iter();
+        held.any(|&word| word > 0 && without(process, word))
+    })
 }
 
 fn at_wrap(tables: &Tables) -> bool {

@@ -1,13 +1,14 @@
 //! Pairs of stores that differ in a secret: the bytes of a plain file that no
-//! label may read. The same calls and borrowing reads on both must not tell them
-//! apart; the factory part is the same.
+//! label may read, whoever has it open. The same calls and borrowing reads on both
+//! must not tell them apart; the factory part is the same.
 
 use crate::action::Action;
 use crate::chance::Chance;
 use crate::generate::{random_store, CallMaker};
+use crate::held;
 use crate::programs::{store_action, store_sound};
 use mritvelja::layout::*;
-use mritvelja::Tables;
+use mritvelja::{calls, refusals, Tables};
 
 pub struct Pair {
     pub one: Tables,
@@ -15,6 +16,8 @@ pub struct Pair {
     /// The slot with the secret.
     pub slot: usize,
     pub freed: bool,
+    /// Reads, and borrowing reads, refused with 10 by who has the secret open for reading.
+    pub refused: [u64; 2],
     maker: CallMaker,
 }
 
@@ -22,9 +25,12 @@ impl Pair {
     /// A pair from a store by chance, if it has a file that can be a secret.
     pub fn random(chance: &mut Chance) -> Option<Pair> {
         let mut one = random_store(chance);
-        let slot = chance.pick_where(SLOTS, |slot| {
-            one.is_kind(slot, PLAIN) && one.file(slot)[FILE_LENGTH] > 0
-        })?;
+        let fits = |slot| one.is_kind(slot, PLAIN) && one.file(slot)[FILE_LENGTH] > 0;
+        let open = match chance.percent(75) {
+            true => chance.pick_where(SLOTS, |slot| fits(slot) && is_read(&one, slot)),
+            false => None,
+        };
+        let slot = open.or_else(|| chance.pick_where(SLOTS, fits))?;
         hide(&mut one, slot, chance);
         let mut other = one.clone();
         let length = one.file(slot)[FILE_LENGTH] as usize;
@@ -38,6 +44,7 @@ impl Pair {
             other,
             slot,
             freed: false,
+            refused: [0; 2],
             maker,
         })
     }
@@ -50,9 +57,15 @@ impl Pair {
         !self.one.rom.is_empty()
     }
 
+    /// Whether some process has the secret open for reading.
+    pub fn has_reader(&self) -> bool {
+        is_read(&self.one, self.slot)
+    }
+
     /// One action on both stores, which is answered; an error says what told them apart.
     pub fn step(&mut self, chance: &mut Chance) -> Result<Action, (&'static str, Action)> {
         let action = self.maker.action(chance, &self.one);
+        let reader = self.reader(&action);
         let outcome = store_action(&mut self.one, &action);
         let other = store_action(&mut self.other, &action);
         if outcome.answer != other.answer {
@@ -60,6 +73,12 @@ impl Pair {
         }
         if outcome != other {
             return Err(("the bytes differ", action));
+        }
+        if let Some(way) = reader {
+            if outcome.answer.is_granted() {
+                return Err(("the secret is read", action));
+            }
+            self.refused[way] += u64::from(outcome.answer.refusal == refusals::LABEL_FORBIDS);
         }
         // A slot that is given out again is no secret any more.
         self.freed |= self.one.is_kind(self.slot, FREE);
@@ -70,6 +89,18 @@ impl Pair {
             self.maker.refresh(&self.one);
         }
         Ok(action)
+    }
+
+    /// Whether the action reads by a descriptor that has the secret open for reading: 0 for a read, 1 for a borrowing
+    /// one.
+    fn reader(&self, action: &Action) -> Option<usize> {
+        let (way, process, descriptor) = match action {
+            Action::Call(call) if call.call == calls::READ => (0, call.process, call.descriptor),
+            Action::Call(_) => return None,
+            Action::Borrow(borrow) => (1, borrow.process, borrow.descriptor),
+        };
+        let open_file = held::open_file(&self.one, process, descriptor)?;
+        (!self.freed && held::reads(&self.one, open_file, self.slot)).then_some(way)
     }
 
     /// Equal but for the secret; once freed, equal altogether.
@@ -91,8 +122,13 @@ impl Pair {
     }
 }
 
+/// Whether some open file is on the slot, and open for reading.
+fn is_read(tables: &Tables, slot: usize) -> bool {
+    (0..OPEN_FILES).any(|open_file| held::reads(tables, open_file, slot))
+}
+
 /// Takes the right to read the slot from every label that is held or can be
-/// reached, and has nobody hold it open for reading.
+/// reached. Open files stay as they are: they are no right.
 fn hide(tables: &mut Tables, slot: usize, chance: &mut Chance) {
     if chance.one_in(2) {
         tables.file_mut(slot)[FILE_LABEL] = LABELS as u32 - 1;
@@ -101,13 +137,6 @@ fn hide(tables: &mut Tables, slot: usize, chance: &mut Chance) {
     for (label, reached) in reachable(tables).into_iter().enumerate() {
         if reached {
             tables.policy[LABELS * label + file_label] &= !(READ as u8);
-        }
-    }
-    for open_file in 0..OPEN_FILES {
-        let on_slot = tables.open_file(open_file)[OPEN_REFERENCES] > 0
-            && tables.open_file(open_file)[OPEN_SLOT] as usize == slot;
-        if on_slot && matches!(tables.open_file(open_file)[OPEN_MODE], 1 | 3) {
-            tables.open_file_mut(open_file)[OPEN_MODE] = chance.pick(&[2, 4]);
         }
     }
 }

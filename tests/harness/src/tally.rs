@@ -5,6 +5,7 @@ use crate::defects::Defect;
 use crate::features::Features;
 use crate::prompts::Prompts;
 use crate::sizes;
+use crate::stale::Stale;
 use crate::walks::Walks;
 
 pub struct Tally {
@@ -13,6 +14,7 @@ pub struct Tally {
     pub features: Features,
     pub walks: Walks,
     pub prompts: Prompts,
+    pub stale: Stale,
     pub acts: u64,
     /// Stores by their defect.
     pub defects: Vec<u64>,
@@ -22,11 +24,14 @@ pub struct Tally {
     pub altered: u64,
     pub altered_sound: u64,
     pub pairs: u64,
-    /// Pairs with symbolic links, and with prompts.
+    /// Pairs with symbolic links, with prompts, and with the secret open for reading.
     pub pairs_linked: u64,
     pub pairs_prompted: u64,
+    pub pairs_read: u64,
     pub pair_calls: u64,
     pub pair_borrows: u64,
+    /// Reads, and borrowing reads, of the secret by who has it open.
+    pub pair_refused: [u64; 2],
     pub pairs_freed: u64,
     pub differences: u64,
 }
@@ -39,6 +44,7 @@ impl Tally {
             features: Features::default(),
             walks: Walks::default(),
             prompts: Prompts::default(),
+            stale: Stale::default(),
             acts: 0,
             defects: vec![0; defects],
             sizes: [0; sizes::TABLES.len()],
@@ -47,8 +53,10 @@ impl Tally {
             pairs: 0,
             pairs_linked: 0,
             pairs_prompted: 0,
+            pairs_read: 0,
             pair_calls: 0,
             pair_borrows: 0,
+            pair_refused: [0; 2],
             pairs_freed: 0,
             differences: 0,
         }
@@ -59,6 +67,7 @@ impl Tally {
         self.features.print();
         self.walks.print();
         self.prompts.print();
+        self.stale.print();
         self.print_defects(defects);
         let (calls, granted) = (self.answers.all(), self.answers.granted());
         println!(
@@ -69,11 +78,23 @@ impl Tally {
             calls - granted,
             self.acts
         );
-        println!(
-            "secrecy: {} pairs of stores, {} of them with symbolic links, {} with prompts, {} calls on both, {} of them borrowing reads, {} files freed on the way",
-            self.pairs, self.pairs_linked, self.pairs_prompted, self.pair_calls, self.pair_borrows, self.pairs_freed
-        );
+        self.print_pairs();
         println!("differences in calls: {}", self.differences);
+    }
+
+    fn print_pairs(&self) {
+        println!(
+            "secrecy: {} pairs of stores, {} of them with symbolic links, {} with prompts, {} with the secret open for reading; {} calls on both, {} of them borrowing reads, {} files freed on the way",
+            self.pairs,
+            self.pairs_linked,
+            self.pairs_prompted,
+            self.pairs_read,
+            self.pair_calls,
+            self.pair_borrows,
+            self.pairs_freed
+        );
+        let [reads, borrows] = self.pair_refused;
+        println!("secrecy: who had the secret open was refused with 10: {reads} reads, {borrows} borrowing reads");
     }
 
     fn print_defects(&self, defects: &[Defect]) {

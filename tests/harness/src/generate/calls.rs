@@ -4,8 +4,9 @@ use super::ways::Names;
 use crate::action::{Action, Borrow};
 use crate::call::{Call, CALLS};
 use crate::chance::Chance;
+use crate::held;
 use crate::rom;
-use mritvelja::calls::READ;
+use mritvelja::calls::{DUPLICATE, READ, SEEK, WRITE};
 use mritvelja::layout::*;
 use mritvelja::Tables;
 
@@ -98,7 +99,8 @@ impl CallMaker {
 
     /// A call of the given number.
     pub fn call_of(&self, chance: &mut Chance, tables: &Tables, call: u8) -> Call {
-        let process = caller(chance, tables, call);
+        let holder = self.holder(chance, tables, call);
+        let process = holder.map_or_else(|| caller(chance, tables, call), |(process, _)| process);
         let mut scene = Scene {
             chance,
             tables,
@@ -106,7 +108,8 @@ impl CallMaker {
             favourite: self.favourite,
             process: process.min(PROCESSES - 1),
         };
-        let descriptor = scene.descriptor(call);
+        let descriptor =
+            holder.map_or_else(|| scene.descriptor(call), |(_, descriptor)| descriptor);
         let (call, known) = (scene.unknown_call(call), call);
         let number = scene.number(known);
         Call {
@@ -118,6 +121,26 @@ impl CallMaker {
             data: scene.data(known, descriptor),
             buffer: scene.buffer(),
         }
+    }
+
+    /// A process and a descriptor by which it holds the favourite: half of the time, where there is one.
+    fn holder(&self, chance: &mut Chance, tables: &Tables, call: u8) -> Option<(usize, usize)> {
+        let slot = self.favourite? as u32;
+        if !matches!(call, READ | WRITE | SEEK | DUPLICATE) || chance.one_in(2) {
+            return None;
+        }
+        let careless = chance.one_in(12);
+        let split = |number| (number / DESCRIPTORS, number % DESCRIPTORS);
+        let holds = |number| {
+            let (process, descriptor) = split(number);
+            let held = held::open_file(tables, process as u8, descriptor as u8);
+            held.is_some_and(|open_file| {
+                let entry = tables.open_file(open_file);
+                entry[OPEN_SLOT] == slot && (careless || fits_direction(call, entry[OPEN_MODE]))
+            })
+        };
+        let number = chance.pick_where(PROCESSES * DESCRIPTORS, holds)?;
+        Some(split(number))
     }
 }
 
@@ -240,16 +263,11 @@ impl Scene<'_> {
 
 /// Whether a read's descriptor holds a file with bytes past the offset.
 fn has_bytes(tables: &Tables, read: &Call) -> bool {
-    let (process, descriptor) = (read.process.into(), usize::from(read.descriptor));
-    if process >= PROCESSES || descriptor >= DESCRIPTORS {
-        return false;
-    }
-    let word = tables.descriptors(process)[descriptor] as usize;
-    word > 0 && {
-        let open_file = tables.open_file(word - 1);
-        let file = rom::file(tables, open_file[OPEN_SLOT] as usize);
-        open_file[OPEN_OFFSET] < file[FILE_LENGTH]
-    }
+    held::open_file(tables, read.process, read.descriptor).is_some_and(|open_file| {
+        let entry = tables.open_file(open_file);
+        let file = rom::file(tables, entry[OPEN_SLOT] as usize);
+        entry[OPEN_OFFSET] < file[FILE_LENGTH]
+    })
 }
 
 fn fits_direction(call: u8, mode: u32) -> bool {

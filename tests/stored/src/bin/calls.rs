@@ -21,6 +21,9 @@ mod defects;
 #[path = "../../../harness/src/generate/mod.rs"]
 mod generate;
 #[allow(dead_code)]
+#[path = "../../../harness/src/held.rs"]
+mod held;
+#[allow(dead_code)]
 #[path = "../../../harness/src/rom.rs"]
 mod rom;
 #[allow(dead_code)]
@@ -42,7 +45,7 @@ use reference::Request;
 use stored::records::{self, BUFFER, ROM_ROOM, ROOM};
 use stored::tables::{self, zero, SIZES};
 
-const SEED: u64 = 20_263;
+const SEED: u64 = 20_267;
 const STORES: usize = 60;
 const CALLS: usize = 89;
 /// How many bytes but 0 the contents and the factory part of a short store have.

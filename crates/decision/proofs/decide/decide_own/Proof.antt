@@ -88,8 +88,14 @@ decide-own-spec =
     let at-subject = at-enum-told9 .before .before in
     rw (at-enum-told9 .enum-told9 .given .1) (rw (at-subject .subject .ensures) at (c .formed-stat .ensures)))
     (λ c. rw (c .before .enum-told10 .given .1) (c .decide-close .ensures))
-    (λ c. rw (c .before .enum-told11 .given .1) (c .decide-read .ensures))
-    (λ c. rw (c .before .enum-told12 .given .1) (c .decide-write .ensures))
+    (λ c.
+    let at-enum-told11 = c .before in
+    let at-subject = at-enum-told11 .before .before in
+    rw (at-enum-told11 .enum-told11 .given .1) (rw (at-subject .subject .ensures) at (c .decide-read .ensures)))
+    (λ c.
+    let at-enum-told12 = c .before in
+    let at-subject = at-enum-told12 .before .before in
+    rw (at-enum-told12 .enum-told12 .given .1) (rw (at-subject .subject .ensures) at (c .decide-write .ensures)))
     (λ c. rw (c .before .enum-told13 .given .1) (c .formed-seek .ensures))
     (λ c. rw (c .before .enum-told14 .given .1) (c .decide-duplicate .ensures))
     (λ c. rw (c .before .enum-told15 .given .1) (c .decide-fork .ensures))

@@ -11,4 +11,6 @@ write-open-spec =
     (λ c κs. tt)
     (λ c. search steps)
     (λ c κs. tt)
+    (λ c. search steps)
+    (λ c κs. tt)
     (λ c. search steps))
