@@ -4,7 +4,7 @@ use mathlib.Core.Bool.{true}
 use mathlib.Core.Logic.{_⊎_, inl, inr}
 use Prim.Native.Nat.{ℕ, _-_}
 use native.Mathlib.Decide.{ℕ-discrete}
-use Rattle.rules.specs.Layout.{FILE-KIND, FILE-OWNER, FILE-BITS, FREE}
+use Rattle.rules.specs.Layout.{FILE-KIND, FILE-OWNER, FILE-BITS, FREE, PLAIN}
 use Rattle.rules.specs.Store.{Store, Fixed, view, slot, subjectOf}
 use Rattle.rules.specs.Refusals.{GRANTED}
 use Rattle.rules.specs.Rights.{owns}
@@ -30,7 +30,7 @@ use Rattle.preservation.proofs.StoreChanges.{tablesOf}
 use Rattle.preservation.proofs.SoundStore.{SoundStore, means-sound}
 use Rattle.preservation.proofs.OpenEffects.{Leaves, open-leaves, truncate-leaves, move-leaves, duplicate-leaves, bits-leaves, execute-leaves, write-leaves}
 use Rattle.preservation.proofs.NameEffects.{link-leaves, create-leaves, symlink-leaves, unlinkedTables, Unnaming, keeps, frees, unlink-leaves, unnaming-is, remove-leaves}
-use Rattle.preservation.proofs.CloseEffects.{Steady, close-leaves, releasing-is, exit-leaves}
+use Rattle.preservation.proofs.CloseEffects.{Still, Steady, close-leaves, releasing-is, exit-leaves}
 use Rattle.preservation.proofs.Granted.{Granting, nothing, opens, truncates, creates, symlinks, unlinks, removes, links, changesBits, closes, stores, reads, seeks, duplicates, forks, exits, executes}
 use Rattle.preservation.proofs.Decided.{decide-fit}
 use Rattle.preservation.proofs.Preserved.{placed-well, read-fits, forking}
@@ -70,8 +70,8 @@ module _ (s : Store) (h : SoundStore s) (c : Call) (f : ℕ) where
   steadily : (t : Store) → Steady (tablesOf s) (tablesOf t) → Differ t
   steadily t y = left t (by (y f))
     where
-      by : (tablesOf t .file f FILE-KIND ≡ FREE) ⊎ ((tablesOf t .file f ≡ tablesOf s .file f) × (tablesOf t .byte f ≡ tablesOf s .byte f)) → Left (tablesOf t)
-      by (inl e) = inl e
+      by : ((tablesOf s .file f FILE-KIND ≡ PLAIN) × (tablesOf t .file f FILE-KIND ≡ FREE)) ⊎ Still (tablesOf s) (tablesOf t) f → Left (tablesOf t)
+      by (inl e) = inl (e .1)
       by (inr e) = inr (ap (λ (r : ℕ → ℕ). r FILE-BITS) (e .0))
 
   truncate-bits : (y : ℕ) (row : ℕ → ℕ) (m : Tables) → m .file f FILE-BITS ≡ tablesOf s .file f FILE-BITS → row FILE-BITS ≡ tablesOf s .file y FILE-BITS → remade y row (λ _. 0) m .file f FILE-BITS ≡ tablesOf s .file f FILE-BITS

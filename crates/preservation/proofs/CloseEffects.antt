@@ -9,7 +9,7 @@ use native.Mathlib.Omega.{arith}
 use native.Mathlib.Decide.{decLt, ℕ-discrete}
 use lib.Dec.{eqb, ltb}
 use borrow.Author.Tests.{eq-eqb, ne-eqb, ltb-true, ltb-false, lt-ltb, le-ltb}
-use Rattle.rules.specs.Layout.{SLOTS, OPEN-FILES, PROCESSES, DESCRIPTORS, FILE-KIND, FILE-LINKS, FILE-VERSION, OPEN-SLOT, OPEN-REFERENCES, PROCESS-USED, FREE}
+use Rattle.rules.specs.Layout.{SLOTS, OPEN-FILES, PROCESSES, DESCRIPTORS, FILE-KIND, FILE-LINKS, FILE-VERSION, OPEN-SLOT, OPEN-REFERENCES, PROCESS-USED, FREE, PLAIN}
 use Rattle.rules.specs.Choice.{every}
 use Rattle.rules.specs.Scan.{repeat}
 use Rattle.rules.specs.Store.{words, Store, view, slot, ofdOf, up, applyAll, change, procZero, fdOf, openBut, isOn}
@@ -21,7 +21,7 @@ use Rattle.rules.specs.declared.ids.Fd.{Fd}
 use Rattle.rules.specs.declared.decision.Release.{Release}
 use Rattle.rules.specs.declared.decision.Release.the-variants as release
 use Rattle.rules.proofs.Scans.{repeat-step, repeat-done}
-use Rattle.preservation.proofs.Tests.{split, upd, updRow, Means, means-every, means-and, means-last, means-eq}
+use Rattle.preservation.proofs.Tests.{split, upd, upd-other, updRow, Means, means-every, means-and, means-last, means-eq}
 use Rattle.preservation.proofs.Tables.{Tables, descTo}
 use Rattle.preservation.proofs.Scans.{any-found, any-none}
 use Rattle.preservation.proofs.Sound.{Sound}
@@ -32,7 +32,7 @@ use Rattle.preservation.proofs.OneWord as word
 use Rattle.preservation.proofs.Remake.{remade}
 use Rattle.preservation.proofs.Rows.{freeRow}
 use Rattle.preservation.proofs.Create.{freed}
-use Rattle.preservation.proofs.Open.{handed, close-keeps, close-prompt, close-named, close-open, close-frees}
+use Rattle.preservation.proofs.Open.{handed, close-keeps, close-prompt, close-named, close-open, close-frees, slot-plain}
 use Rattle.preservation.proofs.Processes.{retire-sound}
 use Rattle.preservation.proofs.StoreChanges.{tablesOf, Has, has-clearTo, has-openRow, has-openZero, has-descTo, has-procZero, desc-past}
 use Rattle.preservation.proofs.Counted.{means-on}
@@ -115,13 +115,25 @@ module _ (s : Store) (h : SoundStore s) (p : Pid) (i : Fd) where
 
 -- ---- the tables after it
 
--- each slot is freed, or has the record and the bytes that it had
-abbrev pub Steady : Tables → Tables → Type 0
-Steady m n = (f : ℕ) → (n .file f FILE-KIND ≡ FREE) ⊎ ((n .file f ≡ m .file f) × (n .byte f ≡ m .byte f))
+-- slot f has the record and the bytes that it had
+abbrev pub Still : Tables → Tables → ℕ → Type 0
+Still m n f = (n .file f ≡ m .file f) × (n .byte f ≡ m .byte f)
 
-steady-freed : (m : Tables) (y : ℕ) (row g : ℕ → ℕ) → row FILE-KIND ≡ FREE → Steady m (remade y row g m)
+-- each slot is a plain file that is freed, or still as it was
+abbrev pub Steady : Tables → Tables → Type 0
+Steady m n = (f : ℕ) → ((m .file f FILE-KIND ≡ PLAIN) × (n .file f FILE-KIND ≡ FREE)) ⊎ Still m n f
+
+-- so what is not plain is
+pub steady-still : (m n : Tables) → Steady m n → (f : ℕ) → (m .file f FILE-KIND ≡ PLAIN → ⊥) → Still m n f
+steady-still m n y f u = by (y f)
+  where
+    by : ((m .file f FILE-KIND ≡ PLAIN) × (n .file f FILE-KIND ≡ FREE)) ⊎ Still m n f → Still m n f
+    by (inl e) = absurd (u (e .0))
+    by (inr e) = e
+
+steady-freed : (m : Tables) (y : ℕ) (row g : ℕ → ℕ) → m .file y FILE-KIND ≡ PLAIN → row FILE-KIND ≡ FREE → Steady m (remade y row g m)
 unfolding remade
-steady-freed m y row g e f = split f y (λ q t. rw t (inl e)) (λ q t. rw t (inr (refl, refl)))
+steady-freed m y row g k e f = split f y (λ q t. rw t (inl (rw q k, e))) (λ q t. rw t (inr (refl, refl)))
 
 pub record Emptied (s t : Store) (p i : ℕ) : Type 0 where
   pub sound : SoundStore t
@@ -168,25 +180,29 @@ close-leaves s h p i hp hi u (frees e d r hs l none) = from-leaves {m = freed (t
       (view s .openFiles e OPEN-SLOT) (words (checks.freed (view s .tree .file) (slot (view s .openFiles e OPEN-SLOT)))) hs refl;
   sound = close-frees (tablesOf s) (h .tables) (p .0) (i .0) e hp hi (λ z. omega (arith, u, z)) d hs r l none (up (tablesOf s .file (tablesOf s .openFiles e OPEN-SLOT) FILE-VERSION)) (up-most (tablesOf s .file (tablesOf s .openFiles e OPEN-SLOT) FILE-VERSION));
 }) (unfold freed remade in refl) (unfold freed remade in refl)
-    (unfold freed in steady-freed (handed (p .0) (i .0) 0 e (λ _. 0) (tablesOf s)) (tablesOf s .openFiles e OPEN-SLOT) (freeRow (up (tablesOf s .file (tablesOf s .openFiles e OPEN-SLOT) FILE-VERSION))) (λ _. 0) refl)
+    (unfold freed in steady-freed (handed (p .0) (i .0) 0 e (λ _. 0) (tablesOf s)) (tablesOf s .openFiles e OPEN-SLOT) (freeRow (up (tablesOf s .file (tablesOf s .openFiles e OPEN-SLOT) FILE-VERSION))) (λ _. 0)
+    (slot-plain (tablesOf s) (h .tables) (p .0) (i .0) e hp hi (λ z. omega (arith, u, z)) d hs) refl)
 
 -- ---- exit
 
 steady-both : (a b c : Tables) → Steady a b → Steady b c → Steady a c
 steady-both a b c x y f = by (x f) (y f)
   where
-    by : (b .file f FILE-KIND ≡ FREE) ⊎ ((b .file f ≡ a .file f) × (b .byte f ≡ a .byte f)) → (c .file f FILE-KIND ≡ FREE) ⊎ ((c .file f ≡ b .file f) × (c .byte f ≡ b .byte f)) →
-        (c .file f FILE-KIND ≡ FREE) ⊎ ((c .file f ≡ a .file f) × (c .byte f ≡ a .byte f))
-    by u (inl e) = inl e
-    by (inl d) (inr e) = inl (ap (λ (r : ℕ → ℕ). r FILE-KIND) (e .0) ∙ d)
+    by : ((a .file f FILE-KIND ≡ PLAIN) × (b .file f FILE-KIND ≡ FREE)) ⊎ Still a b f → ((b .file f FILE-KIND ≡ PLAIN) × (c .file f FILE-KIND ≡ FREE)) ⊎ Still b c f →
+        ((a .file f FILE-KIND ≡ PLAIN) × (c .file f FILE-KIND ≡ FREE)) ⊎ Still a c f
+    by (inl d) (inl e) = inl (d .0, e .1)
+    by (inr d) (inl e) = inl (ap (λ (r : ℕ → ℕ). r FILE-KIND) (sym (d .0)) ∙ e .0, e .1)
+    by (inl d) (inr e) = inl (d .0, ap (λ (r : ℕ → ℕ). r FILE-KIND) (e .0) ∙ d .1)
     by (inr d) (inr e) = inr (e .0 ∙ d .0, e .1 ∙ d .1)
 
--- the descriptors below i of process p are empty
+-- the descriptors below i of process p are empty; other processes have theirs
 pub record Closing (s : Store) (p i : ℕ) (t : Store) : Type 0 where
   pub sound : SoundStore t
   pub used : tablesOf t .proc p PROCESS-USED ≡ 1
   pub gone : (j : ℕ) → j < i → tablesOf t .desc p j ≡ 0
   pub steady : Steady (tablesOf s) (tablesOf t)
+  pub proc-same : tablesOf t .proc ≡ tablesOf s .proc
+  pub others : (q : ℕ) → (q ≡ p → ⊥) → tablesOf t .desc q ≡ tablesOf s .desc q
 
 closing-one : (s : Store) (p : Pid) (i : ℕ) (t : Store) → p .0 < PROCESSES → i < DESCRIPTORS → Closing s (p .0) i t → Closing s (p .0) (i + 1) (released p i t)
 unfolding released
@@ -197,6 +213,8 @@ closing-one s p i t hp hi c =
       used = rw (e .proc-same) (c .used);
       gone = λ j hj. rw (e .desc-to) (at j hj (ℕ-discrete j i));
       steady = steady-both (tablesOf s) (tablesOf t) (tablesOf (released p i t)) (c .steady) (e .steady);
+      proc-same = e .proc-same ∙ c .proc-same;
+      others = λ q n. ap (λ (d : ℕ → ℕ → ℕ). d q) (e .desc-to) ∙ upd-other (tablesOf t .desc) (p .0) (upd (tablesOf t .desc (p .0)) i 0) q n ∙ c .others q n;
     }
   where
     at : (j : ℕ) → j < i + 1 → Dec (j ≡ i) → updRow (tablesOf t .desc) (p .0) i 0 (p .0) j ≡ 0
@@ -211,20 +229,25 @@ closing-all s p (suc k) i t hp e c =
     subst (λ (u : Store). Closing s (p .0) DESCRIPTORS u) (repeat-step (released p) i DESCRIPTORS t refl (omega arith))
     (closing-all s p k (i + 1) (released p i t) hp (omega arith) (closing-one s p i t hp (omega arith) c))
 
-pub record Exits (s t : Store) : Type 0 where
+-- process p is free and holds nothing; the others are as they were
+pub record Exits (s : Store) (p : ℕ) (t : Store) : Type 0 where
   pub sound : SoundStore t
   pub steady : Steady (tablesOf s) (tablesOf t)
+  pub proc-to : tablesOf t .proc ≡ upd (tablesOf s .proc) p (λ _. 0)
+  pub desc-to : tablesOf t .desc ≡ upd (tablesOf s .desc) p (λ _. 0)
 
-pub exit-leaves : (s : Store) → SoundStore s → (p : Pid) → p .0 < PROCESSES → tablesOf s .proc (p .0) PROCESS-USED ≡ 1 → Exits s (applyAll (procZero (p .0) ∷ []) (releasedAll p s))
+pub exit-leaves : (s : Store) → SoundStore s → (p : Pid) → p .0 < PROCESSES → tablesOf s .proc (p .0) PROCESS-USED ≡ 1 → Exits s (p .0) (applyAll (procZero (p .0) ∷ []) (releasedAll p s))
 unfolding applyAll releasedAll
 exit-leaves s h p hp u = record {
   sound = kept _ _ z (subst (λ (d : ℕ → ℕ → ℕ). Sound (record { file = m .file; byte = m .byte; openFiles = m .openFiles; proc = upd (m .proc) (p .0) (λ _. 0); desc = d })) (sym empty)
       (retire-sound SLOTS m (c .sound .tables) (p .0) (c .gone)));
   steady = rw (z .is) (c .steady);
+  proc-to = ap (λ (n : Tables). n .proc) (z .is) ∙ ap (λ (f : ℕ → ℕ → ℕ). upd f (p .0) (λ _. 0)) (c .proc-same);
+  desc-to = ap (λ (n : Tables). n .desc) (z .is) ∙ fun-ext (λ q. split q (p .0) (λ _ t. rw t) (λ n t. rw t (c .others q n)));
 }
   where
     c : Closing s (p .0) DESCRIPTORS (repeat (released p) 0 DESCRIPTORS s)
-    c = closing-all s p DESCRIPTORS 0 s hp refl (record { sound = h; used = u; gone = λ j hj. absurd (not-suc-le-zero hj); steady = λ f. inr (refl, refl) })
+    c = closing-all s p DESCRIPTORS 0 s hp refl (record { sound = h; used = u; gone = λ j hj. absurd (not-suc-le-zero hj); steady = λ f. inr (refl, refl); proc-same = refl; others = λ q _. refl })
 
     m : Tables
     m = tablesOf (repeat (released p) 0 DESCRIPTORS s)

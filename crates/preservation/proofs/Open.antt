@@ -79,7 +79,7 @@ module _ (m : Tables) (h : Sound m) (p k e : ℕ) (hp : p < PROCESSES) (hk : k <
   but-its-file : SoundBut (m .openFiles e OPEN-SLOT) m
   but-its-file = loosen (m .openFiles e OPEN-SLOT) m h
 
-  slot-plain : m .openFiles e OPEN-SLOT < SLOTS → m .file (m .openFiles e OPEN-SLOT) FILE-KIND ≡ PLAIN
+  pub slot-plain : m .openFiles e OPEN-SLOT < SLOTS → m .file (m .openFiles e OPEN-SLOT) FILE-KIND ≡ PLAIN
   slot-plain = h .opens .open-files e (is-open .small) .plain (is-open .open-refs)
 
   false-and : (b : Bool) → ind (b && ltb 0 0) ≡ 0

@@ -88,7 +88,7 @@ module _ (K : Fixed) (s : Store) (h : SoundStore s) (c : Call) (f : ℕ) (l : f 
   not-created {n} {out} {e} (inr (inl q)) p = not-made passed.directory (subst (λ (k : ℕ). Passed K v c (operationOf k) n out e) q p)
   not-created {n} {out} {e} (inr (inr q)) p = not-linked (subst (λ (k : ℕ). Passed K v c (operationOf k) n out e) q p)
 
-refusal-some : (r : Refusal) → refusalNumber r ≡ GRANTED → ⊥
+pub refusal-some : (r : Refusal) → refusalNumber r ≡ GRANTED → ⊥
 unfolding refusalNumber
 refusal-some Unsound e = omega arith
 refusal-some NoProcess e = omega arith

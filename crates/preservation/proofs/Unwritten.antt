@@ -38,7 +38,7 @@ use Rattle.preservation.proofs.StoreChanges.{tablesOf}
 use Rattle.preservation.proofs.SoundStore.{SoundStore, AllSound, means-sound}
 use Rattle.preservation.proofs.OpenEffects.{Leaves, withOpen, open-leaves, truncate-leaves, move-leaves, duplicate-leaves, bits-leaves, execute-leaves, write-leaves}
 use Rattle.preservation.proofs.NameEffects.{link-leaves, create-leaves, symlink-leaves, unlink-leaves, unnaming-is, remove-leaves}
-use Rattle.preservation.proofs.CloseEffects.{Steady, close-leaves, releasing-is, exit-leaves}
+use Rattle.preservation.proofs.CloseEffects.{Still, Steady, close-leaves, releasing-is, exit-leaves}
 use Rattle.preservation.proofs.Granted.{AsksWrite, AsksTruncation, Granting, nothing, opens, truncates, creates, symlinks, unlinks, removes, links, changesBits, closes, stores, reads, seeks, duplicates, forks, exits, executes, used-small}
 use Rattle.preservation.proofs.Decided.{decide-fit}
 use Rattle.preservation.proofs.Preserved.{placed-well, read-fits, forking, effect-keeps, after-sound}
@@ -104,8 +104,8 @@ module _ (K : Fixed) (s : Store) (h : SoundStore s) (c : Call) (f : ℕ) where
   steadily : (t : Store) → Stays t → Steady (tablesOf s) (tablesOf t) → Left (tablesOf t) ⊎ Rewriting
   steadily t y z = by (z f)
     where
-      by : (tablesOf t .file f FILE-KIND ≡ FREE) ⊎ ((tablesOf t .file f ≡ tablesOf s .file f) × (tablesOf t .byte f ≡ tablesOf s .byte f)) → Left (tablesOf t) ⊎ Rewriting
-      by (inl q) = absurd (y .used q)
+      by : ((tablesOf s .file f FILE-KIND ≡ PLAIN) × (tablesOf t .file f FILE-KIND ≡ FREE)) ⊎ Still (tablesOf s) (tablesOf t) f → Left (tablesOf t) ⊎ Rewriting
+      by (inl q) = absurd (y .used (q .1))
       by (inr q) = inl (record { words = λ k _. ap (λ (r : ℕ → ℕ). r k) (q .0); bytes = q .1 })
 
   -- slot y is of another kind
