@@ -6,6 +6,7 @@ use crate::chance::Chance;
 use crate::defects::{self, Defect};
 use crate::difference::first_difference;
 use crate::generate::{random_store, CallMaker};
+use crate::ownership::compare::Ownership;
 use crate::programs::*;
 use crate::scripts::compare::Scripts;
 use crate::secrecy;
@@ -19,6 +20,8 @@ use mritvelja::{Answer, Tables};
 const MOST_DIFFERENCES: u64 = 10;
 /// One script is run for so many calls.
 const CALLS_A_SCRIPT: u64 = 200;
+/// One call in a situation of ownership is made for so many calls.
+const CALLS_AN_OWN_CALL: u64 = 10;
 
 pub struct Comparison {
     seed: u64,
@@ -26,6 +29,7 @@ pub struct Comparison {
     defects: Vec<Defect>,
     tally: Tally,
     scripts: Scripts,
+    ownership: Ownership,
     /// The tables of the proved store, of the second program, and before the call.
     store: Tables,
     reference: Tables,
@@ -40,6 +44,7 @@ impl Comparison {
             chance: Chance::new(seed),
             tally: Tally::new(defects.len()),
             scripts: Scripts::new(seed),
+            ownership: Ownership::new(seed),
             defects,
             store: Tables::empty(),
             reference: Tables::empty(),
@@ -47,8 +52,8 @@ impl Comparison {
         }
     }
 
-    /// Makes so many calls, one in ten more on pairs of stores, and those of
-    /// whole scripts. Answers whether there was no difference.
+    /// Makes so many calls, one in ten more on pairs of stores, those of whole scripts
+    /// and those in situations of ownership. Answers whether there was no difference.
     pub fn run(&mut self, calls: u64) -> bool {
         while self.tally.answers.all() < calls && self.differences() < MOST_DIFFERENCES {
             self.run_store(calls);
@@ -56,15 +61,18 @@ impl Comparison {
                 self.run_pair();
             }
             self.run_scripts();
+            self.run_ownership();
         }
+        self.ownership.finish();
         self.tally.print(&self.defects);
         self.scripts.tally.print();
+        self.ownership.tally.print();
         println!("differences: {}", self.differences());
         self.differences() == 0
     }
 
     fn differences(&self) -> u64 {
-        self.tally.differences + self.scripts.tally.differences
+        self.tally.differences + self.scripts.tally.differences + self.ownership.tally.differences
     }
 
     /// As many scripts as go with the calls made.
@@ -73,6 +81,15 @@ impl Comparison {
             && self.differences() < MOST_DIFFERENCES
         {
             self.scripts.compare_one();
+        }
+    }
+
+    /// As many calls in situations of ownership as go with the calls made.
+    fn run_ownership(&mut self) {
+        while CALLS_AN_OWN_CALL * self.ownership.tally.all_calls() < self.tally.answers.all()
+            && self.differences() < MOST_DIFFERENCES
+        {
+            self.ownership.compare_one();
         }
     }
 

@@ -13,6 +13,7 @@ pub mod difference;
 pub mod features;
 pub mod generate;
 pub mod held;
+pub mod ownership;
 pub mod programs;
 pub mod prompts;
 pub mod rom;

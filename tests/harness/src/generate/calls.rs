@@ -32,6 +32,8 @@ pub struct CallMaker {
     names: Names,
     /// A slot that calls are to meet more often than others.
     pub favourite: Option<usize>,
+    /// The user whose processes alone call, of which one must be in use then.
+    pub user: Option<u32>,
 }
 
 /// What a call is made for: who asks, and the store as it is.
@@ -48,6 +50,7 @@ impl CallMaker {
         CallMaker {
             names: Names::of(tables, true),
             favourite: None,
+            user: None,
         }
     }
 
@@ -56,6 +59,7 @@ impl CallMaker {
         CallMaker {
             names: Names::of(tables, false),
             favourite: None,
+            user: None,
         }
     }
 
@@ -100,7 +104,8 @@ impl CallMaker {
     /// A call of the given number.
     pub fn call_of(&self, chance: &mut Chance, tables: &Tables, call: u8) -> Call {
         let holder = self.holder(chance, tables, call);
-        let process = holder.map_or_else(|| caller(chance, tables, call), |(process, _)| process);
+        let any = |chance: &mut Chance| caller(chance, tables, call, self.user);
+        let process = holder.map_or_else(|| any(chance), |(process, _)| process);
         let mut scene = Scene {
             chance,
             tables,
@@ -133,6 +138,10 @@ impl CallMaker {
         let split = |number| (number / DESCRIPTORS, number % DESCRIPTORS);
         let holds = |number| {
             let (process, descriptor) = split(number);
+            let user = tables.process(process)[PROCESS_USER];
+            if self.user.is_some_and(|only| only != user) {
+                return false;
+            }
             let held = held::open_file(tables, process as u8, descriptor as u8);
             held.is_some_and(|open_file| {
                 let entry = tables.open_file(open_file);
@@ -155,9 +164,14 @@ fn kind_of_call(chance: &mut Chance) -> u8 {
 }
 
 /// Mostly a process in use. The last ones seldom exit, else nobody is left.
-fn caller(chance: &mut Chance, tables: &Tables, call: u8) -> usize {
+fn caller(chance: &mut Chance, tables: &Tables, call: u8, user: Option<u32>) -> usize {
     let used = |process: &usize| tables.process(*process)[PROCESS_USED] == 1;
     let in_use: Vec<usize> = (0..PROCESSES).filter(used).collect();
+    if let Some(user) = user {
+        let of_user = |&process: &usize| tables.process(process)[PROCESS_USER] == user;
+        let callers: Vec<usize> = in_use.into_iter().filter(of_user).collect();
+        return chance.pick(&callers);
+    }
     let spared = call == 16 && in_use.len() < 3 && !chance.one_in(20);
     if in_use.is_empty() || spared || chance.one_in(60) {
         return chance.pick(&[0, 1, 2, 3, 4, 5, 6, 7, 8, 9, 255]);
