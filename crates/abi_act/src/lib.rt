@@ -1,5 +1,6 @@
 // The call without a soundness test, for C. It is compiled apart from the rest of the store: where nothing else calls them, the compiler makes one piece of
-// the decision, the answer and the effect, and hands nothing over in memory.
+// the decision, the answer and the effect, and hands nothing over in memory. It is `store::call::act` written out: as one function that is called from here
+// the piece is larger than what the compiler takes in.
 ghost use mathlib.Core.Path.{_≡_};
 ghost use Rattle.rules.specs.Store.{fixed, store};
 ghost use Rattle.rules.specs.Step.{act};
@@ -29,21 +30,34 @@ pub extern "C" fn mritvelja_act(
 ) -> Answer
     ensures { λ r. ⌜ lent r (now (buffer .exit)) (store (now (files .exit)) (now (contents .exit)) (now («open_files» .exit)) (now (processes .exit))) ≡ lentOf (act (fixed (now (policy .entry)) (now (rom .entry))) (store (now (files .entry)) (now (contents .entry)) (now («open_files» .entry)) (now (processes .entry))) (numbered process call descriptor number (now (path .entry)) (now («data» .entry)) (now (buffer .entry)))) ⌝ }
 {
-    store::call::act(
+    let c = Request {
+        process: Pid(process),
+        call: call,
+        fd: Fd(descriptor),
+        number: number,
+    };
+    let d = decision::decide::decide_call(
         files,
         contents,
         open_files,
         processes,
         policy,
         rom,
-        Request {
-            process: Pid(process),
-            call: call,
-            fd: Fd(descriptor),
-            number: number,
-        },
+        c,
         path,
         data,
         buffer,
+    );
+    store::call::settle(
+        files,
+        contents,
+        open_files,
+        processes,
+        rom,
+        c,
+        path,
+        data,
+        buffer,
+        d,
     )
 }

@@ -21,7 +21,7 @@ use Rattle.rules.proofs.Lists.{length-padded, padded-at}
 use Rattle.rules.proofs.Scans.{more, first-more, first-same}
 use Rattle.tables.specs.NameWords.{lowWord, highWord}
 use Rattle.directories.specs.ByWords.{hasWords, storedBy, direntBy}
-use Rattle.directories.specs.Seen.{ROM-LOW, found, foundIn, rootSlot}
+use Rattle.directories.specs.Seen.{ROM-LOW, found, foundIn, rootSlot, storeDirents}
 use Rattle.directories.specs.declared.seen.Found.{Found}
 
 pub is-last : (b : Bool) → b ≡ true → entry DIRENTS ≡ entry (cond b DIRENTS ENTRIES)
@@ -65,6 +65,12 @@ module _ (D : List ℕ) (low high : ℕ) where
   pub found-is : (i : Dirent) (s : Slot) → i ≡ direntBy D low high → s ≡ slot (direntSlot D (i .0)) → record { dirent = i; slot = s } ≡ foundIn D low high
   found-is i s e q = rw (q, e)
 
+  pub none-own : (i : Dirent) (r : Bool) → i ≡ storedBy D low high → r ≡ isDirent i → r ≡ false → isDirent (storedBy D low high) ≡ false
+  none-own i r e q t = sym (ap (λ (x : Dirent). isDirent x) e) ∙ sym q ∙ t
+
+  pub own-last : (z : Dirent) (b : Bool) (s : Slot) → isDirent (storedBy D low high) ≡ false → b ≡ hasWords D low high DIRENTS → z ≡ entry (cond b DIRENTS ENTRIES) → s ≡ slot (direntSlot D (z .0)) → record { dirent = z; slot = s } ≡ foundIn D low high
+  own-last z b s t w p q = found-is z s (by-last (storedBy D low high) z (isDirent (storedBy D low high)) b refl refl t w p) q
+
 -- ---- the root: its own entries, then that of /rom
 
 module _ (D : List ℕ) where
@@ -95,10 +101,10 @@ module _ (D : List ℕ) where
   unfolding hasWords
   rom-words low high = rw at-last (unfold lowWord highWord dirent padded in refl)
 
-  pub root-there : (low high : ℕ) (i : Dirent) (r : Bool) → i ≡ storedBy D low high → r ≡ isDirent i → r ≡ true → i ≡ direntBy (withRom D) low high
+  root-there : (low high : ℕ) (i : Dirent) (r : Bool) → i ≡ storedBy D low high → r ≡ isDirent i → r ≡ true → i ≡ direntBy (withRom D) low high
   root-there low high = there (withRom D) D low high (own-words low high)
 
-  pub root-last : (low high : ℕ) (i z : Dirent) (r b : Bool) → i ≡ storedBy D low high → r ≡ isDirent i → r ≡ false → b ≡ every (eqb ROM-LOW low ∷ eqb 0 high ∷ []) → z ≡ entry (cond b DIRENTS ENTRIES) → z ≡ direntBy (withRom D) low high
+  root-last : (low high : ℕ) (i z : Dirent) (r b : Bool) → i ≡ storedBy D low high → r ≡ isDirent i → r ≡ false → b ≡ every (eqb ROM-LOW low ∷ eqb 0 high ∷ []) → z ≡ entry (cond b DIRENTS ENTRIES) → z ≡ direntBy (withRom D) low high
   root-last low high i z r b e q t w p = after-all (withRom D) D low high (own-words low high) i z r b e q t (w ∙ sym (rom-words low high)) p
 
   -- ---- what its entries name
@@ -121,8 +127,32 @@ module _ (D : List ℕ) where
       by false p true q = ap slot (rw (eqb-true (i .0) DIRENTS q) (unfold direntSlot in rw at-last (unfold dirent padded in refl)))
       by false p false q = ap slot (sym (nothing-past (i .0) (omega (arith, ltb-false (i .0) DIRENTS p, eqb-false (i .0) DIRENTS q))))
 
-  pub root-found : (low high : ℕ) (i : Dirent) (s : Slot) → i ≡ direntBy (withRom D) low high → s ≡ rootSlot D i → record { dirent = i; slot = s } ≡ foundIn (withRom D) low high
+  root-found : (low high : ℕ) (i : Dirent) (s : Slot) → i ≡ direntBy (withRom D) low high → s ≡ rootSlot D i → record { dirent = i; slot = s } ≡ foundIn (withRom D) low high
   root-found low high i s e q = rw (q, root-slot i, e)
+
+  pub root-past : (low high : ℕ) (z : Dirent) (b : Bool) (s : Slot) → isDirent (storedBy D low high) ≡ false → b ≡ every (eqb ROM-LOW low ∷ eqb 0 high ∷ []) → z ≡ entry (cond b DIRENTS ENTRIES) → s ≡ rootSlot D z → record { dirent = z; slot = s } ≡ foundIn (withRom D) low high
+  root-past low high z b s t w p q = root-found low high z s (root-last low high (storedBy D low high) z (isDirent (storedBy D low high)) b refl refl t w p) q
+
+  own-slot : (i : Dirent) → isDirent i ≡ true → rootSlot D i ≡ slot (direntSlot D (i .0))
+  unfolding rootSlot
+  own-slot i t = rw t
+
+-- ---- any directory of the store
+
+module _ (D : List ℕ) (low high d : ℕ) where
+  pub in-store : (i : Dirent) (r : Bool) (s : Slot) → i ≡ storedBy D low high → r ≡ isDirent i → r ≡ true → s ≡ slot (direntSlot D (i .0)) → record { dirent = i; slot = s } ≡ foundIn (storeDirents D d) low high
+  in-store i r s e q t p = by (eqb d 0)
+    where
+      by : (x : Bool) → record { dirent = i; slot = s } ≡ foundIn (cond x (withRom D) D) low high
+      by true = root-found D low high i s (root-there D low high i r e q t) (p ∙ sym (own-slot D i (sym q ∙ t)))
+      by false = found-is D low high i s (by-there D low high i r e q t) p
+
+  module _ (z : Found) where
+    pub last-root : eqb d 0 ≡ true → z ≡ foundIn (withRom D) low high → z ≡ foundIn (storeDirents D d) low high
+    last-root a e = rw a e
+
+    pub last-own : eqb d 0 ≡ false → z ≡ foundIn D low high → z ≡ foundIn (storeDirents D d) low high
+    last-own a e = rw a e
 
 -- ---- written out
 
@@ -176,15 +206,22 @@ module _ (R : List ℕ) (dirents : ℕ → List ℕ) (s : ℕ) where
   unfolding seenDirents
   seen-own a b = rw (a, b)
 
+  seen-store : eqb s ROM ≡ false → storeDirents (dirents s) s ≡ seenDirents R dirents s
+  seen-store b = by (eqb s 0) refl
+    where
+      by : (x : Bool) → eqb s 0 ≡ x → cond x (withRom (dirents s)) (dirents s) ≡ seenDirents R dirents s
+      by true a = ap (λ (n : ℕ). withRom (dirents n)) (eqb-true s 0 a) ∙ sym (seen-root a)
+      by false a = sym (seen-own a b)
+
+  rom-is-not-root : eqb s ROM ≡ true → eqb s 0 ≡ false
+  rom-is-not-root b = rw (eqb-true s ROM b) refl
+
   module _ (low high : ℕ) (z : Found) where
-    pub found-root : eqb s 0 ≡ true → z ≡ foundIn (withRom (dirents 0)) low high → z ≡ foundIn (seenDirents R dirents s) low high
-    found-root a e = rw (seen-root a) e
+    pub found-rom : eqb s ROM ≡ true → z ≡ foundIn (romDirents R) low high → z ≡ foundIn (seenDirents R dirents s) low high
+    found-rom b e = rw (seen-rom (rom-is-not-root b) b) e
 
-    pub found-rom : eqb s 0 ≡ false → eqb s ROM ≡ true → z ≡ foundIn (romDirents R) low high → z ≡ foundIn (seenDirents R dirents s) low high
-    found-rom a b e = rw (seen-rom a b) e
-
-    pub found-own : eqb s 0 ≡ false → eqb s ROM ≡ false → z ≡ foundIn (dirents s) low high → z ≡ foundIn (seenDirents R dirents s) low high
-    found-own a b e = rw (seen-own a b) e
+    pub found-store : (D : List ℕ) → D ≡ dirents s → eqb s ROM ≡ false → z ≡ foundIn (storeDirents D s) low high → z ≡ foundIn (seenDirents R dirents s) low high
+    found-store D p b e = e ∙ ap (λ (B : List ℕ). foundIn (storeDirents B s) low high) p ∙ ap (λ (B : List ℕ). foundIn B low high) (seen-store b)
 
   module _ (k : ℕ) (z : Dirent) where
     pub ranked-root : eqb s 0 ≡ true → z ≡ direntRanked (withRom (dirents 0)) k → z ≡ direntRanked (seenDirents R dirents s) k

@@ -96,7 +96,7 @@ fn high_is(dir: &[u8], high: u64, i: Dirent) -> bool
 }
 
 // Entry i has the name of these words.
-fn has_words(dir: &[u8], low: u64, high: u64, i: Dirent) -> bool
+pub(crate) fn has_words(dir: &[u8], low: u64, high: u64, i: Dirent) -> bool
     ensures { λ r. ⌜ r ≡ hasWords (now (dir .entry)) low high (i .0) ⌝ }
 {
     if !low_is(dir, low, i) {
@@ -138,11 +138,11 @@ pub(crate) fn seventeenth(has: bool) -> Dirent
     Dirent(ENTRIES)
 }
 
-// The entry that has the name of these words, 17 where none has.
+// The entry that has the name of these words, 17 where none has, in bytes that need be no whole directory.
 pub fn dirent_by(dir: &[u8], low: u64, high: u64) -> Dirent
     ensures { λ r. ⌜ r ≡ direntBy (now (dir .entry)) low high ⌝ }
 {
-    let i = stored_by(dir, low, high);
+    let i = dirent_in_part(dir, low, high);
     if is_dirent(i) {
         return i;
     }

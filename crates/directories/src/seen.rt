@@ -1,17 +1,19 @@
 // The entries that a directory is seen with: the root has one more, that of /rom, and /rom has those of the prompts there are.
 ghost use mathlib.Core.Path.{_≡_};
+ghost use mathlib.Core.Bool.{false};
 ghost use mathlib.Core.List.{[], _∷_};
 ghost use Prim.Native.Nat.{_*_};
 ghost use lib.Dec.{eqb};
 ghost use Rattle.rules.specs.Choice.{every};
 ghost use Rattle.rules.specs.Layout.{DIRENT-WIDTH, PROMPTS};
-ghost use Rattle.rules.specs.Store.{slot, shownOf};
+ghost use Rattle.rules.specs.Store.{slot, isDirent, shownOf};
 ghost use Rattle.rules.specs.Directories.{direntRanked};
 ghost use Rattle.rules.specs.Rom.{promptCount, promptDirents, romDirents, withRom, seenDirents};
-ghost use Rattle.directories.specs.ByWords.{direntBy};
-ghost use Rattle.directories.specs.Seen.{ROM-LOW, foundIn, found, rootSlot};
+ghost use Rattle.directories.specs.ByWords.{storedBy};
+ghost use Rattle.directories.specs.Seen.{ROM-LOW, foundIn, found, rootSlot, storeDirents};
 use crate::entries::dirent_by;
 use crate::entries::dirent_ranked;
+use crate::entries::has_words;
 use crate::entries::seventeenth;
 use crate::entries::stored_by;
 use rom::part::prompt_count;
@@ -79,16 +81,6 @@ fn is_rom(low: u64, high: u64) -> bool
     0 == high
 }
 
-fn dirent_in_root(dir: &[u8], low: u64, high: u64) -> Dirent
-    ensures { λ r. ⌜ r ≡ direntBy (withRom (now (dir .entry))) low high ⌝ }
-{
-    let i = stored_by(dir, low, high);
-    if is_dirent(i) {
-        return i;
-    }
-    seventeenth(is_rom(low, high))
-}
-
 // What an entry of the root names, in which there is no eighteenth.
 fn slot_in_root(dir: &[u8], i: Dirent) -> Slot
     ensures { λ r. ⌜ r ≡ rootSlot (now (dir .entry)) i ⌝ }
@@ -103,14 +95,53 @@ fn slot_in_root(dir: &[u8], i: Dirent) -> Slot
     Slot(0)
 }
 
-fn found_in_root(dir: &[u8], low: u64, high: u64) -> Found
+// The entry after the root's own, for a name that none of them has.
+fn last_in_root(dir: &[u8], low: u64, high: u64) -> Found
+    requires { ⌜ isDirent (storedBy (now dir) low high) ≡ false ⌝ }
     ensures { λ r. ⌜ r ≡ foundIn (withRom (now (dir .entry))) low high ⌝ }
 {
-    let i = dirent_in_root(dir, low, high);
+    let i = seventeenth(is_rom(low, high));
     Found {
         dirent: i,
         slot: slot_in_root(dir, i),
     }
+}
+
+// And that of another directory of the store.
+fn last_in_own(dir: &[u8], low: u64, high: u64) -> Found
+    requires { ⌜ isDirent (storedBy (now dir) low high) ≡ false ⌝ }
+    ensures { λ r. ⌜ r ≡ foundIn (now (dir .entry)) low high ⌝ }
+{
+    let i = seventeenth(has_words(dir, low, high, Dirent(DIRENTS)));
+    Found {
+        dirent: i,
+        slot: dirent_slot(dir, i),
+    }
+}
+
+fn last_in(dir: &[u8], d: Slot, low: u64, high: u64) -> Found
+    requires { ⌜ isDirent (storedBy (now dir) low high) ≡ false ⌝ }
+    ensures { λ r. ⌜ r ≡ foundIn (storeDirents (now (dir .entry)) (d .0)) low high ⌝ }
+{
+    let is_root = d.0 == 0;
+    if is_root {
+        return last_in_root(dir, low, high);
+    }
+    last_in_own(dir, low, high)
+}
+
+// In directory d of the store, whose bytes are `dir`. No other function of a call makes this search, so that the compiler can put it into the walk.
+fn found_in_store(dir: &[u8], d: Slot, low: u64, high: u64) -> Found
+    ensures { λ r. ⌜ r ≡ foundIn (storeDirents (now (dir .entry)) (d .0)) low high ⌝ }
+{
+    let i = stored_by(dir, low, high);
+    if is_dirent(i) {
+        return Found {
+            dirent: i,
+            slot: dirent_slot(dir, i),
+        };
+    }
+    last_in(dir, d, low, high)
 }
 
 fn found_in(dir: &[u8], low: u64, high: u64) -> Found
@@ -130,31 +161,15 @@ fn found_in_rom(rom: &[u8], low: u64, high: u64) -> Found
     found_in(upto(&all, rom_size(rom)), low, high)
 }
 
-fn found_in_own(files: &[u32], contents: &[u8], d: Slot, low: u64, high: u64) -> Found
-    ensures { λ r. ⌜ r ≡ foundIn (shownOf (now (files .entry)) (now (contents .entry)) (d .0)) low high ⌝ }
-{
-    found_in(shown(files, contents, d), low, high)
-}
-
-fn found_at_root(files: &[u32], contents: &[u8], low: u64, high: u64) -> Found
-    ensures { λ r. ⌜ r ≡ foundIn (withRom (shownOf (now (files .entry)) (now (contents .entry)) 0)) low high ⌝ }
-{
-    found_in_root(shown(files, contents, Slot(0)), low, high)
-}
-
 // The entry of directory d that has the name of these words.
 pub fn find_in(files: &[u32], contents: &[u8], rom: &[u8], d: Slot, low: u64, high: u64) -> Found
     ensures { λ r. ⌜ r ≡ foundIn (seenDirents (now (rom .entry)) (shownOf (now (files .entry)) (now (contents .entry))) (d .0)) low high ⌝ }
 {
-    let is_root = d.0 == 0;
-    if is_root {
-        return found_at_root(files, contents, low, high);
-    }
     let is_rom = d.0 == ROM;
     if is_rom {
         return found_in_rom(rom, low, high);
     }
-    found_in_own(files, contents, d, low, high)
+    found_in_store(shown(files, contents, d), d, low, high)
 }
 
 fn ranked_at_root(files: &[u32], contents: &[u8], k: u32) -> Dirent

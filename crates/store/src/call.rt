@@ -13,7 +13,7 @@ use rules::refusal::Refusal;
 use rules::request::Request;
 
 // What a decision is answered, and what it does.
-fn settle(
+pub fn settle(
     files: &mut [u32],
     contents: &mut [u8],
     open_files: &mut [u32],

@@ -1,4 +1,4 @@
-use Rattle.directories.proofs.Seventeenth.{found-root, found-rom, found-own}
+use Rattle.directories.proofs.Seventeenth.{found-rom, found-store}
 use Rattle.directories.proofs.seen.find_in.Statement.{statement}
 use Rattle.directories.proofs.seen.find_in.Tie as tie
 
@@ -7,8 +7,7 @@ find-in-spec =
     tie.close
     (tie.spec
     (λ c κs. tt)
-    (λ c. search (found-root, found-rom, found-own))
+    (λ c. search (found-rom, found-store))
     (λ c κs. tt)
-    (λ c. search (found-root, found-rom, found-own))
     (λ c κs. tt)
-    (λ c. search (found-root, found-rom, found-own)))
+    (λ c. search (found-rom, found-store)))
