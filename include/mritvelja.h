@@ -23,7 +23,7 @@
 #include <stdint.h>
 
 /* The version of this header and of the library that it is of. */
-#define MRITVELJA_VERSION "2.0.0"
+#define MRITVELJA_VERSION "2.1.0"
 
 #ifdef __cplusplus
 extern "C" {
@@ -134,7 +134,8 @@ enum {
   MRITVELJA_CALL_EXIT = 16,             /* nothing; 0 */
   MRITVELJA_CALL_EXECUTE = 17,          /* path; 0 */
   MRITVELJA_CALL_SYMLINK = 18,          /* path, data: target; the slot */
-  MRITVELJA_CALL_READLINK = 19          /* path, buffer; bytes read */
+  MRITVELJA_CALL_READLINK = 19,         /* path, buffer; bytes read */
+  MRITVELJA_CALL_RENAME = 20            /* path: old, data: new path; 0 */
 };
 
 /* Refusals. A refused call changes nothing that was lent. */
@@ -179,7 +180,7 @@ mritvelja_answer mritvelja_call(
     uint8_t descriptor,                            /* for calls 10 to 14 */
     uint16_t number,                               /* mode, bits, index or position */
     const uint8_t *path, size_t path_size,         /* not ended by 0 */
-    const uint8_t *data, size_t data_size,         /* a write's bytes, link's new path, symlink's target */
+    const uint8_t *data, size_t data_size,         /* a write's bytes, link's or rename's new path, symlink's target */
     uint8_t *buffer, size_t buffer_size);          /* where a read or a readlink puts its bytes */
 
 /* As mritvelja_call, without the test. On tables found sound and since then

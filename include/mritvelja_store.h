@@ -205,6 +205,12 @@ static inline mritvelja_answer mritvelja_readlink(mritvelja_store *store, uint8_
   return mritvelja_ask(store, process, MRITVELJA_CALL_READLINK, 0, 0, path, NULL, 0, buffer, size);
 }
 
+/* Gives a file, directory or link another name: within its directory at the same entry, or, but for a directory, in
+ * another one. A new name that is there is refused, also where both paths are equal. */
+static inline mritvelja_answer mritvelja_rename(mritvelja_store *store, uint8_t process, const char *path, const char *new_path) {
+  return mritvelja_ask(store, process, MRITVELJA_CALL_RENAME, 0, 0, path, new_path, strlen(new_path), NULL, 0);
+}
+
 /* A borrowing read: the bytes themselves, of which *borrowed says how many there are; NULL where it says a
  * refusal. Those of a prompt are good as long as rom is, those of another file until that is next written or
  * truncated, or goes. */

@@ -40,13 +40,15 @@ pub const EXECUTE: u8 = 17;
 pub const SYMLINK: u8 = 18;
 /// Path, buffer; bytes read.
 pub const READLINK: u8 = 19;
+/// Path: old, data: new path; 0.
+pub const RENAME: u8 = 20;
 
 /// A part of a call, by what the call takes it for.
 #[derive(Clone, Copy, Debug, PartialEq, Eq)]
 pub enum Part {
     /// A descriptor.
     Descriptor,
-    /// A path, of link the old one.
+    /// A path, of link and rename the old one.
     Path,
     /// The number, as one of [`modes`](crate::modes).
     Mode,
@@ -58,7 +60,7 @@ pub enum Part {
     Position,
     /// The bytes of a write.
     Data,
-    /// The data, as link's new path.
+    /// The data, as link's or rename's new path.
     NewPath,
     /// The data, as the path that a symbolic link leads to.
     Target,
@@ -98,7 +100,7 @@ pub fn parts(call: u16) -> Option<&'static [Part]> {
         OPEN => &[Path, Mode],
         CREATE | MAKE_DIRECTORY | CHANGE_BITS => &[Path, Bits],
         UNLINK | REMOVE_DIRECTORY | STAT | EXECUTE => &[Path],
-        LINK => &[Path, NewPath],
+        LINK | RENAME => &[Path, NewPath],
         LIST => &[Path, Index],
         CLOSE | DUPLICATE => &[Descriptor],
         READ => &[Descriptor, Buffer],

@@ -14,6 +14,6 @@ pub struct Request<'a> {
     pub number: u16,
     /// The path, not ended by 0.
     pub path: &'a [u8],
-    /// A write's bytes, link's new path or symlink's target.
+    /// A write's bytes, link's or rename's new path, or symlink's target.
     pub data: &'a [u8],
 }

@@ -56,7 +56,7 @@ fn in_package() -> Values {
             FREE PLAIN DIRECTORY LINK EXECUTE WRITE READ;
         "MODE_" modes: READ WRITE BOTH APPEND TRUNCATE;
         "CALL_" calls: OPEN CREATE MAKE_DIRECTORY UNLINK REMOVE_DIRECTORY LINK LIST CHANGE_BITS
-            STAT CLOSE READ WRITE SEEK DUPLICATE FORK EXIT EXECUTE SYMLINK READLINK;
+            STAT CLOSE READ WRITE SEEK DUPLICATE FORK EXIT EXECUTE SYMLINK READLINK RENAME;
         "" refusals: GRANTED UNSOUND NO_PROCESS MALFORMED NOT_HELD WRONG_DIRECTION NAME_MISSING
             NOT_A_DIRECTORY WRONG_KIND BITS_FORBID LABEL_FORBIDS NAME_THERE NOT_EMPTY TABLE_FULL
             TOO_LONG TOO_DEEP;
@@ -87,7 +87,7 @@ fn the_constants_are_those_of_the_header() {
     assert_eq!(in_package(), in_header());
 }
 
-/// What the header calls a part; link's path has more words, which do not name another part.
+/// What the header calls a part; the path of link and rename has more words, which do not name another part.
 fn phrase(part: &Part) -> &'static str {
     match part {
         Part::Descriptor => "descriptor",

@@ -163,3 +163,29 @@ fn a_link_is_followed_and_a_ring_is_not() {
     assert_eq!((answer.refusal, answer.stop), (refusals::TOO_DEEP, 1));
     assert_eq!(tables.open_file(0)[OPEN_SLOT], 2);
 }
+
+#[test]
+fn a_name_is_changed_in_its_entry_and_taken_to_another_directory() {
+    let mut tables = test_console();
+    let mut rename = |path, data| {
+        let request = Request {
+            call: calls::RENAME,
+            path,
+            data,
+            ..Request::default()
+        };
+        let answer = call(&mut tables, &request, &mut []);
+        (answer.refusal, answer.stop, answer.value)
+    };
+    assert_eq!(rename(b"/fares/now", b"/fares/then"), (0, 0, 0));
+    let there = (refusals::NAME_THERE, 0, 0);
+    assert_eq!(rename(b"/fares/then", b"/fares/then"), there);
+    let missing = (refusals::NAME_MISSING, 2, 0);
+    assert_eq!(rename(b"/key", b"/fares/no/key"), missing);
+    assert_eq!(rename(b"/key", b"/fares/key"), (0, 0, 0));
+    let names = [0, 1].map(|dirent| tables.dirent_name(1, dirent));
+    assert_eq!(names, [&b"then"[..], b"key"]);
+    assert_eq!([0, 1].map(|dirent| tables.dirent_slot(1, dirent)), [2, 3]);
+    let counted = |slot| [FILE_LENGTH, FILE_VERSION].map(|column| tables.file(slot)[column]);
+    assert_eq!([0, 1, 2, 3].map(counted), [[1, 1], [2, 2], [5, 0], [4, 0]]);
+}

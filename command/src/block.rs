@@ -181,12 +181,14 @@ mod tests {
     }
 
     #[test]
-    fn a_broken_block_of_a_link_breaks_at_a_line() {
+    fn a_broken_block_of_two_paths_or_a_link_breaks_at_a_line() {
         for (block, line, why) in [
             (block(18, "1", "0", "/a", "2f"), 2, "18 does not use fd="),
             (block(18, "0", "1", "/a", "2f"), 3, "18 does not use arg="),
             (block(19, "1", "9", "/a", ""), 2, "19 does not use fd="),
             (block(19, "0", "9", "/a", "2f"), 5, "19 does not use data="),
+            (block(20, "1", "0", "/a", "2f62"), 2, "20 does not use fd="),
+            (block(20, "0", "1", "/a", "2f62"), 3, "20 does not use arg="),
         ] {
             assert_breaks(&block, line, why);
         }
@@ -194,7 +196,7 @@ mod tests {
 
     #[test]
     fn each_call_uses_what_the_store_says() {
-        for call in 0..=20 {
+        for call in 0..=21 {
             for part in 0..4 {
                 let mut texts = ["0", "0", "", ""];
                 texts[part] = ["7", "1", "/", "2f"][part];
@@ -223,6 +225,8 @@ mod tests {
             (block(18, "0", "0", "/a", "2f1b"), "symlink /a /\\x1b"),
             (block(18, "0", "0", "/a", ""), "symlink /a "),
             (block(19, "0", "512", "/a", ""), "readlink /a 512"),
+            (block(20, "0", "0", "/a", "2f62"), "rename /a /b"),
+            (block(20, "0", "0", "/a", ""), "rename /a "),
         ] {
             assert_eq!(parse(block.as_bytes()).unwrap().words(), words);
         }

@@ -11,7 +11,7 @@ use std::os::unix::ffi::OsStrExt;
 
 use Part::*;
 
-const NAMES: [(&str, u8); 19] = [
+const NAMES: [(&str, u8); 20] = [
     ("open", calls::OPEN),
     ("create", calls::CREATE),
     ("make-directory", calls::MAKE_DIRECTORY),
@@ -31,6 +31,7 @@ const NAMES: [(&str, u8); 19] = [
     ("execute", calls::EXECUTE),
     ("symlink", calls::SYMLINK),
     ("readlink", calls::READLINK),
+    ("rename", calls::RENAME),
 ];
 
 /// A call's name; nothing if there is no such call.

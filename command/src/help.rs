@@ -76,16 +76,18 @@ answer in words. A call that is refused has status 1.
   list PATH INDEX            change-bits PATH BITS
   stat PATH                  execute PATH
   symlink PATH TARGET        readlink PATH [SIZE]
-  read DESCRIPTOR [SIZE]     write DESCRIPTOR DATA
-  seek DESCRIPTOR POSITION   duplicate DESCRIPTOR
-  close DESCRIPTOR           fork
-  exit
+  rename PATH NEW            read DESCRIPTOR [SIZE]
+  write DESCRIPTOR DATA      seek DESCRIPTOR POSITION
+  duplicate DESCRIPTOR       close DESCRIPTOR
+  fork                       exit
 
 MODE is read, write, both or append, with ,truncate after it to truncate. BITS
 are the rights of OWNER:GROUP:OTHERS, each none, or some of read, write and
-execute with commas between them, as read,write:read:none. TARGET is the path
-to which a symbolic link leads. DATA may be - for standard input. The bytes of a
-read go to standard output, and so does the target that readlink gives.
+execute with commas between them, as read,write:read:none. NEW is the path of a
+name that is not there yet: one more with link, another with rename. TARGET is
+the path to which a symbolic link leads. DATA may be - for standard input. The
+bytes of a read go to standard output, and so does the target that readlink
+gives.
 
   --hex           prints these bytes as hex digits
 ",

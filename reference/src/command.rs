@@ -80,6 +80,10 @@ pub enum Command<'a> {
     ReadSymlink {
         path: Path<'a>,
     },
+    Rename {
+        old: Target<'a>,
+        new: Target<'a>,
+    },
 }
 
 impl<'a> Command<'a> {
@@ -87,7 +91,7 @@ impl<'a> Command<'a> {
     /// not use are not looked at.
     pub fn parse(request: Request, path: &'a [u8], data: &'a [u8]) -> Option<Command<'a>> {
         match request.call {
-            2..=6 | 18 => Command::parse_on_name(request, path, data),
+            2..=6 | 18 | 20 => Command::parse_on_name(request, path, data),
             1 | 7..=9 | 17 | 19 => Command::parse_on_path(request, path),
             10..=14 => Command::parse_on_descriptor(request, data),
             15 => Some(Command::Fork),
@@ -115,6 +119,10 @@ impl<'a> Command<'a> {
             18 => Command::MakeSymlink {
                 target: Target::parse(path)?,
                 text: Path::parse(data).map(|_| data)?,
+            },
+            20 => Command::Rename {
+                old: Target::parse(path)?,
+                new: Target::parse(data)?,
             },
             _ => return None,
         })

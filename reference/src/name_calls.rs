@@ -1,5 +1,5 @@
 //! The calls that give and take names: create, make directory, make symbolic
-//! link, unlink, remove directory and link.
+//! link, unlink, remove directory, link and rename.
 
 use crate::access::Caller;
 use crate::answer::Answer;
@@ -74,9 +74,7 @@ impl Store<'_> {
     /// Call 4.
     pub fn unlink(&mut self, caller: Caller, target: &Target) -> Result<Answer, Refused> {
         let found = self.walk_to_name(caller, target)?;
-        if self.file(found.slot).kind == Kind::DIRECTORY {
-            return Err(Refusal::WrongKind.into());
-        }
+        self.check_no_directory(found.slot)?;
         let dirent = self.check_removal(caller, &found)?;
         self.remove_name(found.parent, dirent, found.slot);
         self.free_if_unreachable(found.slot);
@@ -111,6 +109,29 @@ impl Store<'_> {
         Ok(Answer::done())
     }
 
+    /// Call 20. A directory stays in its parent, so that it comes to lie
+    /// neither in itself nor deeper than it may.
+    pub fn rename(
+        &mut self,
+        caller: Caller,
+        old: &Target,
+        new: &Target,
+    ) -> Result<Answer, Refused> {
+        let found = self.walk_to_name(caller, old)?;
+        let parent = self.walk_to_new_name(caller, new)?.slot;
+        let dirent = self.check_removal(caller, &found)?;
+        self.check_rights(caller, parent, Rights::WRITE)?;
+        if parent == found.parent {
+            self.change_name(parent, dirent, new.name);
+        } else {
+            self.check_no_directory(found.slot)?;
+            let free = self.check_dirent(parent)?;
+            self.add_name(parent, free, new.name, found.slot);
+            self.remove_name(found.parent, dirent, found.slot);
+        }
+        Ok(Answer::done())
+    }
+
     /// The parent of a path's last name, which must not be there yet.
     fn walk_to_new_name(&self, caller: Caller, target: &Target) -> Result<Reached, Refused> {
         let parent = self.walk_to_parent(caller, target)?;
@@ -126,6 +147,14 @@ impl Store<'_> {
         let dirent = found.dirent.ok_or(Refusal::BitsForbid)?;
         self.check_rights(caller, found.parent, Rights::WRITE)?;
         Ok(dirent)
+    }
+
+    /// Refuses a directory to the calls that take any other kind of file.
+    fn check_no_directory(&self, slot: Slot) -> Result<(), Refusal> {
+        if self.file(slot).kind == Kind::DIRECTORY {
+            return Err(Refusal::WrongKind);
+        }
+        Ok(())
     }
 
     fn check_dirent(&self, parent: Slot) -> Result<usize, Refusal> {

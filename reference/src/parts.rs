@@ -2,7 +2,7 @@
 
 pub const READ: u16 = 11;
 pub const READ_SYMLINK: u16 = 19;
-const LAST_CALL: u16 = READ_SYMLINK;
+const LAST_CALL: u16 = 20;
 
 /// The parts that a call uses; all use the process and the call's own number.
 pub struct Parts {
@@ -19,8 +19,8 @@ impl Parts {
         Parts {
             descriptor: unknown || matches!(call, 10..=14),
             number: unknown || matches!(call, 1..=3 | 7 | 8 | READ | 13 | READ_SYMLINK),
-            path: unknown || matches!(call, 1..=9 | 17..=19),
-            data: unknown || matches!(call, 6 | 12 | 18),
+            path: unknown || matches!(call, 1..=9 | 17..=20),
+            data: unknown || matches!(call, 6 | 12 | 18 | 20),
         }
     }
 }

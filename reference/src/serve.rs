@@ -63,6 +63,7 @@ impl Store<'_> {
             Execute { path } => self.execute(caller, &path),
             MakeSymlink { target, text } => self.make_symlink(caller, &target, text),
             ReadSymlink { path } => self.read_symlink(caller, &path, buffer),
+            Rename { old, new } => self.rename(caller, &old, &new),
         }
     }
 }

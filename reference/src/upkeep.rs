@@ -44,6 +44,15 @@ impl Store<'_> {
         self.change_file(slot, |file| file.links -= 1);
     }
 
+    /// Puts another name into an entry of a directory. A name gained and one
+    /// lost in one call are one change.
+    pub fn change_name(&mut self, parent: Slot, dirent: usize, name: &[u8]) {
+        let block = self.block_mut(parent);
+        let renamed = directory::dirent(name, directory::slot_at(block, dirent));
+        directory::put(block, dirent, renamed);
+        self.change_file(parent, File::raise_version);
+    }
+
     pub fn add_reference(&mut self, number: OpenFileNumber) {
         let mut open_file = self.open_file(number);
         open_file.references += 1;

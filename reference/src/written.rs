@@ -8,6 +8,7 @@ use crate::path::PATH;
 
 const LINK: u8 = 6;
 const MAKE_SYMLINK: u8 = 18;
+const RENAME: u8 = 20;
 
 /// A call read from its written form. The number of a read is the size of the
 /// buffer to read into.
@@ -44,7 +45,7 @@ impl Written<'_> {
 /// A second path and a link's text are as long as paths at most.
 fn longest_data(call: u8) -> usize {
     match call {
-        LINK | MAKE_SYMLINK => PATH,
+        LINK | MAKE_SYMLINK | RENAME => PATH,
         _ => BLOCK,
     }
 }

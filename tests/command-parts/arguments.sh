@@ -22,7 +22,7 @@ for help in -h --help; do
     done < <(sed -n '/^$/,/^$/s/^  \([a-z][a-z]*\) .*/\1/p' out)
 done
 for version in -V --version; do
-    gives "$version" 0 'mritvelja 2.0.0' "$mritvelja" "$version"
+    gives "$version" 0 'mritvelja 2.1.0' "$mritvelja" "$version"
 done
 gives "options after --" 1 'show: cannot be opened' "$mritvelja" show -- show
 gives "a store that begins with a dash" 1 '-h: cannot be opened' "$mritvelja" show -- -h

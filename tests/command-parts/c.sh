@@ -45,6 +45,10 @@ int main(int count, char **words) {
   say(mritvelja_symlink(&s, 0, "/again", "/again"));
   say(mritvelja_open(&s, 2, "/again", MRITVELJA_MODE_READ));
   say(mritvelja_symlink(&s, 0, "/bad", "no path"));
+  say(mritvelja_rename(&s, 1, "/fares/later", "/fares/soon"));
+  say(mritvelja_rename(&s, 0, "/again", "/fares/again"));
+  say(mritvelja_rename(&s, 0, "/fares", "/fares/fares"));
+  say(mritvelja_rename(&s, 2, "/fares/soon", "/fares/no/x"));
   say(mritvelja_open(&s, 2, "/fares/none", MRITVELJA_MODE_READ));
   say(mritvelja_read(&s, 2, 7, buffer, 0));
   if (!mritvelja_save(&s, words[2])) {
@@ -178,10 +182,12 @@ done <<'CALLS'
 0 symlink /today /fares/later
 2 open /today read
 0 symlink /again /again
+1 rename /fares/later /fares/soon
+0 rename /again /fares/again
 CALLS
 "$mritvelja" describe c-expected | sed 's/12345/2.60\\x0a/' >c-expected.description
 printf '%s\n' '0 0 0' '0 0 5' 2.40 '0 0 2' '0 0 1' '0 0 3' '0 0 0' '0 0 0' '0 0 4' '0 0 0' '0 0 5' '0 0 0' '0 0 0' '0 0 5' '0 0 0' '0 0 1' '0 0 0' '0 0 0' \
-    '0 0 0' '0 0 5' '0 0 12' /fares/later '0 0 0' '0 0 2' '0 0 6' '15 1 0' '3 0 0' '6 2 0' '4 0 0' >c-answers
+    '0 0 0' '0 0 5' '0 0 12' /fares/later '0 0 0' '0 0 2' '0 0 6' '15 1 0' '3 0 0' '0 0 0' '0 0 0' '8 0 0' '6 2 0' '6 2 0' '4 0 0' >c-answers
 for program in "${programs[@]}"; do
     cp console c-store
     chmod 640 c-store

@@ -61,7 +61,7 @@ gives "the store after the calls" 0 'sound' "$mritvelja" check bus
 
 for arguments in 'call' 'call bus' 'call bus 2' 'call bus x fork' 'call bus 256 fork' 'call bus 2 jump' 'call bus 2 fork more' 'call bus 2 open /x' \
     'call bus 2 open /x 1' 'call bus 2 create /x 4' 'call bus 2 create /x read' 'call bus 2 create /x read:read:read:read' 'call bus 2 change-bits /x ::' 'call bus 2 read x' 'call bus 2 read 0 65536' 'call bus 2 symlink' 'call bus 2 symlink /x' 'call bus 2 symlink /x /y /z' 'call bus 2 readlink' 'call bus 2 readlink /x 65536' \
-    'call bus 2 readlink /x 1 2' 'call bus 2 seek 0 -1' 'call - 2 fork'; do
+    'call bus 2 readlink /x 1 2' 'call bus 2 rename' 'call bus 2 rename /x' 'call bus 2 rename /x /y /z' 'call bus 2 seek 0 -1' 'call - 2 fork'; do
     # shellcheck disable=SC2086 # the words are arguments
     gives "arguments '$arguments'" 2 'usage: mritvelja' "$mritvelja" $arguments
 done

@@ -2,9 +2,9 @@
 # Installed under a prefix: the command, the library by pkg-config, the man page, the completion.
 
 gives "install without a prefix" 2 'usage: tools/install PREFIX' "$root/tools/install"
-gives "install" 0 'install: mritvelja 2.0.0 is installed under' "$root/tools/install" "$directory/the prefix"
+gives "install" 0 'install: mritvelja 2.1.0 is installed under' "$root/tools/install" "$directory/the prefix"
 prefix="$directory/the prefix"
-gives "the command that is installed" 0 'mritvelja 2.0.0' "$prefix/bin/mritvelja" --version
+gives "the command that is installed" 0 'mritvelja 2.1.0' "$prefix/bin/mritvelja" --version
 sed -n '/^```c$/,/^```$/p' "$root/README.md" | grep -v '^```' >readme.c
 holds "the headers and the archive that are installed" gcc -I"$prefix/include" -o readme-static readme.c "$prefix/lib/libmritvelja.a"
 gives "a program with the archive" 0 '4 bytes written' ./readme-static
@@ -13,7 +13,7 @@ if command -v pkg-config >/dev/null; then
     flags=$(PKG_CONFIG_PATH="$prefix/lib/pkgconfig" pkg-config --cflags --libs mritvelja)
     eval "gcc -o readme-shared readme.c $flags" || true
     gives "a program by pkg-config" 0 '4 bytes written' env LD_LIBRARY_PATH="$prefix/lib" ./readme-shared
-    holds "pkg-config knows the version" test "$(PKG_CONFIG_PATH="$prefix/lib/pkgconfig" pkg-config --modversion mritvelja)" = 2.0.0
+    holds "pkg-config knows the version" test "$(PKG_CONFIG_PATH="$prefix/lib/pkgconfig" pkg-config --modversion mritvelja)" = 2.1.0
 else
     gcc -I"$prefix/include" -o readme-shared readme.c -L"$prefix/lib" -lmritvelja
     gives "a program with the shared library" 0 '4 bytes written' env LD_LIBRARY_PATH="$prefix/lib" ./readme-shared
@@ -44,7 +44,7 @@ completes 'call cat check convert' mritvelja c
 completes '--calls' mritvelja replay bus --c
 completes '--explain' mritvelja replay bus --ex
 completes 'make-directory' mritvelja call bus 2 mak
-completes 'remove-directory readlink read' mritvelja call bus 2 re
+completes 'remove-directory readlink rename read' mritvelja call bus 2 re
 completes 'symlink' mritvelja call bus 2 sy
 completes '--empty' mritvelja new --em
 completes '--rom' mritvelja check bus --r

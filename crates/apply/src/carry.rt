@@ -26,6 +26,8 @@ use file_effects::names::create_file;
 use file_effects::names::link_file;
 use file_effects::names::make_symlink;
 use file_effects::names::remove_directory;
+use file_effects::names::rename_entry;
+use file_effects::names::transfer_entry;
 use file_effects::names::unlink_file;
 use rules::decision::Effect;
 use rules::ids::Fd;
@@ -167,5 +169,7 @@ pub fn carry_out(
         Effect::Exited => exit(files, contents, open_files, processes, p),
         Effect::Relabelled(l) => relabel_process(processes, p, l),
         Effect::Symlinked(d, s, r) => make_symlink(files, contents, path, data, d, s, r),
+        Effect::Renamed(d, s) => rename_entry(files, contents, data, d, s),
+        Effect::Transferred(d, to, s) => transfer_entry(files, contents, data, d, to, s),
     }
 }

@@ -27,14 +27,14 @@ use Rattle.console.proofs.SettingLaws.{shown, front}
 
 -- ---- the call's number
 
-module _ (name : List ℕ) {k : ℕ} (p : k ≡ indexOf CALLS 19 name) where
-  pub named : k < 19 → k + 1 ≡ callNumber name
+module _ (name : List ℕ) {k : ℕ} (p : k ≡ indexOf CALLS 20 name) where
+  pub named : k < 20 → k + 1 ≡ callNumber name
   unfolding callNumber
-  named h = rw (lt-ltb (indexOf CALLS 19 name) 19 (rw (← p) h), p)
+  named h = rw (lt-ltb (indexOf CALLS 20 name) 20 (rw (← p) h), p)
 
-  pub numbered : 19 ≤ k → {n : ℕ} → n ≡ numberIn name → n ≡ callNumber name
+  pub numbered : 20 ≤ k → {n : ℕ} → n ≡ numberIn name → n ≡ callNumber name
   unfolding callNumber
-  numbered h e = rw (le-ltb (indexOf CALLS 19 name) 19 (rw (← p) h)) e
+  numbered h e = rw (le-ltb (indexOf CALLS 20 name) 20 (rw (← p) h)) e
 
 -- ---- where a part is
 

@@ -19,17 +19,17 @@ use Rattle.console.specs.declared.calls.Parsed.{Parsed}
 
 -- ---- the call
 
--- "open create mkdir unlink rmdir link list chmod stat close read write seek dup fork exit exec symlink readlink": calls 1 to 19
+-- "open create mkdir unlink rmdir link list chmod stat close read write seek dup fork exit exec symlink readlink rename": calls 1 to 20
 abbrev pub CALLS : List ℕ
 CALLS =
     111 ∷ 112 ∷ 101 ∷ 110 ∷ 32 ∷ 99 ∷ 114 ∷ 101 ∷ 97 ∷ 116 ∷ 101 ∷ 32 ∷ 109 ∷ 107 ∷ 100 ∷ 105 ∷ 114 ∷ 32 ∷ 117 ∷ 110 ∷ 108 ∷ 105 ∷ 110 ∷ 107 ∷ 32 ∷ 114 ∷ 109 ∷ 100 ∷ 105 ∷ 114 ∷ 32 ∷ 108 ∷ 105 ∷ 110 ∷ 107
     ∷ 32 ∷ 108 ∷ 105 ∷ 115 ∷ 116 ∷ 32 ∷ 99 ∷ 104 ∷ 109 ∷ 111 ∷ 100 ∷ 32 ∷ 115 ∷ 116 ∷ 97 ∷ 116 ∷ 32 ∷ 99 ∷ 108 ∷ 111 ∷ 115 ∷ 101 ∷ 32 ∷ 114 ∷ 101 ∷ 97 ∷ 100 ∷ 32 ∷ 119 ∷ 114 ∷ 105 ∷ 116 ∷ 101 ∷ 32 ∷ 115
     ∷ 101 ∷ 101 ∷ 107 ∷ 32 ∷ 100 ∷ 117 ∷ 112 ∷ 32 ∷ 102 ∷ 111 ∷ 114 ∷ 107 ∷ 32 ∷ 101 ∷ 120 ∷ 105 ∷ 116 ∷ 32 ∷ 101 ∷ 120 ∷ 101 ∷ 99
-    ∷ 32 ∷ 115 ∷ 121 ∷ 109 ∷ 108 ∷ 105 ∷ 110 ∷ 107 ∷ 32 ∷ 114 ∷ 101 ∷ 97 ∷ 100 ∷ 108 ∷ 105 ∷ 110 ∷ 107 ∷ []
+    ∷ 32 ∷ 115 ∷ 121 ∷ 109 ∷ 108 ∷ 105 ∷ 110 ∷ 107 ∷ 32 ∷ 114 ∷ 101 ∷ 97 ∷ 100 ∷ 108 ∷ 105 ∷ 110 ∷ 107 ∷ 32 ∷ 114 ∷ 101 ∷ 110 ∷ 97 ∷ 109 ∷ 101 ∷ []
 
 -- its number, by its name or as it stands
 unfoldable pub callNumber : List ℕ → ℕ
-callNumber name = cond (ltb (indexOf CALLS 19 name) 19) (indexOf CALLS 19 name + 1) (numberIn name)
+callNumber name = cond (ltb (indexOf CALLS 20 name) 20) (indexOf CALLS 20 name + 1) (numberIn name)
 
 -- ---- its parts: a descriptor, a number, a path, bytes or a second path; then the line's end
 
@@ -48,14 +48,14 @@ DATA = 100
 abbrev pub END : ℕ
 END = 46
 
--- ". np. np. np. p. p. pd. np. np. p. f. fn. fd. fn. f. . . p. pd. np.": the parts of calls 1 to 19 in their order, after those of any other call
+-- ". np. np. np. p. p. pd. np. np. p. f. fn. fd. fn. f. . . p. pd. np. pd.": the parts of calls 1 to 20 in their order, after those of any other call
 abbrev pub PARTS : List ℕ
 PARTS =
     46 ∷ 32 ∷ 110 ∷ 112 ∷ 46 ∷ 32 ∷ 110 ∷ 112 ∷ 46 ∷ 32 ∷ 110 ∷ 112 ∷ 46 ∷ 32 ∷ 112 ∷ 46 ∷ 32 ∷ 112 ∷ 46 ∷ 32 ∷ 112 ∷ 100 ∷ 46 ∷ 32 ∷ 110 ∷ 112 ∷ 46 ∷ 32 ∷ 110 ∷ 112 ∷ 46 ∷ 32 ∷ 112 ∷ 46 ∷ 32 ∷ 102 ∷ 46
-    ∷ 32 ∷ 102 ∷ 110 ∷ 46 ∷ 32 ∷ 102 ∷ 100 ∷ 46 ∷ 32 ∷ 102 ∷ 110 ∷ 46 ∷ 32 ∷ 102 ∷ 46 ∷ 32 ∷ 46 ∷ 32 ∷ 46 ∷ 32 ∷ 112 ∷ 46 ∷ 32 ∷ 112 ∷ 100 ∷ 46 ∷ 32 ∷ 110 ∷ 112 ∷ 46 ∷ []
+    ∷ 32 ∷ 102 ∷ 110 ∷ 46 ∷ 32 ∷ 102 ∷ 100 ∷ 46 ∷ 32 ∷ 102 ∷ 110 ∷ 46 ∷ 32 ∷ 102 ∷ 46 ∷ 32 ∷ 46 ∷ 32 ∷ 46 ∷ 32 ∷ 112 ∷ 46 ∷ 32 ∷ 112 ∷ 100 ∷ 46 ∷ 32 ∷ 110 ∷ 112 ∷ 46 ∷ 32 ∷ 112 ∷ 100 ∷ 46 ∷ []
 
 unfoldable pub rowOf : (call : ℕ) → ℕ
-rowOf call = cond (ltb call 20) call 0
+rowOf call = cond (ltb call 21) call 0
 
 abbrev pub partsOf : (call : ℕ) → List ℕ
 partsOf call = wordOf PARTS (rowOf call)

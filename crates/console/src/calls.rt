@@ -37,11 +37,11 @@ fn call_number(name: &[u8]) -> u64
     ensures { λ r. ⌜ r ≡ callNumber (now (name .entry)) ⌝ }
 {
     let k = index_of(
-        b"open create mkdir unlink rmdir link list chmod stat close read write seek dup fork exit exec symlink readlink",
-        19,
+        b"open create mkdir unlink rmdir link list chmod stat close read write seek dup fork exit exec symlink readlink rename",
+        20,
         name,
     );
-    if k < 19 {
+    if k < 20 {
         return k as u64 + 1;
     }
     number(name)
@@ -51,7 +51,7 @@ fn call_number(name: &[u8]) -> u64
 fn row_of(call: u64) -> usize
     ensures { λ r. ⌜ r ≡ rowOf call ⌝ }
 {
-    let known = call < 20;
+    let known = call < 21;
     if known {
         return call as usize;
     }
@@ -64,7 +64,7 @@ fn place(call: u64, part: u8) -> usize
     ensures { λ r. ⌜ r ≡ placeOf call part ⌝ }
 {
     let parts = word(
-        b". np. np. np. p. p. pd. np. np. p. f. fn. fd. fn. f. . . p. pd. np.",
+        b". np. np. np. p. p. pd. np. np. p. f. fn. fd. fn. f. . . p. pd. np. pd.",
         row_of(call),
     );
     let k = find(parts, 0, part);

@@ -15,6 +15,7 @@ use crate::formed::formed_make_directory;
 use crate::formed::formed_open;
 use crate::formed::formed_read_link;
 use crate::formed::formed_remove;
+use crate::formed::formed_rename;
 use crate::formed::formed_seek;
 use crate::formed::formed_stat;
 use crate::formed::formed_symlink;
@@ -120,6 +121,7 @@ fn decide_own(
             buffer.len(),
             path,
         ),
+        Operation::Rename => formed_rename(files, contents, policy, rom, who, path, data),
         Operation::Unknown => Decision::Refused(Refusal::Malformed, 0),
     }
 }

@@ -60,6 +60,16 @@ pub fn symlink_ok(path: &[u8], text: &[u8]) -> bool
     path_ok(text)
 }
 
+// The two paths of a rename.
+pub fn rename_ok(old: &[u8], new: &[u8]) -> bool
+    ensures { λ r. ⌜ r ≡ every (pathBelowRoot (now (old .entry)) ∷ pathBelowRoot (now (new .entry)) ∷ []) ⌝ }
+{
+    if !path_below_root(old) {
+        return false;
+    }
+    path_below_root(new)
+}
+
 pub fn offset_ok(n: u32) -> bool
     ensures { λ r. ⌜ r ≡ leb n BLOCK ⌝ }
 {

@@ -12,7 +12,7 @@ ghost use Rattle.rules.specs.Rights.{bitsKnown, bitsOf, modeOf, modeKnown};
 ghost use Rattle.rules.specs.Paths.{pathOk};
 ghost use Rattle.rules.specs.Calls.{pathBelowRoot, newFileOk};
 ghost use Rattle.rules.specs.Checks.{need};
-ghost use Rattle.rules.specs.DecidePaths.{decideOpen, decideCreate, decideUnlink, decideRemove, decideLink, decideList, decideChangeBits, decideStat, decideExecute, decideSymlink, decideReadLink};
+ghost use Rattle.rules.specs.DecidePaths.{decideOpen, decideCreate, decideUnlink, decideRemove, decideLink, decideList, decideChangeBits, decideStat, decideExecute, decideSymlink, decideReadLink, decideRename};
 ghost use Rattle.rules.specs.Decide.{decideSeek};
 ghost use Rattle.rules.specs.declared.refusal.Refusal.the-variants.{Malformed};
 use crate::form::bits_and_path_ok;
@@ -20,6 +20,7 @@ use crate::form::both_paths_ok;
 use crate::form::new_file_ok;
 use crate::form::offset_ok;
 use crate::form::open_ok;
+use crate::form::rename_ok;
 use crate::form::symlink_ok;
 use create_calls::create::decide_create;
 use create_calls::link::decide_link;
@@ -32,6 +33,7 @@ use file_calls::stat::decide_stat;
 use open_call::open::decide_open;
 use remove_calls::remove::decide_remove;
 use remove_calls::unlink::decide_unlink;
+use rename_call::rename::decide_rename;
 use resolution::paths::path_below_root;
 use resolution::paths::path_ok;
 use rules::decision::Decision;
@@ -279,4 +281,21 @@ pub fn formed_read_link(
         return Decision::Refused(Refusal::Malformed, 0);
     }
     decide_read_link(files, contents, policy, rom, who, size, path)
+}
+
+pub fn formed_rename(
+    files: &[u32],
+    contents: &[u8],
+    policy: &[u8],
+    rom: &[u8],
+    who: Subject,
+    path: &[u8],
+    data: &[u8],
+) -> Decision
+    ensures { λ r. ⌜ r ≡ need (every (pathBelowRoot (now (path .entry)) ∷ pathBelowRoot (now («data» .entry)) ∷ [])) Malformed (decideRename (now (policy .entry)) (treeIn (now (rom .entry)) (now (files .entry)) (now (contents .entry))) who (now (path .entry)) (now («data» .entry))) ⌝ }
+{
+    if !rename_ok(path, data) {
+        return Decision::Refused(Refusal::Malformed, 0);
+    }
+    decide_rename(files, contents, policy, rom, who, path, data)
 }

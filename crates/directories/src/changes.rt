@@ -1,9 +1,9 @@
-// What a directory becomes that gains or loses a name, whether it has the name, and its free entries.
+// What a directory becomes that gains or loses a name, or that has one renamed; whether it has the name, and its free entries.
 ghost use mathlib.Core.Path.{_≡_};
 ghost use Rattle.rules.specs.Store.{shownOf};
 ghost use Rattle.rules.specs.Rom.{filesIn};
 ghost use Rattle.rules.specs.Directories.{freeDirent};
-ghost use Rattle.rules.specs.Checks.{isAbsent, gains, loses};
+ghost use Rattle.rules.specs.Checks.{isAbsent, gains, loses, renames};
 use crate::entries::free_dirent;
 use rules::decision::DirChange;
 use rules::decision::Location;
@@ -48,6 +48,18 @@ pub fn losing(files: &[u32], d: Slot, i: Dirent) -> DirChange
         dir: d,
         dirent: i,
         length: down_one(rom::seen::length(files, d)),
+        version: up_one(rom::seen::version(files, d)),
+    }
+}
+
+// A directory of which the name in entry i changes.
+pub fn renaming(files: &[u32], d: Slot, i: Dirent) -> DirChange
+    ensures { λ r. ⌜ r ≡ renames (filesIn (now (files .entry))) d i ⌝ }
+{
+    DirChange {
+        dir: d,
+        dirent: i,
+        length: rom::seen::length(files, d),
         version: up_one(rom::seen::version(files, d)),
     }
 }

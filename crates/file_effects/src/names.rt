@@ -4,7 +4,7 @@ ghost use mathlib.Core.List.{List, [], _∷_};
 ghost use Prim.Native.Nat.{ℕ};
 ghost use Rattle.rules.specs.Store.{store, fileTo, bytesTo, applyAll, words};
 ghost use Rattle.rules.specs.Paths.{names, lastName};
-ghost use Rattle.rules.specs.Effects.{nameChanges, unnameChanges, createChanges, symlinkChanges, linkChanges, unnamedChanges, unlinkChanges, removeChanges};
+ghost use Rattle.rules.specs.Effects.{nameChanges, unnameChanges, createChanges, symlinkChanges, linkChanges, unnamedChanges, unlinkChanges, removeChanges, transferChanges};
 use resolution::paths::last_name;
 use rows::rows::clear_slot;
 use rows::rows::put_directory;
@@ -126,4 +126,26 @@ pub fn remove_directory(files: &mut [u32], contents: &mut [u8], d: DirChange, s:
 {
     remove_name(files, contents, d);
     clear_slot(files, contents, s, r);
+}
+
+// Another name in the same entry, the last of the path.
+pub fn rename_entry(files: &mut [u32], contents: &mut [u8], path: &[u8], d: DirChange, s: Slot)
+    ensures { λ _. ⌜ ((E P : List ℕ) → store (now (files .exit)) (now (contents .exit)) E P ≡ applyAll (nameChanges (lastName (names (now (path .entry)))) s d) (store (now (files .entry)) (now (contents .entry)) E P)) ⌝ }
+{
+    add_name(files, contents, last_name(path), s, d);
+}
+
+// A name goes from one directory to another, as the last of the path.
+pub fn transfer_entry(
+    files: &mut [u32],
+    contents: &mut [u8],
+    path: &[u8],
+    from: DirChange,
+    to: DirChange,
+    s: Slot,
+)
+    ensures { λ _. ⌜ ((E P : List ℕ) → store (now (files .exit)) (now (contents .exit)) E P ≡ applyAll (transferChanges (lastName (names (now (path .entry)))) from to s) (store (now (files .entry)) (now (contents .entry)) E P)) ⌝ }
+{
+    remove_name(files, contents, from);
+    add_name(files, contents, last_name(path), s, to);
 }

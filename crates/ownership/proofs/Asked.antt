@@ -64,6 +64,8 @@ module _ (K : Fixed) (s : Store) (c : Call) where
   Asked effect.Exited = Unit {0}
   Asked (effect.Relabelled l) = Unit {0}
   Asked (effect.Symlinked d y r) = May (d .dir)
+  Asked (effect.Renamed d y) = May (d .dir)
+  Asked (effect.Transferred from to y) = May (from .dir) × May (to .dir)
 
   abbrev pub Other : Type 0
   Other = isOther (c .call) ≡ true
@@ -85,6 +87,8 @@ module _ (K : Fixed) (s : Store) (c : Call) where
   Numbered effect.Exited = c .call ≡ EXIT
   Numbered (effect.Relabelled l) = Other
   Numbered (effect.Symlinked d y r) = Other
+  Numbered (effect.Renamed d y) = Other
+  Numbered (effect.Transferred from to y) = Other
 
   pub record Facts (e : Effect) : Type 0 where
     pub asked : Asked e
@@ -121,6 +125,8 @@ module _ (K : Fixed) (s : Store) (c : Call) where
   by-call o n out e k (passed.executes at w p b l) = record { asked = tt; numbered = other 17 refl k }
   by-call o n out e k (passed.symlinks at m t) = record { asked = may (at .dir) (m .allows); numbered = other 18 refl k }
   by-call o n out e k (passed.readsLink at w p) = record { asked = tt; numbered = other 19 refl k }
+  by-call o n out e k (passed.renamesIn old at h q) = record { asked = may (old .dir) (h .leaves); numbered = other 20 refl k }
+  by-call o n out e k (passed.transfers old at h q d i) = record { asked = (may (old .dir) (h .leaves), may (at .dir) (h .enters)); numbered = other 20 refl k }
 
   pub facts : {n : ℕ} {o : Output} {e : Effect} → Permit K v c n o e → Facts e
   facts {n} {o} {e} p = by-call (operation c) n o e (number-of (c .call)) (p .passed)

@@ -39,8 +39,9 @@ use Rattle.preservation.proofs.StoreChanges.{tablesOf}
 use Rattle.preservation.proofs.SoundStore.{SoundStore, AllSound}
 use Rattle.preservation.proofs.OpenEffects.{Leaves, Caller, Holds, open-leaves, truncate-leaves, move-leaves, duplicate-leaves, bits-leaves, execute-leaves, write-leaves}
 use Rattle.preservation.proofs.NameEffects.{link-leaves, create-leaves, symlink-leaves, unlinkedTables, Unnaming, keeps, frees, unlink-leaves, unnaming-is, remove-leaves}
+use Rattle.preservation.proofs.RenameEffects.{rename-leaves, transfer-leaves}
 use Rattle.preservation.proofs.CloseEffects.{close-leaves, releasing-is, exit-leaves}
-use Rattle.preservation.proofs.Granted.{Granting, nothing, opens, truncates, creates, symlinks, unlinks, removes, links, changesBits, closes, stores, reads, seeks, duplicates, forks, exits, executes}
+use Rattle.preservation.proofs.Granted.{Granting, nothing, opens, truncates, creates, symlinks, unlinks, removes, links, renames, transfers, changesBits, closes, stores, reads, seeks, duplicates, forks, exits, executes}
 use Rattle.preservation.proofs.Decided.{grants}
 use Rattle.preservation.proofs.Preserved.{placed-well, read-fits, forking}
 use Rattle.preservation.proofs.OpenStays.{refusal-some}
@@ -185,6 +186,8 @@ module _ (K : Fixed) (s : Store) (h : SoundStore s) (c : Call) where
   effect-counts (unlinks d j y n r) a k = quiet _ k (unlink-leaves s h d j y n r (unnaming-is s h y)) (unlink-desc d j (unnaming-is s h y))
   effect-counts (removes d j y n r l) a k = quiet _ k (remove-leaves s h d j y n r l) (remove-desc d j y)
   effect-counts (links d j y n hy r) a k = quiet _ k (link-leaves s h _ d j y n hy r) refl
+  effect-counts (renames d j y n f) a k = quiet _ k (rename-leaves s h _ d j y n f) refl
+  effect-counts (transfers d j e l y n r m b) a k = quiet _ k (transfer-leaves s h _ d j e l y n r m b) refl
   effect-counts (changesBits y b hy r n l o q) a k = quiet _ k (bits-leaves s h (y .0) (b .0) hy r n l) refl
   effect-counts (closes j u hj) a k = rw k (closed _ _ (j .0) u (close-leaves s h (c .process) j (u .small) hj (u .used) (releasing-is s h (c .process) j (u .small) hj) .desc-to) hj (something j a))
   effect-counts (stores e at o hs l b) a k = quiet _ k (write-leaves s h (c .«data») _ (placed-well s h c e at o hs l)) (unfold wrote in refl)

@@ -4,8 +4,8 @@ use mathlib.Core.Bool.{true}
 use mathlib.Core.List.{List, [], _∷_}
 use Prim.Native.Nat.{ℕ, _*_, _<_}
 use native.Mathlib.Omega.{arith}
-use lib.ListN.{length, getD, length-drop}
-use lib.Seq.{ext-getD, length-take-le, getD-take, drop-at}
+use lib.ListN.{getD}
+use lib.Seq.{drop-at}
 use borrow.Author.Tests.{ltb-true}
 use Rattle.rules.specs.Layout.{SLOTS, DIRENT-WIDTH, DIRENTS, ROM, PROCESSES, NAME, FILE-KIND, FILE-OWNER, FILE-GROUP, FILE-BITS, FILE-LENGTH, DIRECTORY, PROCESS-USER, PROCESS-GROUP}
 use Rattle.rules.specs.Rights.{WRITE, rightsIn, covers}
@@ -30,7 +30,6 @@ use Rattle.preservation.proofs.Tests.{upd, upd-same}
 use Rattle.preservation.proofs.Tables.{Tables, direntRow}
 use Rattle.preservation.proofs.Processes.{procRow}
 use Rattle.preservation.proofs.StoreChanges.{tablesOf}
-use Rattle.preservation.proofs.Shown.{block-length, shown-whole}
 use Rattle.preservation.proofs.SoundStore.{SoundStore, AllSound, means-sound, agree}
 use Rattle.preservation.proofs.Granted.{used-small, in-use, pid-free}
 use Rattle.preservation.proofs.Decided.{grants}
@@ -39,7 +38,7 @@ use Rattle.preservation.proofs.TestedOnce.{step-by}
 use Rattle.preservation.proofs.OpenStays.{refusal-some}
 use Rattle.preservation.proofs.Kept.{kept-block}
 use Rattle.ownership.specs.History.{FORK, asCall}
-use Rattle.ownership.specs.Directory.{word, userOf, slotAt, entryAt, rightsOn, Situation, ActionsOf, Stays, DirectoryStays, RomStays, ChildSame, ChildrenSame}
+use Rattle.ownership.specs.Directory.{word, userOf, slotAt, rightsOn, Situation, ActionsOf, Stays, DirectoryStays, RomStays, ChildSame, ChildrenSame}
 use Rattle.ownership.proofs.Asked.{facts}
 use Rattle.ownership.proofs.Served.{serve-by}
 use Rattle.ownership.proofs.Kept.{Kept}
@@ -53,30 +52,18 @@ unfolding tablesOf
 directory-small s h f e = used-small s h f (λ z. omega (arith, e, z))
 
 module _ (foo bar i : ℕ) (hi : i < DIRENTS) where
-  row-of : (u : Store) → SoundStore u → word u foo FILE-KIND ≡ DIRECTORY → (k : ℕ) → k < DIRENT-WIDTH → getD (direntAt (view u .tree .shown foo) i) k 0 ≡ direntRow (tablesOf u .byte) foo i k
+  row-of : (u : Store) → SoundStore u → word u foo FILE-KIND ≡ DIRECTORY → getD (direntAt (view u .tree .shown foo) i) NAME 0 ≡ direntRow (tablesOf u .byte) foo i NAME
   unfolding tablesOf
-  row-of u v e k l = agree u (v .sized) foo (directory-small u v foo e) e i k l
-
-  entry-length : (u : Store) → SoundStore u → word u foo FILE-KIND ≡ DIRECTORY → length (entryAt u foo i) ≡ DIRENT-WIDTH
-  entry-length u v e =
-      length-take-le DIRENT-WIDTH (direntAt (view u .tree .shown foo) i) (rw (
-        length-drop (DIRENT-WIDTH * i) (view u .tree .shown foo),
-        shown-whole (u .files) (u .contents) foo (λ z. omega (arith, e, z)),
-        block-length (u .contents) (v .sized .contents-size) foo (directory-small u v foo e),
-      ) (omega arith))
+  row-of u v e = agree u (v .sized) foo (directory-small u v foo e) e i NAME (omega arith)
 
   module _ (s t : Store) (h : SoundStore s) (g : SoundStore t) (kf : word s foo FILE-KIND ≡ DIRECTORY) (kb : word s bar FILE-KIND ≡ DIRECTORY) (o : slotAt s foo i ≡ bar) (w : Kept foo bar i (tablesOf s) (tablesOf t)) where
     kind-after : word t foo FILE-KIND ≡ DIRECTORY
     unfolding tablesOf
     kind-after = w .foo-kind ∙ kf
 
-    byte-after : (k : ℕ) → k < DIRENT-WIDTH → getD (entryAt t foo i) k 0 ≡ getD (entryAt s foo i) k 0
-    byte-after k l =
-        getD-take DIRENT-WIDTH (direntAt (view t .tree .shown foo) i) k 0 l ∙ row-of t g kind-after k l ∙ w .entry k ∙ sym (row-of s h kf k l) ∙ sym (getD-take DIRENT-WIDTH (direntAt (view s .tree .shown foo) i) k 0 l)
-
     slot-after : slotAt t foo i ≡ slotAt s foo i
     unfolding direntSlot
-    slot-after = row-of t g kind-after NAME (omega arith) ∙ w .entry NAME ∙ sym (row-of s h kf NAME (omega arith))
+    slot-after = row-of t g kind-after ∙ w .names ∙ sym (row-of s h kf)
 
     stays : Stays foo bar i s t
     unfolding tablesOf
@@ -84,20 +71,18 @@ module _ (foo bar i : ℕ) (hi : i < DIRENTS) where
       foo-stays = kind-after;
       foo-owner = w .foo-owner;
       still-holds = slot-after ∙ o;
-      same-entry = ext-getD 0 (entryAt t foo i) (entryAt s foo i) (entry-length t g kind-after ∙ sym (entry-length s h kf)) (λ k l. byte-after k (omega (arith, l, entry-length t g kind-after)));
       bar-record = λ column. ap (λ (r : ℕ → ℕ). r column) (w .bar-row);
       bar-names = kept-block s t bar (h .sized) (g .sized) (directory-small s h bar kb) (unfold tablesOf in w .bar-bytes);
     }
 
 stays-same : (foo bar i : ℕ) (s : Store) → word s foo FILE-KIND ≡ DIRECTORY → slotAt s foo i ≡ bar → Stays foo bar i s s
-stays-same foo bar i s e o = record { foo-stays = e; foo-owner = refl; still-holds = o; same-entry = refl; bar-record = λ _. refl; bar-names = refl }
+stays-same foo bar i s e o = record { foo-stays = e; foo-owner = refl; still-holds = o; bar-record = λ _. refl; bar-names = refl }
 
 stays-both : (foo bar i : ℕ) (a b c : Store) → Stays foo bar i a b → Stays foo bar i b c → Stays foo bar i a c
 stays-both foo bar i a b c x y = record {
   foo-stays = y .foo-stays;
   foo-owner = y .foo-owner ∙ x .foo-owner;
   still-holds = y .still-holds;
-  same-entry = y .same-entry ∙ x .same-entry;
   bar-record = λ column. y .bar-record column ∙ x .bar-record column;
   bar-names = y .bar-names ∙ x .bar-names;
 }

@@ -27,9 +27,11 @@ use Rattle.preservation.proofs.StoreChanges.{tablesOf}
 use Rattle.preservation.proofs.Shown.{slot-row}
 use Rattle.preservation.proofs.SoundStore.{SoundStore, agree}
 use Rattle.preservation.proofs.OpenEffects.{Leaves, open-leaves, truncate-leaves, move-leaves, duplicate-leaves, bits-leaves, execute-leaves, write-leaves}
-use Rattle.preservation.proofs.NameEffects.{link-leaves, create-leaves, symlink-leaves, unlinkedTables, Names, Unnaming, keeps, frees, unlink-leaves, unnaming-is, remove-leaves, withoutName}
+use Rattle.preservation.proofs.NameEffects.{link-leaves, create-leaves, symlink-leaves, unlinkedTables, Names, Unnaming, keeps, frees, unlink-leaves, unnaming-is, remove-leaves, named-small, withoutName}
+use Rattle.preservation.proofs.RenameEffects.{rename-leaves, transfer-leaves}
+use Rattle.preservation.proofs.DirentRow.{row-slot}
 use Rattle.preservation.proofs.CloseEffects.{Steady, steady-still, close-leaves, releasing-is, exit-leaves}
-use Rattle.preservation.proofs.Granted.{Granting, nothing, opens, truncates, creates, symlinks, unlinks, removes, links, changesBits, closes, stores, reads, seeks, duplicates, forks, exits, executes, used-small}
+use Rattle.preservation.proofs.Granted.{Granting, nothing, opens, truncates, creates, symlinks, unlinks, removes, links, renames, transfers, changesBits, closes, stores, reads, seeks, duplicates, forks, exits, executes, used-small}
 use Rattle.preservation.proofs.Preserved.{placed-well, read-fits, forking}
 use Rattle.ownership.specs.Directory.{userOf, rightsOn, Situation}
 use Rattle.ownership.proofs.Asked.{May, Asked}
@@ -101,13 +103,17 @@ module _ (K : Fixed) (A foo bar i : ℕ) (s : Store) (h : SoundStore s) (c : Cal
     processes = w;
   }
 
-  -- an entry that names something else than bar
-  other-entry : (d : Slot) (j y : ℕ) → direntRow (tablesOf s .byte) (d .0) j NAME ≡ y → (bar ≡ y → ⊥) → foo ≡ d .0 → i ≡ j → ⊥
-  other-entry d j y e n q r = n (sym there ∙ rw (q, r) e)
+  -- an entry that names something else than bar may be put anew
+  other-entry : (d : Slot) (j y x : ℕ) → direntRow (tablesOf s .byte) (d .0) j NAME ≡ y → (bar ≡ y → ⊥) → foo ≡ d .0 → i ≡ j → x ≡ direntRow (tablesOf s .byte) foo i NAME
+  other-entry d j y x e n q r = absurd (n (sym there ∙ rw (q, r) e))
+
+  -- one that names y goes on naming it
+  same-entry : (d : Slot) (j y x : ℕ) → direntRow (tablesOf s .byte) (d .0) j NAME ≡ y → x ≡ y → foo ≡ d .0 → i ≡ j → x ≡ direntRow (tablesOf s .byte) foo i NAME
+  same-entry d j y x e n q r = n ∙ sym (rw (q, r) e)
 
   -- directory d without its entry j, which names y
   unnamed-left : (d : Slot) (j : ℕ) (y : Slot) → May K s c d → Names s h d j y → (bar ≡ y .0 → ⊥) → Left (withoutName s h d j)
-  unnamed-left d j y may n b = kept-dirent foo bar i (tablesOf s) (tablesOf s) (d .0) j noRow _ _ (λ _ _. refl) (denied d may) (other-entry d j (y .0) (n .there) b) same
+  unnamed-left d j y may n b = kept-dirent foo bar i (tablesOf s) (tablesOf s) (d .0) j noRow _ _ (λ _ _. refl) (denied d may) (other-entry d j (y .0) _ (n .there) b) same
 
   unlinked : (d : Slot) (j : ℕ) (y : Slot) → May K s c d → Names s h d j y → (foo ≡ y .0 → ⊥) → (bar ≡ y .0 → ⊥) → {w : Unnamed} → Unnaming s h y w → Left (unlinkedTables s h d j w)
   unfolding unlinkedTables
@@ -139,23 +145,27 @@ module _ (K : Fixed) (A foo bar i : ℕ) (s : Store) (h : SoundStore s) (c : Cal
   effect-leaves (truncates n o hs b) a = quiet (truncate-leaves s h (c .process) n o hs) (unfold remade handed in refl)
       (kept-remade foo bar i _ _ (n .slot .0) _ _ (not-foo (n .slot .0) (λ z. omega (arith, o .plain hs, z))) (not-bar (n .slot .0) (λ z. omega (arith, o .plain hs, z))) (unfold handed in kept-all foo bar i _ _ refl refl))
   effect-leaves (creates d j y new o) a = quiet (create-leaves s h _ (subjectOf (view s .proc) (c .process)) d j (slot y) new o) refl
-      (kept-dirent foo bar i (tablesOf s) _ (d .0) j _ _ _ (o .naming .fits .row-end) (denied d a) (other-entry d j 0 (o .naming .fits .dirent-empty) (x .not-root))
+      (kept-dirent foo bar i (tablesOf s) _ (d .0) j _ _ _ (o .naming .fits .row-end) (denied d a) (other-entry d j 0 _ (o .naming .fits .dirent-empty) (x .not-root))
       (kept-row foo bar i (tablesOf s) (tablesOf s) y _ (not-foo y (λ z. omega (arith, o .free, z))) (not-bar y (λ z. omega (arith, o .free, z))) same))
   effect-leaves (symlinks d j y o) a =
       let f : foo ≡ y → ⊥ = not-foo y (λ z. omega (arith, o .free, z)) in
       let b : bar ≡ y → ⊥ = not-bar y (λ z. omega (arith, o .free, z)) in
       quiet (symlink-leaves s h _ (subjectOf (view s .proc) (c .process)) d j (slot y) (c .«data») o) refl
-      (kept-dirent foo bar i (tablesOf s) _ (d .0) j _ _ _ (o .naming .fits .row-end) (denied d a) (other-entry d j 0 (o .naming .fits .dirent-empty) (x .not-root))
+      (kept-dirent foo bar i (tablesOf s) _ (d .0) j _ _ _ (o .naming .fits .row-end) (denied d a) (other-entry d j 0 _ (o .naming .fits .dirent-empty) (x .not-root))
       (kept-row foo bar i (tablesOf s) _ y _ f b (kept-bytes foo bar i (tablesOf s) (tablesOf s) y _ f b same)))
   effect-leaves (unlinks d j y n k) a = quiet (unlink-leaves s h d j y n k (unnaming-is s h y)) (unlink-proc d j (unnaming-is s h y)) (unlinked d j y a n (not-foo (y .0) k) (not-bar (y .0) k) (unnaming-is s h y))
   effect-leaves (removes d j y n k l) a = quiet (remove-leaves s h d j y n k l) (remove-proc d j y) (removed d j y a n (λ q. foo-some (rw q l)) (λ q. bar-some (rw q l)))
   effect-leaves (links d j y n hy k) a = quiet (link-leaves s h _ d j y n hy k) refl
-      (kept-dirent foo bar i (tablesOf s) _ (d .0) j _ _ _ (n .fits .row-end) (denied d a) (other-entry d j 0 (n .fits .dirent-empty) (x .not-root))
+      (kept-dirent foo bar i (tablesOf s) _ (d .0) j _ _ _ (n .fits .row-end) (denied d a) (other-entry d j 0 _ (n .fits .dirent-empty) (x .not-root))
       (kept-word foo bar i (tablesOf s) (tablesOf s) (y .0) _ _ (not-foo (y .0) (λ z. omega (arith, k, z))) (not-bar (y .0) (λ z. omega (arith, k, z))) same))
+  effect-leaves (renames d j y n f) a = quiet (rename-leaves s h _ d j y n f) refl
+      (kept-dirent foo bar i (tablesOf s) (tablesOf s) (d .0) j _ _ _ (f .row-end) (denied d a) (same-entry d j (y .0) _ (n .there) (row-slot _ y (omega (arith, named-small s h d j y n)))) same)
+  effect-leaves (transfers d j e l y n k m b) a = quiet (transfer-leaves s h _ d j e l y n k m b) refl
+      (kept-dirent foo bar i (tablesOf s) (withoutName s h d j) (e .0) l _ _ _ (m .fits .row-end) (denied e (a .1)) (other-entry e l 0 _ (m .fits .dirent-empty) (x .not-root)) (unnamed-left d j y (a .0) n (not-bar (y .0) k)))
   effect-leaves (changesBits y b hy k n l o q) a = quiet (bits-leaves s h (y .0) (b .0) hy k n l) refl (record {
     foo-kind = refl;
     foo-owner = refl;
-    entry = λ _. refl;
+    names = refl;
     bar-row = row-other (tablesOf s .file) (y .0) FILE-BITS (b .0) bar (not-owner y o);
     bar-bytes = refl;
   })

@@ -4,8 +4,8 @@ use mathlib.Core.Bool.{Bool, true, false, cond}
 use Prim.Native.Nat.{ℕ, _≤_}
 use lib.Dec.{eqb}
 use borrow.Author.Tests.{ne-eqb}
-use Rattle.rules.specs.Layout.{DIRENT-WIDTH, FILE-KIND, FILE-OWNER, FILE-LENGTH, FILE-VERSION}
-use Rattle.preservation.proofs.Tests.{split, upd-other, upd2}
+use Rattle.rules.specs.Layout.{DIRENT-WIDTH, NAME, FILE-KIND, FILE-OWNER, FILE-LENGTH, FILE-VERSION}
+use Rattle.preservation.proofs.Tests.{split, upd, upd2}
 use Rattle.preservation.proofs.Tables.{Tables, direntRow, rowsOf, fileTo, fileRowTo, bytesTo, openTo}
 use Rattle.preservation.proofs.Dirents.{rows-fill}
 use Rattle.preservation.proofs.Remake.{remade}
@@ -20,11 +20,11 @@ row-other f j c v i n = fun-ext (λ k. rw (ne-eqb i j n) (same (eqb k c) (f i k)
     same false x = refl
 
 module _ (foo bar i : ℕ) where
-  -- foo's kind and owner, its entry i, and all of bar are in n as they are in m
+  -- foo's kind and owner, what its entry i names, and all of bar are in n as they are in m
   pub record Kept (m n : Tables) : Type 0 where
     pub foo-kind : n .file foo FILE-KIND ≡ m .file foo FILE-KIND
     pub foo-owner : n .file foo FILE-OWNER ≡ m .file foo FILE-OWNER
-    pub entry : (k : ℕ) → direntRow (n .byte) foo i k ≡ direntRow (m .byte) foo i k
+    pub names : direntRow (n .byte) foo i NAME ≡ direntRow (m .byte) foo i NAME
     pub bar-row : n .file bar ≡ m .file bar
     pub bar-bytes : n .byte bar ≡ m .byte bar
 
@@ -32,7 +32,7 @@ module _ (foo bar i : ℕ) where
   kept-all m n f b = record {
     foo-kind = ap (λ (t : ℕ → ℕ → ℕ). t foo FILE-KIND) f;
     foo-owner = ap (λ (t : ℕ → ℕ → ℕ). t foo FILE-OWNER) f;
-    entry = λ k. ap (λ (t : ℕ → ℕ → ℕ). direntRow t foo i k) b;
+    names = ap (λ (t : ℕ → ℕ → ℕ). direntRow t foo i NAME) b;
     bar-row = ap (λ (t : ℕ → ℕ → ℕ). t bar) f;
     bar-bytes = ap (λ (t : ℕ → ℕ → ℕ). t bar) b;
   }
@@ -42,7 +42,7 @@ module _ (foo bar i : ℕ) where
   kept-slots m n f b = record {
     foo-kind = ap (λ (t : ℕ → ℕ). t FILE-KIND) (f .0);
     foo-owner = ap (λ (t : ℕ → ℕ). t FILE-OWNER) (f .0);
-    entry = λ k. ap (λ (t : ℕ → ℕ). rowsOf t i k) (f .1);
+    names = ap (λ (t : ℕ → ℕ). rowsOf t i NAME) (f .1);
     bar-row = b .0;
     bar-bytes = b .1;
   }
@@ -53,7 +53,7 @@ module _ (foo bar i : ℕ) where
   kept-remade m n y row g f b w = record {
     foo-kind = rw (ne-eqb foo y f) (w .foo-kind);
     foo-owner = rw (ne-eqb foo y f) (w .foo-owner);
-    entry = λ k. rw (ne-eqb foo y f) (w .entry k);
+    names = rw (ne-eqb foo y f) (w .names);
     bar-row = rw (ne-eqb bar y b) (w .bar-row);
     bar-bytes = rw (ne-eqb bar y b) (w .bar-bytes);
   }
@@ -63,7 +63,7 @@ module _ (foo bar i : ℕ) where
   kept-row m n y row f b w = record {
     foo-kind = rw (ne-eqb foo y f) (w .foo-kind);
     foo-owner = rw (ne-eqb foo y f) (w .foo-owner);
-    entry = w .entry;
+    names = w .names;
     bar-row = rw (ne-eqb bar y b) (w .bar-row);
     bar-bytes = w .bar-bytes;
   }
@@ -73,33 +73,38 @@ module _ (foo bar i : ℕ) where
   kept-bytes m n y g f b w = record {
     foo-kind = w .foo-kind;
     foo-owner = w .foo-owner;
-    entry = λ k. rw (ne-eqb foo y f) (w .entry k);
+    names = rw (ne-eqb foo y f) (w .names);
     bar-row = w .bar-row;
     bar-bytes = rw (ne-eqb bar y b) (w .bar-bytes);
   }
 
   -- a word of an open file
   pub kept-open : (m n : Tables) (e c v : ℕ) → Kept m n → Kept m (openTo e c v n)
-  kept-open m n e c v w = record { foo-kind = w .foo-kind; foo-owner = w .foo-owner; entry = w .entry; bar-row = w .bar-row; bar-bytes = w .bar-bytes }
+  kept-open m n e c v w = record { foo-kind = w .foo-kind; foo-owner = w .foo-owner; names = w .names; bar-row = w .bar-row; bar-bytes = w .bar-bytes }
 
   -- a word of another slot
   pub kept-word : (m n : Tables) (y c v : ℕ) → (foo ≡ y → ⊥) → (bar ≡ y → ⊥) → Kept m n → Kept m (fileTo y c v n)
   kept-word m n y c v f b w = record {
     foo-kind = ap (λ (t : ℕ → ℕ). t FILE-KIND) (row-other (n .file) y c v foo f) ∙ w .foo-kind;
     foo-owner = ap (λ (t : ℕ → ℕ). t FILE-OWNER) (row-other (n .file) y c v foo f) ∙ w .foo-owner;
-    entry = w .entry;
+    names = w .names;
     bar-row = row-other (n .file) y c v bar b ∙ w .bar-row;
     bar-bytes = w .bar-bytes;
   }
 
-  -- another entry of foo, or an entry of a directory that is neither
-  pub kept-dirent : (m n : Tables) (d j : ℕ) (r : ℕ → ℕ) (z t : ℕ) → ((k : ℕ) → DIRENT-WIDTH ≤ k → r k ≡ 0) → (bar ≡ d → ⊥) → (foo ≡ d → i ≡ j → ⊥) → Kept m n → Kept m (direntTo d j r z t n)
+  -- an entry of a directory that is not bar; entry i of foo goes on naming what it names
+  pub kept-dirent : (m n : Tables) (d j : ℕ) (r : ℕ → ℕ) (z t : ℕ) → ((k : ℕ) → DIRENT-WIDTH ≤ k → r k ≡ 0) → (bar ≡ d → ⊥) → (foo ≡ d → i ≡ j → r NAME ≡ direntRow (m .byte) foo i NAME) → Kept m n → Kept m (direntTo d j r z t n)
   kept-dirent m n d j r z t end b e w = record {
     foo-kind = w .foo-kind;
     foo-owner = w .foo-owner;
-    entry = λ k. split foo d
-        (λ q y. rw y (ap (λ (x : ℕ → ℕ → ℕ). x i k) (rows-fill (n .byte d) j r end) ∙ ap (λ (x : ℕ → ℕ). x k) (upd-other (rowsOf (n .byte d)) j r i (e q)) ∙ ap (λ (x : ℕ). rowsOf (n .byte x) i k) (sym q) ∙ w .entry k))
-        (λ q y. rw y (w .entry k));
+    names = split foo d
+        (λ q y. rw y (ap (λ (x : ℕ → ℕ → ℕ). x i NAME) (rows-fill (n .byte d) j r end) ∙ entry q))
+        (λ q y. rw y (w .names));
     bar-row = row-other (upd2 (n .file) d FILE-LENGTH z) d FILE-VERSION t bar b ∙ row-other (n .file) d FILE-LENGTH z bar b ∙ w .bar-row;
     bar-bytes = rw (ne-eqb bar d b) (w .bar-bytes);
   }
+    where
+      entry : foo ≡ d → upd (rowsOf (n .byte d)) j r i NAME ≡ direntRow (m .byte) foo i NAME
+      entry q = split i j
+          (λ p y. rw y (e q p))
+          (λ p y. rw y (ap (λ (x : ℕ). rowsOf (n .byte x) i NAME) (sym q) ∙ w .names))

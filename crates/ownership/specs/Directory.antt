@@ -5,8 +5,8 @@ use mathlib.Core.Path.{_≡_}
 use mathlib.Core.Bool.{true, false}
 use mathlib.Core.Logic.{_≢_}
 use mathlib.Core.List.{List, [], _∷_}
-use lib.ListN.{getD, take}
-use Rattle.rules.specs.Layout.{DIRENT-WIDTH, DIRENTS, PROMPTS, ROM, FILE-KIND, FILE-OWNER, FILE-GROUP, FILE-BITS, FILE-LENGTH, DIRECTORY, PROCESS-USER, PROCESS-GROUP}
+use lib.ListN.{getD}
+use Rattle.rules.specs.Layout.{DIRENTS, PROMPTS, ROM, FILE-KIND, FILE-OWNER, FILE-GROUP, FILE-BITS, FILE-LENGTH, DIRECTORY, PROCESS-USER, PROCESS-GROUP}
 use Rattle.rules.specs.Rights.{WRITE, rightsIn, covers}
 use Rattle.rules.specs.Store.{Store, Fixed, Tree, view, slot, pidOf, bitsAt, subjectOf, words, block}
 use Rattle.rules.specs.Refusals.{GRANTED}
@@ -31,12 +31,9 @@ userOf s p = view s .proc (p .0) PROCESS-USER
 abbrev pub groupOf : Store → Pid → ℕ
 groupOf s p = view s .proc (p .0) PROCESS-GROUP
 
--- entry i of directory d: the slot that it names, and all its 16 bytes
+-- the slot that entry i of directory d names
 abbrev pub slotAt : Store → (d i : ℕ) → ℕ
 slotAt s d i = direntSlot (view s .tree .shown d) i
-
-abbrev pub entryAt : Store → (d i : ℕ) → List ℕ
-entryAt s d i = take DIRENT-WIDTH (direntAt (view s .tree .shown d) i)
 
 -- the rights that the bits of slot f give process p: the owner's, the group's or the others', by its user and group
 abbrev pub rightsOn : Store → ℕ → Pid → Rights
@@ -62,13 +59,12 @@ unfoldable pub ActionsOf : Fixed → ℕ → Store → List Action → Type 0
 ActionsOf K A s [] = Unit {0}
 ActionsOf K A s (a ∷ xs) = (userOf s (asCall a .process) ≡ A) × ActionsOf K A (serve K s a .store) xs
 
--- "foo stays, still names bar, and bar's names are unchanged": foo is a directory with the owner that it had, its entry i is the same and names bar, and
--- neither a word of bar's record nor one of its 512 bytes has changed
+-- "foo still names bar, under some name" (paper 02, R-10), and bar's names are unchanged: foo is a directory with the owner that it had, its entry i names
+-- bar, and neither a word of bar's record nor one of its 512 bytes has changed
 pub record Stays (foo bar i : ℕ) (s t : Store) : Type 0 where
   pub foo-stays : word t foo FILE-KIND ≡ DIRECTORY
   pub foo-owner : word t foo FILE-OWNER ≡ word s foo FILE-OWNER
   pub still-holds : slotAt t foo i ≡ bar
-  pub same-entry : entryAt t foo i ≡ entryAt s foo i
   pub bar-record : (column : ℕ) → word t bar column ≡ word s bar column
   pub bar-names : block (t .contents) bar ≡ block (s .contents) bar
 

@@ -30,8 +30,9 @@ use Rattle.preservation.proofs.StoreChanges.{tablesOf}
 use Rattle.preservation.proofs.SoundStore.{SoundStore, means-sound}
 use Rattle.preservation.proofs.OpenEffects.{Leaves, open-leaves, truncate-leaves, move-leaves, duplicate-leaves, bits-leaves, execute-leaves, write-leaves}
 use Rattle.preservation.proofs.NameEffects.{link-leaves, create-leaves, symlink-leaves, unlinkedTables, Unnaming, keeps, frees, unlink-leaves, unnaming-is, remove-leaves}
+use Rattle.preservation.proofs.RenameEffects.{rename-leaves, transfer-leaves}
 use Rattle.preservation.proofs.CloseEffects.{Still, Steady, close-leaves, releasing-is, exit-leaves}
-use Rattle.preservation.proofs.Granted.{Granting, nothing, opens, truncates, creates, symlinks, unlinks, removes, links, changesBits, closes, stores, reads, seeks, duplicates, forks, exits, executes}
+use Rattle.preservation.proofs.Granted.{Granting, nothing, opens, truncates, creates, symlinks, unlinks, removes, links, renames, transfers, changesBits, closes, stores, reads, seeks, duplicates, forks, exits, executes}
 use Rattle.preservation.proofs.Decided.{decide-fit}
 use Rattle.preservation.proofs.Preserved.{placed-well, read-fits, forking}
 use Rattle.preservation.proofs.TestedOnce.{step-by}
@@ -99,6 +100,8 @@ module _ (s : Store) (h : SoundStore s) (c : Call) (f : ℕ) where
   changes-bits (unlinks d i y n k) = leaves (unlink-leaves s h d i y n k (unnaming-is s h y)) (unlink-left d i y (unnaming-is s h y))
   changes-bits (removes d i y n k l) = leaves (remove-leaves s h d i y n k l) (remove-left d i y)
   changes-bits (links d i y n hy k) = leaves-bits (link-leaves s h _ d i y n hy k) refl
+  changes-bits (renames d i y n g) = leaves-bits (rename-leaves s h _ d i y n g) refl
+  changes-bits (transfers d i e j y n k m a) = leaves-bits (transfer-leaves s h _ d i e j y n k m a) refl
   changes-bits (changesBits y b hy k n l o a) = split f (y .0) (λ q _ _ _ _. (a, rw q (owner-or-0 (y .0) o))) (λ q t. leaves-bits (bits-leaves s h (y .0) (b .0) hy k n l) (rw t))
   changes-bits (closes i u hi) = steadily _ (close-leaves s h (c .process) i (u .small) hi (u .used) (releasing-is s h (c .process) i (u .small) hi) .steady)
   changes-bits (stores e at o hs l a) = leaves-bits (write-leaves s h (c .«data») _ (placed-well s h c e at o hs l)) (unfold wrote in refl)

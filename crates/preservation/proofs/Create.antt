@@ -12,7 +12,7 @@ use Rattle.rules.specs.Paths.{pathOk}
 use Rattle.preservation.proofs.Tables.{Tables, col, direntRow, overRow}
 use Rattle.preservation.proofs.Sound.{All, Sound, SoundBut, File, validRow, sameRow, romRow, openCount}
 use Rattle.preservation.proofs.Rows.{freeRow, file-free}
-use Rattle.preservation.proofs.Dirents.{placed, Fits, used-at}
+use Rattle.preservation.proofs.Dirents.{placed, Fits, dirent-used, used-at}
 use Rattle.preservation.proofs.Link.{loosen, tighten, linked, linked-sound}
 use Rattle.preservation.proofs.Unlink.{unlinked, unlinked-sound}
 use Rattle.preservation.proofs.Remake.{remade, remade-sound, remade-depths, Bare, Fresh, openCount-none}
@@ -40,13 +40,7 @@ name-fits m d p r t y n ht hy n0 u = record {
   dirent-small = n .dirent-small;
   row-end = n .row-end;
   row-new = λ _. n .row-new;
-  row-dirent = record {
-    last-zero = n .row-last;
-    slot-small = rw (n .row-slot) hy;
-    empty-zero = λ z. absurd (n0 (sym (n .row-slot) ∙ z));
-    slot-used = λ _. rw (n .row-slot) u;
-    valid = λ _. n .row-valid;
-  };
+  row-dirent = dirent-used (col (m .file) FILE-KIND) r y (n .row-slot) (n .row-last) (n .row-valid) hy n0 u;
   version-small = ht;
   file-used = u;
   file-root = n0;

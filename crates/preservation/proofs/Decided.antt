@@ -1,5 +1,5 @@
 -- What every granted call has passed gives, on a sound store, the facts that its effect needs.
-use mathlib.Core.Path.{_≡_, refl}
+use mathlib.Core.Path.{_≡_, refl, sym, ap}
 use mathlib.Core.Bool.{Bool, true, false≢true}
 use mathlib.Core.List.{List, [], _∷_}
 use Prim.Native.Nat.{ℕ, _+_, _≤_, _<_}
@@ -9,9 +9,9 @@ use lib.Dec.{eqb}
 use lib.ListN.{length}
 use borrow.Author.Tests.{eqb-true, eqb-false, eq-eqb, ltb-true, leb-true}
 use Rattle.rules.specs.Layout.{SLOTS, BLOCK, DIRENTS, OPEN-FILES, PROCESSES, DESCRIPTORS, KIND-MAX, USER-MAX, BITS-MAX, LABEL-MAX, PROCESS-GROUP, GROUP-MAX}
-use Rattle.rules.specs.Layout.{FILE-KIND, FILE-LABEL, FILE-LENGTH, FILE-LINKS, OPEN-SLOT, OPEN-MODE, OPEN-OFFSET, PROCESS-USER, PROCESS-LABEL, FREE, PLAIN, DIRECTORY, LINK, NAMES}
+use Rattle.rules.specs.Layout.{FILE-KIND, FILE-LABEL, FILE-LENGTH, FILE-LINKS, FILE-VERSION, OPEN-SLOT, OPEN-MODE, OPEN-OFFSET, PROCESS-USER, PROCESS-LABEL, FREE, PLAIN, DIRECTORY, LINK, NAMES}
 use Rattle.rules.specs.Choice.{some}
-use Rattle.rules.specs.Store.{Store, Fixed, View, view, slot, isSlot}
+use Rattle.rules.specs.Store.{Store, Fixed, View, view, slot, isSlot, isDirent, up}
 use Rattle.rules.specs.Paths.{names, lastName, pathOk}
 use Rattle.rules.specs.Rights.{MODE-READ, moved, writes}
 use Rattle.rules.specs.Rom.{seen, lengthIn}
@@ -33,31 +33,32 @@ use Rattle.rules.specs.declared.decision.Location.{Location}
 use Rattle.rules.specs.declared.decision.NewFile.{NewFile}
 use Rattle.rules.specs.declared.decision.Output.{Output}
 use Rattle.rules.specs.declared.decision.Effect.{Effect}
-use Rattle.rules.proofs.Passed.{Fit, fit-map, Passed, Permit, permitted, Walked, Followed, Opening, Naming, Holding, Mode, Makes, newest, entryIn, ofd, mode, count, borrow-permitted}
+use Rattle.rules.proofs.Passed.{Fit, fit-map, Passed, Permit, permitted, Walked, Followed, Opening, Naming, Renaming, Holding, Mode, Makes, newest, entryIn, ofd, mode, count, borrow-permitted}
 use Rattle.rules.proofs.Passed as passed
 use Rattle.rules.proofs.Seen.{is-slot, seen-stored, row-stored, factory-label, releasing-seen}
 use Rattle.rules.proofs.Tests.{test}
 use Rattle.preservation.specs.Claims.{EndsAt}
-use Rattle.preservation.proofs.Tests.{upd, means-imp, means-or, means-eq, means-le}
+use Rattle.preservation.proofs.Tests.{upd, means-imp, means-or, means-not, means-eq, means-le}
 use Rattle.preservation.proofs.OneWord.{Held}
 use Rattle.preservation.proofs.Tables.{overRow}
-use Rattle.preservation.proofs.Words.{offsets-most, length-most}
+use Rattle.preservation.proofs.Words.{up-most, offsets-most, length-most}
 use Rattle.preservation.proofs.StoreChanges.{tablesOf}
 use Rattle.preservation.proofs.SoundStore.{SoundStore, AllSound, past}
 use Rattle.preservation.proofs.OpenEffects.{Caller, Opens, held-open}
 use Rattle.preservation.proofs.Sound.{All, File}
 use Rattle.preservation.proofs.Rows.{file-used}
+use Rattle.preservation.proofs.Dirents.{Fits}
 use Rattle.preservation.proofs.Remake.{Fresh}
 use Rattle.preservation.proofs.Create.{free-zeros, fresh-empty, fresh-link}
 use Rattle.preservation.proofs.NameEffects as effects
 use Rattle.preservation.proofs.NameEffects.{newRow, Creates}
 use Rattle.preservation.proofs.PathNames.{path-good, below-root, last-good}
-use Rattle.preservation.proofs.NewName.{new-name}
+use Rattle.preservation.proofs.NewName.{new-name, other-name}
 use Rattle.preservation.proofs.Numbers.{NumberOf, number-of, GoodMode, ModeSays, mode-says, bits-most}
 use Rattle.preservation.proofs.Prompts.{plain-below, length-in}
 use Rattle.preservation.proofs.Reach.{reach-used}
 use Rattle.preservation.proofs.Walked.{Stands, NewEntry, kind-is, path-followed, path-found, new-found}
-use Rattle.preservation.proofs.Granted.{Granting, nothing, opens, truncates, creates, symlinks, unlinks, removes, links, changesBits, closes, stores, reads, seeks, duplicates, forks, exits, executes}
+use Rattle.preservation.proofs.Granted.{Granting, nothing, opens, truncates, creates, symlinks, unlinks, removes, links, renames, transfers, changesBits, closes, stores, reads, seeks, duplicates, forks, exits, executes}
 use Rattle.preservation.proofs.Granted.{in-use, holds, slot-free, ofd-free, fd-free, pid-free, dirent-free, may-write, opens-reading, moved-small}
 
 -- ---- on a sound store
@@ -143,6 +144,20 @@ module _ (K : Fixed) (s : Store) (a : AllSound K s) (c : Call) (u : Caller (tabl
 
   named-in : (p : List ℕ) (at : Location) → Naming K v c p at → at .dir .0 < SLOTS
   named-in p at m = may-write (v .tree .file) who (at .dir) (m .allows .bits)
+
+  -- a name that a directory has not, in place of one that it has
+  another-name : pathBelowRoot (c .«data») ≡ true → (old at : Location) → Renaming K v c old at → effects.Names s h (at .dir) (old .dirent .0) (old .slot) →
+      Fits (tablesOf s) (at .dir .0) (old .dirent .0) (effects.rowOf (lastName (names (c .«data»))) (old .slot)) (up (tablesOf s .file (at .dir .0) FILE-VERSION)) (old .slot .0)
+  another-name g old at m n =
+      let w = below-root (c .«data») g in
+      let hd = may-write (v .tree .file) who (at .dir) (m .enters .bits) in
+      let f = new-found R s h Q who (c .«data») (w .0) (w .1) at (m .walked) hd in
+      other-name R s h (at .dir) hd (f .kind) (lastName (names (c .«data»))) (old .dirent .0) (old .slot) (last-good (c .«data») (w .0) (w .1)) n (rw (f .is-entry) at (m .absent))
+      (up (tablesOf s .file (at .dir .0) FILE-VERSION)) (up-most (tablesOf s .file (at .dir .0) FILE-VERSION))
+
+  -- a name that goes to another directory, into a free entry
+  entering : (old at : Location) → Renaming K v c old at → isDirent (entryIn K v c at) ≡ true → Naming K v c (c .«data») at
+  entering old at m i = record { walked = m .walked; absent = m .absent; allows = m .enters; dirent-free = i }
 
   new-entry : (p : List ℕ) → pathBelowRoot p ≡ true → (at : Location) → Naming K v c p at → NewEntry R s h Q who (lastName (names p)) at
   new-entry p g at m = let w = below-root p g in new-found R s h Q who p (w .0) (w .1) at (m .walked) (named-in p at m)
@@ -264,6 +279,18 @@ module _ (K : Fixed) (s : Store) (a : AllSound K s) (c : Call) (u : Caller (tabl
   facts o n out e k f (passed.links old at w p y m) =
       let hy = is-slot (old .slot) y in
       rw (row-is (at .dir) (named-in (c .«data») at m), row-is (old .slot) hy) (links (at .dir) _ (old .slot) (naming (c .«data») (test 1 _ f) at m (old .slot) hy) hy (is-kind PLAIN (old .slot) hy p))
+  facts o n out e k f (passed.renamesIn old at m q) =
+      let hy = is-slot (old .slot) (m .stored) in
+      let w = named (test 0 _ f) old (m .found) hy in
+      let d : at .dir ≡ old .dir = ap slot (sym (eqb-true (old .dir .0) (at .dir .0) q)) in
+      rw (row-is (old .dir) (w .dir-small)) (renames (old .dir) (old .dirent .0) (old .slot) w (rw d at (another-name (test 1 _ f) old at m (rw d w))))
+  facts o n out e k f (passed.transfers old at m q p i) =
+      let hy = is-slot (old .slot) (m .stored) in
+      let w = named (test 0 _ f) old (m .found) hy in
+      let g = entering old at m i in
+      rw (row-is (old .dir) (w .dir-small), row-is (at .dir) (named-in (c .«data») at g))
+      (transfers (old .dir) (old .dirent .0) (at .dir) _ (old .slot) w (λ z. means-not (means-eq (v .tree .file (old .slot .0) FILE-KIND) DIRECTORY) .holds p (rw (row-is (old .slot) hy) (unfold tablesOf in z)))
+      (naming (c .«data») (test 1 _ f) at g (old .slot) hy) (λ z. eqb-false (old .dir .0) (at .dir .0) q (sym z)))
   facts o n out e k f (passed.lists at w p r i) = nothing 1 _
   facts o n out e k f (passed.listsPast at w p r i) = nothing 0 _
   facts o n out e k f (passed.changesBits at b q w p y l) =

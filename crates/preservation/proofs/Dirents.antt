@@ -9,7 +9,7 @@ use borrow.Author.Tests.{eq-eqb, ne-eqb, lt-ltb, le-ltb}
 use Rattle.preservation.proofs.Tests.{split, upd, upd2, upd-elim, upd-same, upd-other, means-all, means-eq}
 use Rattle.preservation.proofs.Sums.{ind, count, sum-change, sum2-change, sum2-at, sum-at, sum-none}
 use Rattle.preservation.proofs.Tables.{Tables, col, direntRow, rowsOf, fill, fileTo, bytesTo}
-use Rattle.preservation.proofs.Sound.{All, Slots, Directories, SoundBut, File, Block, Symlink, Dirent, Directory, Depths, naming, linkCount, nameCount, sameRow, NoRom, romRow}
+use Rattle.preservation.proofs.Sound.{All, Slots, Directories, SoundBut, File, Block, Symlink, Dirent, Directory, Depths, naming, linkCount, nameCount, sameRow, validRow, NoRom, romRow}
 use Rattle.preservation.proofs.Rows.{length-to, links-to, version-to}
 use Rattle.preservation.proofs.Counts.{ind-eq}
 use Rattle.rules.specs.Layout.{SLOTS, DIRENTS, DIRENT-WIDTH, NAME, FILE-KIND, FILE-BITS, FILE-LENGTH, FILE-LINKS, FILE-VERSION, FREE, DIRECTORY, LINK, WORD-MAX}
@@ -51,6 +51,10 @@ dir-fill kind rows p r d pl new = record {
       (λ ea ta. split b p (λ eb tb. absurd (n (ea ∙ sym eb))) (λ nb tb. rw (ta, tb) (λ u v e. new u b hb v (sameRow-sym r (rows b) e))))
       (λ na ta. split b p (λ eb tb. rw (ta, tb) (λ u v e. new v a ha u e)) (λ nb tb. rw (ta, tb) (d .different a ha b hb n)));
 }
+
+-- an entry in use: a valid name, a used slot y, and 0
+pub dirent-used : (kind r : ℕ → ℕ) (y : ℕ) → r NAME ≡ y → r (NAME + 1) ≡ 0 → validRow r ≡ true → y < SLOTS → (y ≡ 0 → ⊥) → (kind y ≡ FREE → ⊥) → Dirent kind r
+dirent-used kind r y e l v hy n0 u = record { last-zero = l; slot-small = rw e hy; empty-zero = λ z. absurd (n0 (sym e ∙ z)); slot-used = λ _. rw e u; valid = λ _. v }
 
 -- ---- counts
 

@@ -9,7 +9,7 @@ use lib.Dec.{eqb}
 use lib.ListN.{length, getD, List·getD-eq-default}
 use borrow.Author.Tests.{eqb-true, eqb-false, ltb-true}
 use Rattle.rules.specs.Layout.{SLOTS, BLOCK, DIRENTS, OPEN-FILES, PROCESSES, DESCRIPTORS, RIGHTS-SIZE, LABELS, NO-TRANSITION, BITS-MAX, LABEL-MAX}
-use Rattle.rules.specs.Layout.{FILE-KIND, FILE-OWNER, FILE-LENGTH, FILE-LINKS, OPEN-SLOT, OPEN-OFFSET, OPEN-REFERENCES, PROCESS-USED, FREE, PLAIN, DIRECTORY, LINK}
+use Rattle.rules.specs.Layout.{FILE-KIND, FILE-OWNER, FILE-LENGTH, FILE-LINKS, FILE-VERSION, OPEN-SLOT, OPEN-OFFSET, OPEN-REFERENCES, PROCESS-USED, FREE, PLAIN, DIRECTORY, LINK}
 use Rattle.rules.specs.Scan.{all}
 use Rattle.rules.specs.Store.{Store, Fixed, Table, view, slot, isSlot, isPid, isFd, ofdOf, isOfd, entry, isDirent, subjectOf, up, plus}
 use Rattle.rules.specs.Paths.{names, lastName}
@@ -41,10 +41,11 @@ use Rattle.preservation.specs.Claims.{EndsAt}
 use Rattle.preservation.proofs.Tests.{split, means-every, means-and, means-last, means-or, means-eq, means-le, means-lt, means-test}
 use Rattle.preservation.proofs.OneWord.{Held}
 use Rattle.preservation.proofs.Tables.{overRow}
+use Rattle.preservation.proofs.Dirents.{Fits}
 use Rattle.preservation.proofs.StoreChanges.{tablesOf, desc-past}
 use Rattle.preservation.proofs.SoundStore.{SoundStore, past}
 use Rattle.preservation.proofs.OpenEffects.{Caller, Opens, Holds}
-use Rattle.preservation.proofs.NameEffects.{Naming, Creates, Names}
+use Rattle.preservation.proofs.NameEffects.{rowOf, Naming, Creates, Names}
 
 -- ---- the facts
 
@@ -82,6 +83,10 @@ module _ (K : Fixed) (s : Store) (h : SoundStore s) (c : Call) where
     forks : (q : Pid) → Caller (tablesOf s) (c .process) → q .0 < PROCESSES → tablesOf s .proc (q .0) PROCESS-USED ≡ 0 →
         Granting (q .0) output.Nothing (effect.Forked q (subjectOf (view s .proc) (c .process)))
     exits : Caller (tablesOf s) (c .process) → Granting 0 output.Nothing effect.Exited
+    renames : (d : Slot) (i : ℕ) (y : Slot) → Names s h d i y → Fits (tablesOf s) (d .0) i (rowOf (lastName (names (c .«data»))) y) (up (tablesOf s .file (d .0) FILE-VERSION)) (y .0) →
+        Granting 0 output.Nothing (effect.Renamed (checks.renames (view s .tree .file) d (entry i)) y)
+    transfers : (d : Slot) (i : ℕ) (d′ : Slot) (j : ℕ) (y : Slot) → Names s h d i y → (tablesOf s .file (y .0) FILE-KIND ≡ DIRECTORY → ⊥) → Naming (tablesOf s) (lastName (names (c .«data»))) d′ j y → (d′ .0 ≡ d .0 → ⊥) →
+        Granting 0 output.Nothing (effect.Transferred (loses (view s .tree .file) d (entry i)) (gains (view s .tree .file) d′ (entry j)) y)
     executes : (l : ℕ) → Caller (tablesOf s) (c .process) → l ≤ LABEL-MAX → Granting 0 output.Nothing (effect.Relabelled l)
 
 -- ---- tests and what they say of the tables

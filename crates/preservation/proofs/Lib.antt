@@ -18,6 +18,7 @@ pub mod Link
 pub mod Unlink
 pub mod Remake
 pub mod Create
+pub mod Rename
 pub mod Plain
 pub mod Open
 pub mod Processes
@@ -37,6 +38,7 @@ pub mod CloseEffects
 pub mod ForkEffects
 -- from a decision to what its effect owes
 pub mod DirentRow
+pub mod RenameEffects
 pub mod Prompts
 pub mod Seen
 pub mod NewName
@@ -57,6 +59,7 @@ pub mod OpenStays
 pub mod Borrowed
 pub mod Unwritten
 pub mod NoWrap
+pub mod Transferred
 pub mod Sizes
 pub mod LinksStay
 pub mod Proved

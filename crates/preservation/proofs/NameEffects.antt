@@ -63,7 +63,7 @@ module _ (s : Store) (h : SoundStore s) where
   abbrev pub withName : (name : paths.Name) (d : Slot) (i : ℕ) (y : Slot) → Tables → Tables
   withName name d i y m = direntTo (d .0) i (rowOf name y) (tablesOf s .file (d .0) FILE-LENGTH + 1) (up (tablesOf s .file (d .0) FILE-VERSION)) m
 
-  has-named : (name : paths.Name) (d : Slot) (i : ℕ) (y : Slot) → Naming (tablesOf s) name d i y → {t : Store} {m : Tables} → Has t m →
+  pub has-named : (name : paths.Name) (d : Slot) (i : ℕ) (y : Slot) → Naming (tablesOf s) name d i y → {t : Store} {m : Tables} → Has t m →
       Has (applyAll (nameChanges name y (gains (view s .tree .file) d (entry i))) t) (withName name d i y m)
   unfolding nameChanges applyAll tablesOf
   has-named name d i y n w =
@@ -166,7 +166,7 @@ module _ (s : Store) (h : SoundStore s) where
   abbrev pub withoutName : Slot → ℕ → Tables
   withoutName d i = direntTo (d .0) i noRow (tablesOf s .file (d .0) FILE-LENGTH - 1) (up (tablesOf s .file (d .0) FILE-VERSION)) (tablesOf s)
 
-  has-unnamed : (d : Slot) (i : ℕ) (y : Slot) → Names d i y → Has (applyAll (unnameChanges (loses (view s .tree .file) d (entry i))) s) (withoutName d i)
+  pub has-unnamed : (d : Slot) (i : ℕ) (y : Slot) → Names d i y → Has (applyAll (unnameChanges (loses (view s .tree .file) d (entry i))) s) (withoutName d i)
   unfolding unnameChanges applyAll tablesOf
   has-unnamed d i y n =
       has-fileWord (has-fileWord (has-dirent (its-tables s h) (d .0) i (zeros DIRENT-WIDTH) noRow (n .dir-small) (n .dirent-small) (length-zeros DIRENT-WIDTH) (λ k. getD-zeros DIRENT-WIDTH k))

@@ -1,5 +1,5 @@
 -- No counter of a sound store wraps, but for the version.
-use mathlib.Core.Path.{_≡_, subst}
+use mathlib.Core.Path.{_≡_, refl, subst}
 use mathlib.Core.Bool.{true, cond, not}
 use Prim.Native.Nat.{ℕ, _+_, _-_, _*_, _≤_, _<_}
 use native.Mathlib.Omega.{arith}
@@ -16,6 +16,7 @@ use Rattle.rules.specs.Checks.{held, ofdHeld, sharing, shareOf}
 use Rattle.rules.specs.Decide.{decide}
 use Rattle.rules.specs.Effects as effects
 use Rattle.rules.specs.declared.request.Subject.{Subject}
+use Rattle.rules.specs.declared.ids.Slot.{Slot}
 use Rattle.rules.specs.declared.ids.Pid.{Pid}
 use Rattle.rules.specs.declared.decision.Share.the-variants as share
 use Rattle.rules.specs.declared.decision.Output.{Output}
@@ -24,17 +25,26 @@ use Rattle.rules.specs.declared.decision.Decision.the-variants.{Granted}
 use Rattle.rules.proofs.Passed.{Of, fit-of}
 use Rattle.preservation.specs.Claims.{word, PlainShare, PlainRead, PlainSums}
 use Rattle.preservation.proofs.Words.{up-is, plus-is, length-most, link-most, references-most, offsets-most}
+use Rattle.preservation.proofs.Tables.{direntRow}
+use Rattle.preservation.proofs.Dirents.{used-at}
 use Rattle.preservation.proofs.StoreChanges.{tablesOf}
 use Rattle.preservation.proofs.SoundStore.{SoundStore, means-sound}
 use Rattle.preservation.proofs.OpenEffects.{held-open}
+use Rattle.preservation.proofs.NameEffects.{Names}
 use Rattle.preservation.proofs.ForkEffects.{Sharing, sharing-some, sharing-start, shared-held, shared-up}
-use Rattle.preservation.proofs.Granted.{Granting, nothing, opens, truncates, creates, symlinks, unlinks, removes, links, changesBits, closes, stores, reads, seeks, duplicates, forks, exits, executes}
+use Rattle.preservation.proofs.Granted.{Granting, nothing, opens, truncates, creates, symlinks, unlinks, removes, links, renames, transfers, changesBits, closes, stores, reads, seeks, duplicates, forks, exits, executes}
 use Rattle.preservation.proofs.Decided.{decide-fit}
 use Rattle.preservation.proofs.Preserved.{placed-well, caller-ranged}
 
 module _ (s : Store) (h : SoundStore s) where
   pub length-goes-up : (f : ℕ) → f < SLOTS → up (word s f FILE-LENGTH) ≡ word s f FILE-LENGTH + 1
   length-goes-up f l = let a : tablesOf s .file f FILE-LENGTH ≤ BLOCK = length-most SLOTS (tablesOf s) (h .tables) f l in up-is (word s f FILE-LENGTH) (unfold tablesOf in (omega (arith, a)))
+
+  -- a directory that has an entry has a length to lose
+  length-goes-down : (d : Slot) (i : ℕ) (y : Slot) → Names s h d i y → word s (d .0) FILE-LENGTH - 1 + 1 ≡ word s (d .0) FILE-LENGTH
+  length-goes-down d i y n =
+      let a : 0 < tablesOf s .file (d .0) FILE-LENGTH = rw (h .tables .tree .lengths (d .0) (n .dir-small) (n .dir-kind)) (used-at (direntRow (tablesOf s .byte) (d .0)) i (n .dirent-small) (rw (n .there) (n .not-root))) in
+      unfold tablesOf in (omega (arith, a))
 
   pub links-go-up : (f : ℕ) → f < SLOTS → up (word s f FILE-LINKS) ≡ word s f FILE-LINKS + 1
   links-go-up f l = let a : tablesOf s .file f FILE-LINKS ≤ DIRENTS * SLOTS = link-most SLOTS (tablesOf s) (h .tables) f l in up-is (word s f FILE-LINKS) (unfold tablesOf in (omega (arith, a)))
@@ -65,6 +75,8 @@ module _ (s : Store) (h : SoundStore s) where
   sums c (unlinks d i y n k) = tt
   sums c (removes d i y n k l) = tt
   sums c (links d i y n hy k) = (length-goes-up (d .0) (n .fits .dir-small), links-go-up (y .0) hy)
+  sums c (renames d i y n f) = refl
+  sums c (transfers d i e j y n k m a) = (length-goes-down d i y n, length-goes-up (e .0) (m .fits .dir-small))
   sums c (changesBits y b hy k n l o a) = tt
   sums c (closes i u hi) = tt
   sums c (stores e at o hs l a) = let w = placed-well s h c e at o hs l in (w .offset-is, w .length-is)

@@ -41,6 +41,7 @@ NumberOf k op.Exit = k ≡ 16
 NumberOf k op.Execute = k ≡ 17
 NumberOf k op.Symlink = k ≡ 18
 NumberOf k op.ReadLink = k ≡ 19
+NumberOf k op.Rename = k ≡ 20
 NumberOf k op.Unknown = Unit {0}
 
 numbered : (P : Operation → Type 0) (k : ℕ) → ((o : Operation) → NumberOf k o → P o) → P (operationOf k)
@@ -49,7 +50,8 @@ numbered P k f =
     at 1 (f op.Open) (at 2 (f op.Create) (at 3 (f op.MakeDirectory) (at 4 (f op.Unlink) (at 5 (f op.RemoveDirectory) (
     at 6 (f op.Link) (at 7 (f op.List) (at 8 (f op.ChangeBits) (at 9 (f op.Stat) (at 10 (f op.Close) (
     at 11 (f op.Read) (at 12 (f op.Write) (at 13 (f op.Seek) (at 14 (f op.Duplicate) (at 15 (f op.Fork) (
-    at 16 (f op.Exit) (at 17 (f op.Execute) (at 18 (f op.Symlink) (at 19 (f op.ReadLink) (f op.Unknown tt)))))))))))))))))))
+    at 16 (f op.Exit) (at 17 (f op.Execute) (at 18 (f op.Symlink) (at 19 (f op.ReadLink) (at 20 (f op.Rename) (
+    f op.Unknown tt))))))))))))))))))))
   where
     at : (n : ℕ) {x y : Operation} → (k ≡ n → P x) → P y → P (cond (eqb k n) x y)
     at n {x} {y} f g = by (eqb k n) refl

@@ -25,10 +25,11 @@ use Rattle.preservation.proofs.StoreChanges.{tablesOf}
 use Rattle.preservation.proofs.SoundStore.{SoundStore, AllSound, means-sound}
 use Rattle.preservation.proofs.OpenEffects.{Caller, Writes, leaves-sound, open-leaves, truncate-leaves, move-leaves, duplicate-leaves, bits-leaves, execute-leaves, write-leaves}
 use Rattle.preservation.proofs.NameEffects.{link-leaves, create-leaves, symlink-leaves, unlink-leaves, unnaming-is, remove-leaves}
+use Rattle.preservation.proofs.RenameEffects.{rename-leaves, transfer-leaves}
 use Rattle.preservation.proofs.CloseEffects.{close-leaves, releasing-is, exit-leaves}
 use Rattle.preservation.proofs.Processes.{Ranged}
 use Rattle.preservation.proofs.ForkEffects.{Forks, fork-leaves}
-use Rattle.preservation.proofs.Granted.{Granting, nothing, opens, truncates, creates, symlinks, unlinks, removes, links, changesBits, closes, stores, reads, seeks, duplicates, forks, exits, executes}
+use Rattle.preservation.proofs.Granted.{Granting, nothing, opens, truncates, creates, symlinks, unlinks, removes, links, renames, transfers, changesBits, closes, stores, reads, seeks, duplicates, forks, exits, executes}
 use Rattle.preservation.proofs.Decided.{decide-fit, borrow-fit}
 use Rattle.preservation.proofs.Within.{effect-within}
 
@@ -75,6 +76,8 @@ module _ (s : Store) (h : SoundStore s) (c : Call) where
   effect-keeps (unlinks d i y n k) = leaves-sound (unlink-leaves s h d i y n k (unnaming-is s h y))
   effect-keeps (removes d i y n k l) = leaves-sound (remove-leaves s h d i y n k l)
   effect-keeps (links d i y n hy k) = leaves-sound (link-leaves s h _ d i y n hy k)
+  effect-keeps (renames d i y n f) = leaves-sound (rename-leaves s h _ d i y n f)
+  effect-keeps (transfers d i e j y n k m a) = leaves-sound (transfer-leaves s h _ d i e j y n k m a)
   effect-keeps (changesBits y b hy k n l o a) = leaves-sound (bits-leaves s h (y .0) (b .0) hy k n l)
   effect-keeps (closes i u hi) = close-leaves s h (c .process) i (u .small) hi (u .used) (releasing-is s h (c .process) i (u .small) hi) .sound
   effect-keeps (stores e at o hs l a) = leaves-sound (write-leaves s h (c .«data») _ (placed-well e at o hs l))

@@ -10,6 +10,7 @@ use Rattle.preservation.proofs.BitsChange.{bits-by-call}
 use Rattle.preservation.proofs.OpenStays.{open-plain, open-stays, unlink-keeps-open}
 use Rattle.preservation.proofs.Unwritten.{changed-by-write, open-unwritten}
 use Rattle.preservation.proofs.NoWrap.{length-goes-up, links-go-up, references-go-up, offset-goes-on, granted-sums}
+use Rattle.preservation.proofs.Transferred.{transferred-file}
 use Rattle.preservation.proofs.Sizes.{other-size, other-part}
 use Rattle.preservation.proofs.LinksStay.{link-stays}
 use Rattle.preservation.proofs.Borrowed.{borrow-is-read, borrow-value, borrow-most}
@@ -46,4 +47,5 @@ claims = record {
   borrow-is-read = borrow-is-read;
   borrow-value = borrow-value;
   borrow-most = borrow-most;
+  transferred-file = transferred-file;
 }

@@ -14,7 +14,7 @@ use Rattle.rules.specs.Rom.{seen}
 use Rattle.rules.specs.Paths.{Name}
 use Rattle.rules.specs.Calls.{Call}
 use Rattle.rules.specs.Decide.{placement, decide}
-use Rattle.rules.specs.Effects.{nameChanges, unnameChanges, createChanges, symlinkChanges, linkChanges, unnamedChanges, unlinkChanges, removeChanges, carryOut}
+use Rattle.rules.specs.Effects.{nameChanges, unnameChanges, createChanges, symlinkChanges, linkChanges, unnamedChanges, unlinkChanges, removeChanges, transferChanges, carryOut}
 use Rattle.rules.specs.Step.{Outcome, replyTo, storeAfter, outcomeOf, into, act, step, Action, Calls, Borrows, serve, final}
 use Rattle.rules.specs.declared.ids.Slot.{Slot}
 use Rattle.rules.specs.declared.decision.Record.{Record}
@@ -38,8 +38,9 @@ use Rattle.preservation.proofs.StoreChanges.{tablesOf}
 use Rattle.preservation.proofs.SoundStore.{SoundStore, AllSound, means-sound}
 use Rattle.preservation.proofs.OpenEffects.{Leaves, withOpen, open-leaves, truncate-leaves, move-leaves, duplicate-leaves, bits-leaves, execute-leaves, write-leaves}
 use Rattle.preservation.proofs.NameEffects.{link-leaves, create-leaves, symlink-leaves, unlink-leaves, unnaming-is, remove-leaves}
+use Rattle.preservation.proofs.RenameEffects.{rename-leaves, transfer-leaves}
 use Rattle.preservation.proofs.CloseEffects.{Still, Steady, close-leaves, releasing-is, exit-leaves}
-use Rattle.preservation.proofs.Granted.{AsksWrite, AsksTruncation, Granting, nothing, opens, truncates, creates, symlinks, unlinks, removes, links, changesBits, closes, stores, reads, seeks, duplicates, forks, exits, executes, used-small}
+use Rattle.preservation.proofs.Granted.{AsksWrite, AsksTruncation, Granting, nothing, opens, truncates, creates, symlinks, unlinks, removes, links, renames, transfers, changesBits, closes, stores, reads, seeks, duplicates, forks, exits, executes, used-small}
 use Rattle.preservation.proofs.Decided.{decide-fit}
 use Rattle.preservation.proofs.Preserved.{placed-well, read-fits, forking, effect-keeps, after-sound}
 use Rattle.preservation.proofs.TestedOnce.{step-by}
@@ -70,6 +71,14 @@ module _ (s : Store) where
   remove-open-files : (d : DirChange) (y : Slot) (r : Record) → applyAll (removeChanges d y r) s .openFiles ≡ s .openFiles
   unfolding removeChanges unnameChanges applyAll
   remove-open-files d y r = refl
+
+  rename-open-files : (name : Name) (y : Slot) (d : DirChange) → applyAll (nameChanges name y d) s .openFiles ≡ s .openFiles
+  unfolding nameChanges applyAll
+  rename-open-files name y d = refl
+
+  transfer-open-files : (name : Name) (from to : DirChange) (y : Slot) → applyAll (transferChanges name from to y) s .openFiles ≡ s .openFiles
+  unfolding transferChanges unnameChanges nameChanges applyAll
+  transfer-open-files name from to y = refl
 
 -- ---- each effect
 
@@ -139,6 +148,12 @@ module _ (K : Fixed) (s : Store) (h : SoundStore s) (c : Call) (f : ℕ) where
   effect-leaves (links d i y n hy k) z =
       leaves (link-leaves s h _ d i y n hy k)
       (kept-both f (kept-column f (y .0) FILE-LINKS _ (tablesOf s) (λ k u. u .0)) (kept-written f (d .0) _ _ _ _ (apart (d .0) DIRECTORY (λ a. omega arith) (z .was (link-open-files s _ _ _ _)) (n .fits .dir-kind))))
+  effect-leaves (renames d i y n g) z =
+      leaves (rename-leaves s h _ d i y n g) (kept-written f (d .0) _ _ _ (tablesOf s) (apart (d .0) DIRECTORY (λ a. omega arith) (z .was (rename-open-files s _ _ _)) (n .dir-kind)))
+  effect-leaves (transfers d i e j y n k m a) z =
+      let p = z .was (transfer-open-files s _ _ _ _) in
+      leaves (transfer-leaves s h _ d i e j y n k m a)
+      (kept-both f (kept-written f (d .0) _ _ _ (tablesOf s) (apart (d .0) DIRECTORY (λ b. omega arith) p (n .dir-kind))) (kept-written f (e .0) _ _ _ _ (apart (e .0) DIRECTORY (λ b. omega arith) p (m .fits .dir-kind))))
   effect-leaves (changesBits y b hy k n l o a) z = leaves (bits-leaves s h (y .0) (b .0) hy k n l) (kept-column f (y .0) FILE-BITS _ (tablesOf s) (λ k u. u .1))
   effect-leaves (closes i u hi) y = steadily _ y (close-leaves s h (c .process) i (u .small) hi (u .used) (releasing-is s h (c .process) i (u .small) hi) .steady)
   effect-leaves (stores e at o hs l a) y = split (view s .openFiles e OPEN-SLOT) f (λ q _. inr (inl (rw q at a)))

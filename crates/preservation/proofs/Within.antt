@@ -10,7 +10,7 @@ use Rattle.rules.specs.Scan.{iterate, repeat}
 use Rattle.rules.specs.Layout.{OPEN-FILES, DESCRIPTORS, OPEN-FILE-WIDTH, OPEN-SLOT}
 use Rattle.rules.specs.Store.{Store, Fixed, fdOf, Change, fileWord, fileTo, clearTo, bytesTo, openWord, openTo, openZero, descTo, procWord, procTo, procZero, tab, puts, zeros, change, applyAll}
 use Rattle.rules.specs.Calls.{Call}
-use Rattle.rules.specs.Effects.{nameChanges, unnameChanges, createChanges, symlinkChanges, linkChanges, unnamedChanges, unlinkChanges, removeChanges, openChanges, truncateChanges, releaseChanges, closeChanges, storeChanges, duplicateChanges}
+use Rattle.rules.specs.Effects.{nameChanges, unnameChanges, createChanges, symlinkChanges, linkChanges, unnamedChanges, unlinkChanges, removeChanges, transferChanges, openChanges, truncateChanges, releaseChanges, closeChanges, storeChanges, duplicateChanges}
 use Rattle.rules.specs.Effects.{shareChanges, shared, sharedAll, released, releasedAll, forkChanges, carryOut}
 use Rattle.rules.specs.declared.ids.Pid.{Pid}
 use Rattle.rules.specs.declared.ids.Fd.{Fd}
@@ -24,7 +24,7 @@ use Rattle.rules.specs.declared.decision.Share.the-variants as share
 use Rattle.rules.specs.declared.decision.Output.{Output}
 use Rattle.rules.specs.declared.decision.Effect.{Effect}
 use Rattle.preservation.proofs.SoundStore.{SoundStore, Within, past}
-use Rattle.preservation.proofs.Granted.{Granting, nothing, opens, truncates, creates, symlinks, unlinks, removes, links, changesBits, closes, stores, reads, seeks, duplicates, forks, exits, executes}
+use Rattle.preservation.proofs.Granted.{Granting, nothing, opens, truncates, creates, symlinks, unlinks, removes, links, renames, transfers, changesBits, closes, stores, reads, seeks, duplicates, forks, exits, executes}
 
 -- the open files E, those past the last too, are on numbers below n
 abbrev Below : ℕ → List ℕ → Type 0
@@ -142,7 +142,7 @@ module _ (n : ℕ) where
 -- ---- a granted call
 
 effect-below : (K : Fixed) (s : Store) (h : SoundStore s) (c : Call) {n : ℕ} {o : Output} {e : Effect} → Granting K s h c n o e → Below (past (K .rom)) (s .openFiles) → Below (past (K .rom)) (carryOut c e s .openFiles)
-unfolding carryOut KeepsAll Keeps createChanges symlinkChanges linkChanges nameChanges unlinkChanges unnameChanges removeChanges truncateChanges storeChanges duplicateChanges forkChanges sharedAll releasedAll shared released repeat
+unfolding carryOut KeepsAll Keeps createChanges symlinkChanges linkChanges nameChanges unlinkChanges unnameChanges removeChanges transferChanges truncateChanges storeChanges duplicateChanges forkChanges sharedAll releasedAll shared released repeat
 effect-below K s h c (nothing n o) b = b
 effect-below K s h c (opens n o l) b = all-keep _ _ s (open-keep _ (c .process) n l) b
 effect-below K s h c (truncates n o hs a) b = all-keep _ _ s (append-keep _ (openChanges (c .process) n) _ (open-keep _ (c .process) n (omega arith)) (tt, tt)) b
@@ -151,6 +151,8 @@ effect-below K s h c (symlinks d i y o) b = all-keep _ _ s (tt, (tt, (tt, (tt, (
 effect-below K s h c (unlinks d i y n k) b = all-keep _ _ s (tt, (tt, (tt, unnamed-keep _ _))) b
 effect-below K s h c (removes d i y n k l) b = all-keep _ _ s (tt, (tt, (tt, (tt, tt)))) b
 effect-below K s h c (links d i y n hy k) b = all-keep _ _ s (tt, (tt, (tt, (tt, tt)))) b
+effect-below K s h c (renames d i y n f) b = all-keep _ _ s (tt, (tt, (tt, tt))) b
+effect-below K s h c (transfers d i e j y n k m a) b = all-keep _ _ s (tt, (tt, (tt, (tt, (tt, (tt, tt)))))) b
 effect-below K s h c (changesBits y x hy k n l o a) b = all-keep _ _ s (tt, tt) b
 effect-below K s h c (closes i u hi) b = all-keep _ _ s (close-keep _ (c .process) i _) b
 effect-below K s h c (stores e at o hs l a) b = all-keep _ _ s (tt, (tt, (tt, (tt, ((omega arith, omega arith), tt))))) b

@@ -22,10 +22,12 @@ use Rattle.rules.specs.Checks.{ofdHeld, shareOf}
 use Rattle.rules.specs.Decide.{asker, decide}
 use Rattle.rules.specs.Effects.{descWord, shared}
 use Rattle.rules.specs.Step.{Reply, Outcome, Session, into, act, step, actBorrow, stepBorrow, Action, Calls, Borrows, serve, final, run}
+use Rattle.rules.specs.declared.ids.Slot.{Slot}
 use Rattle.rules.specs.declared.ids.Pid.{Pid}
 use Rattle.rules.specs.declared.ids.Fd.{Fd}
 use Rattle.rules.specs.declared.decision.Walk.{Walk}
 use Rattle.rules.specs.declared.decision.Walk.the-variants.{Reached, Stopped}
+use Rattle.rules.specs.declared.decision.DirChange.{DirChange}
 use Rattle.rules.specs.declared.decision.Share.{Share}
 use Rattle.rules.specs.declared.decision.Share.the-variants as share
 use Rattle.rules.specs.declared.decision.Output.{Output}
@@ -140,7 +142,7 @@ pub record GoodLink (s : Store) (f : ℕ) : Type 0 where
   pub text : pathOk (linkText (view s .tree) (slot f)) ≡ true
 
 -- ---- the numbers that a granted call writes are plain sums: nothing is lost to the 32 bits of a word. A number that only goes down, or is
--- copied, is no sum; the version is left out, since it may wrap.
+-- copied, is no sum, but a rename's lengths are said, since it adds no name and takes none; the version is left out, since it may wrap.
 
 -- a share of open file e: the descriptor's word is e + 1, and there is one reference more
 unfoldable pub PlainShare : View → Share → Type 0
@@ -172,6 +174,8 @@ PlainSums s c o (effect.Forked q who) =
 PlainSums s c o effect.Exited = Unit {0}
 PlainSums s c o (effect.Relabelled label) = Unit {0}
 PlainSums s c o (effect.Symlinked d y r) = d .length ≡ word s (d .dir .0) FILE-LENGTH + 1
+PlainSums s c o (effect.Renamed d y) = d .length ≡ word s (d .dir .0) FILE-LENGTH
+PlainSums s c o (effect.Transferred from to y) = (from .length + 1 ≡ word s (from .dir .0) FILE-LENGTH) × (to .length ≡ word s (to .dir .0) FILE-LENGTH + 1)
 
 -- ---- a borrowing read as a read: its outcome, with the bytes put into a buffer
 
@@ -242,3 +246,6 @@ pub record Claims : Type 0 where
   -- The value of every borrowing read, granted or refused, is how many bytes it hands back, and they are no more than asked.
   pub borrow-value : (K : Fixed) (s : Store) (p : Pid) (i : Fd) (n : ℕ) → stepBorrow K s p i n .reply .value ≡ length (stepBorrow K s p i n .reply .buffer)
   pub borrow-most : (K : Fixed) (s : Store) (p : Pid) (i : Fd) (n : ℕ) → stepBorrow K s p i n .reply .value ≤ n
+  -- 9. What a granted rename takes from one directory to another (call 20; paper 02, R-10) is a plain file or a link: no directory is moved.
+  pub transferred-file : (K : Fixed) (s : Store) (c : Call) (n : ℕ) (o : Output) (from to : DirChange) (y : Slot) → sound K s ≡ true → decide K (seen (K .rom) (view s)) c ≡ Granted n o (effect.Transferred from to y) →
+      (word s (y .0) FILE-KIND ≡ PLAIN) ⊎ (word s (y .0) FILE-KIND ≡ LINK)

@@ -10,6 +10,7 @@ pub mod Guards
 pub mod LinkGuards
 pub mod RomGuards
 pub mod StaleGuards
+pub mod RenameGuards
 pub mod Walks
 pub mod Passed
 pub mod Unused

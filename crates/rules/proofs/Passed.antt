@@ -1,7 +1,7 @@
 -- What a granted decision has passed: one case a call, each check that it has passed an equation. Theorems about all calls case on it.
 use Prim.Native.Nat.{ℕ, _+_, _-_, min}
 use mathlib.Core.Path.{_≡_, refl, subst}
-use mathlib.Core.Bool.{Bool, true, false, cond}
+use mathlib.Core.Bool.{Bool, true, false, cond, not}
 use mathlib.Core.List.{List, [], _∷_}
 use lib.Dec.{eqb, ltb, leb}
 use lib.ListN.{length}
@@ -13,9 +13,9 @@ use Rattle.rules.specs.Directories.{freeDirent, direntRanked}
 use Rattle.rules.specs.Rom.{recordOf}
 use Rattle.rules.specs.Walk.{isDirectory, isPlain, isLink, bitsAllow, labelAllows, walkPath, followPath, walkNew}
 use Rattle.rules.specs.Calls.{Call, operationOf, operation, formOk, wellFormed}
-use Rattle.rules.specs.Checks.{need, after, inUse, held, ofdHeld, isAbsent, freeSlot, freeOfd, freeFd, freePid, gains, loses, freed, unnaming, releasing}
+use Rattle.rules.specs.Checks.{need, after, inUse, held, ofdHeld, isAbsent, freeSlot, freeOfd, freeFd, freePid, gains, loses, renames, freed, unnaming, releasing}
 use Rattle.rules.specs.DecidePaths.{allowed, mayName, naming, newOpen, truncated, opening, openRoom, openFile, openMode, decideOpen, newFile, newRecord, making, createRoom, depthOk, createAt, decideCreate, newLink, decideSymlink, unlinkAt, decideUnlink, removeAt, decideRemove}
-use Rattle.rules.specs.DecidePaths.{linkRoom, linkAt, linkTo, decideLink, listEntry, listAt, decideList, mayChange, changeBitsAt, decideChangeBits, decideStat, bitsAllowExecute, executeAt, decideExecute, readLinkAt, decideReadLink}
+use Rattle.rules.specs.DecidePaths.{linkRoom, linkAt, linkTo, decideLink, listEntry, listAt, decideList, mayChange, changeBitsAt, decideChangeBits, decideStat, bitsAllowExecute, executeAt, decideExecute, readLinkAt, decideReadLink, transferTo, renameTo, renameAt, renameNew, decideRename}
 use Rattle.rules.specs.Decide.{decideClose, labelAllowsOpen, remaining, readOpen, decideRead, writeAt, placement, writeFile, writeSome, writeOpen, decideWrite, decideSeek, duplicateTo, decideDuplicate, forkTo, decideFork, decideOwn, decide, decideBorrow}
 use Rattle.rules.specs.Step.{readOf}
 use Rattle.rules.specs.declared.ids.Slot.{Slot}
@@ -134,6 +134,15 @@ module _ (K : Fixed) (v : View) (c : Call) where
   abbrev pub entryIn : Location → Dirent
   entryIn at = freeDirent (v .tree .shown (at .dir .0))
 
+  -- a file of the store gets a new name, in a directory that has no such name
+  pub record Renaming (old at : Location) : Type 0 where
+    pub found : Walked old
+    pub walked : walkNew (v .tree) Q who (c .«data») ≡ Reached at
+    pub absent : isAbsent at ≡ true
+    pub leaves : Allowed (old .dir) WRITE
+    pub stored : isSlot (old .slot) ≡ true
+    pub enters : Allowed (at .dir) WRITE
+
   abbrev pub Holding : Type 0
   Holding = held (v .desc) (c .process) (c .fd) ≡ true
 
@@ -201,6 +210,10 @@ module _ (K : Fixed) (v : View) (c : Call) where
         Passed op.Symlink (freeSlot file .0) output.Nothing (effect.Symlinked (gains file (at .dir) (entryIn at)) (freeSlot file) (newRecord file who (newLink (length (c .«data»))) (at .dir) (freeSlot file)))
     readsLink : (at : Location) → Walked at → isLink file (at .slot) ≡ true →
         Passed op.ReadLink (linkCount at) (output.Bytes (at .slot) 0 (linkCount at)) effect.Nothing
+    renamesIn : (old at : Location) → Renaming old at → eqb (old .dir .0) (at .dir .0) ≡ true →
+        Passed op.Rename 0 output.Nothing (effect.Renamed (renames file (old .dir) (old .dirent)) (old .slot))
+    transfers : (old at : Location) → Renaming old at → eqb (old .dir .0) (at .dir .0) ≡ false → not (isDirectory file (old .slot)) ≡ true → isDirent (entryIn at) ≡ true →
+        Passed op.Rename 0 output.Nothing (effect.Transferred (loses file (old .dir) (old .dirent)) (gains file (at .dir) (entryIn at)) (old .slot))
 
   -- process (2), form (3), then the call's own checks
   pub record Permit (n : ℕ) (o : Output) (e : Effect) : Type 0 where
@@ -267,6 +280,14 @@ module _ (K : Fixed) (v : View) (c : Call) where
   unfolding decideWrite writeOpen writeSome writeFile
   write-fit = need-fit _ _ _ (λ h. need-fit _ _ _ (λ w. need-fit _ _ _ (λ a. cond-fit _ _ _ (λ z. granting _ _ _ (storesNothing h w a z)) (λ z. need-fit _ _ _ (λ l. granting _ _ _ (stores h w a z l))))))
 
+  rename-fit : Fit (Passed op.Rename) (decideRename Q (v .tree) who (c .path) (c .«data»))
+  unfolding decideRename renameNew renameAt renameTo transferTo
+  rename-fit = after-fit _ _ (λ old u. after-fit _ _ (λ at w. need-fit _ _ _ (λ a. naming-fit (old .dir) (old .slot) _ (λ r y. allowed-fit (at .dir) WRITE _ (λ e.
+      by old at (record { found = u; walked = w; absent = a; leaves = r; stored = y; enters = e }))))))
+    where
+      by : (old at : Location) → Renaming old at → Fit (Passed op.Rename) (renameTo file (v .tree .shown) old (at .dir))
+      by old at h = cond-fit _ _ _ (λ q. granting _ _ _ (renamesIn old at h q)) (λ q. need-fit _ _ _ (λ d. need-fit _ _ _ (λ i. granting _ _ _ (transfers old at h q d i))))
+
   own-fit : (o : Operation) → Fit (Passed o) (decideOwn K v c o)
   unfolding decideOwn decideOpen decideUnlink unlinkAt decideRemove removeAt decideStat decideClose decideRead readOpen decideSeek decideDuplicate duplicateTo forkTo decideExecute executeAt decideReadLink readLinkAt
   own-fit op.Open = after-fit _ _ (λ at w. mode-fit at w (modeOf (c .number)) refl)
@@ -288,6 +309,7 @@ module _ (K : Fixed) (v : View) (c : Call) where
   own-fit op.Execute = after-fit _ _ (λ at w. need-fit _ _ _ (λ p. need-fit _ _ _ (λ b. need-fit _ _ _ (λ l. granting _ _ _ (executes at w p b l)))))
   own-fit op.Symlink = symlink-fit
   own-fit op.ReadLink = after-fit _ _ (λ at w. need-fit _ _ _ (λ l. granting _ _ _ (readsLink at w l)))
+  own-fit op.Rename = rename-fit
   own-fit op.Unknown = refusing _ _
 
   pub permitted : Fit Permit (decide K v c)

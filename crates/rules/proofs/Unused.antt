@@ -49,6 +49,7 @@ module _ (K : Fixed) (v : View) (c d : Call) where
   formed-same op.Execute a = rw (a .process, a .path (λ z. omega (arith, z)))
   formed-same op.Symlink a = rw (a .process, a .path (λ z. omega (arith, z)), a .«data» (λ z. omega (arith, z)))
   formed-same op.ReadLink a = rw (a .process, a .path (λ z. omega (arith, z)), a .buffer)
+  formed-same op.Rename a = rw (a .process, a .path (λ z. omega (arith, z)), a .«data» (λ z. omega (arith, z)))
   formed-same op.Unknown a = refl
 
   pub decided-same : Agree (uses (operation c)) c d → decide K v c ≡ decide K v d
@@ -80,6 +81,8 @@ module _ (K : Fixed) (v : View) (c d : Call) where
   carried-same t o n out e a (passed.executes at w p b l) = rw (a .process)
   carried-same t o n out e a (passed.symlinks at h q) = rw (a .path (λ z. omega (arith, z)), a .«data» (λ z. omega (arith, z)))
   carried-same t o n out e a (passed.readsLink at w l) = refl
+  carried-same t o n out e a (passed.renamesIn old at h q) = rw (a .«data» (λ z. omega (arith, z)))
+  carried-same t o n out e a (passed.transfers old at h q d i) = rw (a .«data» (λ z. omega (arith, z)))
 
   outcome-same : (t : Store) (x : Decision) → Agree (uses (operation c)) c d → Fit (Permit K v c) x → outcomeOf (K .rom) t c (into (c .buffer)) x ≡ outcomeOf (K .rom) t d (into (d .buffer)) x
   unfolding outcomeOf replyTo storeAfter

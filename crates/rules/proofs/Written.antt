@@ -150,6 +150,7 @@ path-most op.Exit = refl
 path-most op.Execute = refl
 path-most op.Symlink = refl
 path-most op.ReadLink = refl
+path-most op.Rename = refl
 path-most op.Unknown = refl
 
 layout-bytes : (w : Written) → w .process .0 < BYTE → w .call < BYTE → w .fd .0 < BYTE → w .number ≤ NUMBER-MAX → length (w .path) ≤ PATH → Bytes (w .path) → Bytes (w .«data») → Bytes (layout w)

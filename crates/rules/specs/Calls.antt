@@ -52,7 +52,8 @@ operationOf n =
     (cond (eqb n 17) op.Execute
     (cond (eqb n 18) op.Symlink
     (cond (eqb n 19) op.ReadLink
-    op.Unknown))))))))))))))))))
+    (cond (eqb n 20) op.Rename
+    op.Unknown)))))))))))))))))))
 
 abbrev pub operation : Call → Operation
 operation c = operationOf (c .call)
@@ -87,6 +88,7 @@ uses op.Exit = parts false false 0 0
 uses op.Execute = parts false false PATH 0
 uses op.Symlink = parts false false PATH PATH
 uses op.ReadLink = reading (parts false true PATH 0)
+uses op.Rename = parts false false PATH PATH
 uses op.Unknown = parts true true PATH BLOCK
 
 -- Two calls agree in what they use: their process, the call, and of these parts those that are used; and the same buffer is lent to both. A call
@@ -130,6 +132,7 @@ formOk op.Exit n p b = true
 formOk op.Execute n p b = pathOk p
 formOk op.Symlink n p b = every (pathBelowRoot p ∷ pathOk b ∷ [])
 formOk op.ReadLink n p b = pathOk p
+formOk op.Rename n p b = every (pathBelowRoot p ∷ pathBelowRoot b ∷ [])
 formOk op.Unknown n p b = false
 
 abbrev pub wellFormed : Call → Bool

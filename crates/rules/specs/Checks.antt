@@ -87,13 +87,16 @@ pidFree proc p = eqb (proc p PROCESS-USED) 0
 abbrev pub freePid : Table → Pid
 freePid proc = pidOf (first (pidFree proc) 0 PROCESSES)
 
--- ---- a directory gains or loses a name: its length, and its version goes up by one
+-- ---- a directory gains or loses a name, or one of its names changes: its length, and its version goes up by one
 
 abbrev pub gains : Table → Slot → Dirent → DirChange
 gains file d i = record { dir = d; dirent = i; length = up (file (d .0) FILE-LENGTH); version = up (file (d .0) FILE-VERSION) }
 
 abbrev pub loses : Table → Slot → Dirent → DirChange
 loses file d i = record { dir = d; dirent = i; length = file (d .0) FILE-LENGTH - 1; version = up (file (d .0) FILE-VERSION) }
+
+abbrev pub renames : Table → Slot → Dirent → DirChange
+renames file d i = record { dir = d; dirent = i; length = file (d .0) FILE-LENGTH; version = up (file (d .0) FILE-VERSION) }
 
 -- ---- "A plain file with no name and no open entry is freed at once, and so is a removed directory"
 

@@ -11,7 +11,7 @@ use Rattle.rules.specs.Rights.{READ, WRITE, bitsOf, reads, writes, appen
 use Rattle.rules.specs.Walk.{labelAllows}
 use Rattle.rules.specs.Calls.{Call, operation, wellFormed}
 use Rattle.rules.specs.Checks.{need, granted, inUse, held, ofdHeld, freeFd, freePid, releasing}
-use Rattle.rules.specs.DecidePaths.{decideOpen, decideCreate, decideUnlink, decideRemove, decideLink, decideList, decideChangeBits, decideStat, decideExecute, decideSymlink, decideReadLink}
+use Rattle.rules.specs.DecidePaths.{decideOpen, decideCreate, decideUnlink, decideRemove, decideLink, decideList, decideChangeBits, decideStat, decideExecute, decideSymlink, decideReadLink, decideRename}
 use Rattle.rules.specs.declared.ids.Slot.{Slot}
 use Rattle.rules.specs.declared.ids.Pid.{Pid}
 use Rattle.rules.specs.declared.ids.Fd.{Fd}
@@ -152,6 +152,7 @@ decideOwn K v c op.Exit = granted 0 effect.Exited
 decideOwn K v c op.Execute = decideExecute (K .policy) (v .tree) (asker v c) (c .path)
 decideOwn K v c op.Symlink = decideSymlink (K .policy) (v .tree) (asker v c) (length (c .«data»)) (c .path)
 decideOwn K v c op.ReadLink = decideReadLink (K .policy) (v .tree) (asker v c) (length (c .buffer)) (c .path)
+decideOwn K v c op.Rename = decideRename (K .policy) (v .tree) (asker v c) (c .path) (c .«data»)
 decideOwn K v c op.Unknown = Refused Malformed 0
 
 -- "Order: 1, 2, 3, then as each call lists"

@@ -1,4 +1,4 @@
--- The calls on paths, once their form is right: 1 to 9 and 17 to 19. The text's order is the order of refusals.
+-- The calls on paths, once their form is right: 1 to 9 and 17 to 20. The text's order is the order of refusals.
 use Prim.Native.Nat.{ℕ, _+_, _-_, min}
 use mathlib.Core.Bool.{Bool, true, false, cond, not}
 use mathlib.Core.List.{List, [], _∷_}
@@ -10,7 +10,7 @@ use Rattle.rules.specs.Rights.{READ, WRITE, EXECUTE, bitsExecute, owns, 
 use Rattle.rules.specs.Directories.{freeDirent, direntRanked}
 use Rattle.rules.specs.Rom.{recordOf}
 use Rattle.rules.specs.Walk.{isDirectory, isPlain, isLink, bitsAllow, labelAllows, walkPath, followPath, walkNew}
-use Rattle.rules.specs.Checks.{need, granted, after, isAbsent, freeSlot, freeOfd, freeFd, gains, loses, freed, unnaming}
+use Rattle.rules.specs.Checks.{need, granted, after, isAbsent, freeSlot, freeOfd, freeFd, gains, loses, renames, freed, unnaming}
 use Rattle.rules.specs.declared.ids.Slot.{Slot}
 use Rattle.rules.specs.declared.ids.Pid.{Pid}
 use Rattle.rules.specs.declared.ids.Fd.{Fd}
@@ -263,3 +263,37 @@ readLinkAt file size s = need (isLink file s) WrongKind (linkRead s (min size (f
 
 unfoldable pub decideReadLink : List ℕ → Tree → Subject → (size : ℕ) → List ℕ → Decision
 decideReadLink Q t who size path = after (walkPath t Q who path) (λ at. readLinkAt (t .file) size (at .slot))
+
+-- ---- 20. Rename (paper 02, R-10): "walk the old; then walk the new one's parent; new name there: 11, even if both paths are equal (POSIX differs); write on
+-- the old parent, then the new (each 9, 10); a directory may move only within its own parent, else 8; a free place (13) only where the parents differ"
+
+-- "Within one parent the place is kept"
+abbrev pub renamed : Table → Location → Decision
+renamed file old = granted 0 (effect.Renamed (renames file (old .dir) (old .dirent)) (old .slot))
+
+abbrev pub transferred : Table → Location → (d : Slot) → Dirent → Decision
+transferred file old d i = granted 0 (effect.Transferred (loses file (old .dir) (old .dirent)) (gains file d i) (old .slot))
+
+unfoldable pub transferTo : Table → Location → (d : Slot) → Dirent → Decision
+transferTo file old d i =
+    need (not (isDirectory file (old .slot))) WrongKind
+    (need (isDirent i) TableFull
+    (transferred file old d i))
+
+-- the same parent is the same slot
+unfoldable pub renameTo : Table → (shown : ℕ → List ℕ) → Location → (d : Slot) → Decision
+renameTo file shown old d = cond (eqb (old .dir .0) (d .0)) (renamed file old) (transferTo file old d (freeDirent (shown (d .0))))
+
+-- at the new name's entry in its parent
+unfoldable pub renameAt : List ℕ → Table → (shown : ℕ → List ℕ) → Subject → (old at : Location) → Decision
+renameAt Q file shown who old at =
+    need (isAbsent at) NameThere
+    (naming file Q who (old .dir) (old .slot)
+    (allowed file Q who (at .dir) WRITE
+    (renameTo file shown old (at .dir))))
+
+unfoldable pub renameNew : List ℕ → Tree → Subject → List ℕ → Location → Decision
+renameNew Q t who new old = after (walkNew t Q who new) (renameAt Q (t .file) (t .shown) who old)
+
+unfoldable pub decideRename : List ℕ → Tree → Subject → (old new : List ℕ) → Decision
+decideRename Q t who old new = after (walkPath t Q who old) (renameNew Q t who new)

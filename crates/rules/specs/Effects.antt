@@ -59,6 +59,9 @@ unlinkChanges d u = unnameChanges d ++ unnamedChanges u
 unfoldable pub removeChanges : DirChange → Slot → Record → List Change
 removeChanges d s r = unnameChanges d ++ (clearTo (s .0) (words r) ∷ [])
 
+unfoldable pub transferChanges : Name → (from to : DirChange) → Slot → List Change
+transferChanges name from to s = unnameChanges from ++ nameChanges name s to
+
 -- ---- open files
 
 -- the word of a descriptor that holds open file e
@@ -135,3 +138,5 @@ carryOut c (effect.Forked q who) t = applyAll (forkChanges q who) (sharedAll (c 
 carryOut c effect.Exited t = applyAll (procZero (c .process .0) ∷ []) (releasedAll (c .process) t)
 carryOut c (effect.Relabelled label) t = applyAll (procWord (c .process .0) PROCESS-LABEL label ∷ []) t
 carryOut c (effect.Symlinked d s r) t = applyAll (symlinkChanges (lastName (names (c .path))) (c .«data») d s r) t
+carryOut c (effect.Renamed d s) t = applyAll (nameChanges (lastName (names (c .«data»))) s d) t
+carryOut c (effect.Transferred from to s) t = applyAll (transferChanges (lastName (names (c .«data»))) from to s) t

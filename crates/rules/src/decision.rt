@@ -112,7 +112,7 @@ pub enum Output {
 }
 
 // What a granted call does. `Truncated`: the paper's cut; `Moved`: a new offset (the paper's position); `Relabelled`: the label after execute;
-// `Symlinked`: a link with its text.
+// `Symlinked`: a link with its text; `Renamed`: another name in the same entry; `Transferred`: a name taken from one directory and given in another.
 pub enum Effect {
     Nothing,
     Opened(NewOpen),
@@ -130,6 +130,8 @@ pub enum Effect {
     Exited,
     Relabelled(u32),
     Symlinked(DirChange, Slot, Record),
+    Renamed(DirChange, Slot),
+    Transferred(DirChange, DirChange, Slot),
 }
 
 // Refused, at a name of the path; or granted, with a value.

@@ -31,6 +31,7 @@ pub enum Operation {
     Execute,
     Symlink,
     ReadLink,
+    Rename,
     Unknown,
 }
 

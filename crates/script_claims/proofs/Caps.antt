@@ -215,6 +215,7 @@ module _ (K : Fixed) (s : Store) (k : ℕ) (path buffer : List ℕ) where
     alike op.Execute = neither refl refl
     alike op.Symlink = names refl (λ x h. second-fails (pathBelowRoot path) (not-path x h))
     alike op.ReadLink = neither refl refl
+    alike op.Rename = names refl (λ x h. second-fails (pathBelowRoot path) (not-below x h))
     alike op.Unknown = refuse (Refused Malformed 0) (refusing Malformed 0) refl refl
 
     rest-same : step K s (asks p n i a) ≡ step K s (asks p n j b)

@@ -127,8 +127,17 @@ unused-of-links : some (block "proc=2\ncall=18\nfd=0\narg=1\npath=/a\ndata=2f61\
 unfolding computing block
 unused-of-links = refl
 
--- "an unknown call leaves nothing unused"; no call has the number 20 or 257
-unknown-call : every (block "proc=2\ncall=0\nfd=9\narg=7\npath=x\ndata=00\n" ∷ block "proc=2\ncall=20\nfd=9\narg=7\npath=x\ndata=00\n" ∷ block "proc=2\ncall=257\nfd=9\narg=7\npath=x\ndata=00\n" ∷ []) ≡ true
+-- a rename has two paths, and no number
+rename-whole : block "proc=2\ncall=20\nfd=0\narg=0\npath=/a\ndata=2f62\n" ≡ true
+unfolding computing block
+rename-whole = refl
+
+unused-of-rename : some (block "proc=2\ncall=20\nfd=0\narg=1\npath=/a\ndata=2f62\n" ∷ block "proc=2\ncall=20\nfd=1\narg=0\npath=/a\ndata=2f62\n" ∷ []) ≡ false
+unfolding computing block
+unused-of-rename = refl
+
+-- "an unknown call leaves nothing unused"; no call has the number 21 or 257
+unknown-call : every (block "proc=2\ncall=0\nfd=9\narg=7\npath=x\ndata=00\n" ∷ block "proc=2\ncall=21\nfd=9\narg=7\npath=x\ndata=00\n" ∷ block "proc=2\ncall=257\nfd=9\narg=7\npath=x\ndata=00\n" ∷ []) ≡ true
 unfolding computing block
 unknown-call = refl
 

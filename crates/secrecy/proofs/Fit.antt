@@ -80,6 +80,8 @@ pub data EffectFit (Q : List ℕ) (v : View) (p : Pid) : Effect → Type 0 where
   exited : EffectFit Q v p effect.Exited
   relabelled : (t label : ℕ) → moved Q (subjectOf (v .proc) p .label) (v .tree .file t FILE-LABEL) ≡ label → EffectFit Q v p (effect.Relabelled label)
   symlinked : (d : DirChange) (s : Slot) (r : Record) → isDirectory (v .tree .file) (d .dir) ≡ true → slotFree (v .tree .file) (s .0) ≡ true → EffectFit Q v p (effect.Symlinked d s r)
+  renamed : (d : DirChange) (s : Slot) → isDirectory (v .tree .file) (d .dir) ≡ true → EffectFit Q v p (effect.Renamed d s)
+  transferred : (from to : DirChange) (s : Slot) → isDirectory (v .tree .file) (from .dir) ≡ true → isDirectory (v .tree .file) (to .dir) ≡ true → EffectFit Q v p (effect.Transferred from to s)
 
 pub record Grant (Q : List ℕ) (v : View) (p : Pid) (n : ℕ) (o : Output) (e : Effect) : Type 0 where
   pub caller : Caller v p
@@ -157,6 +159,8 @@ module _ (K : Fixed) (v : View) (b : Based v) (c : Call) where
   own-fit _ (passed.executes at w p b l) = (silent, relabelled (at .slot .0) _ refl)
   own-fit _ (passed.symlinks at h s) = (silent, symlinked _ _ _ (parent Create refl (c .path) at (h .walked)) (free-slot s))
   own-fit _ (passed.readsLink at w l) = (texted _ _ _ l, nothing)
+  own-fit _ (passed.renamesIn old at h q) = (silent, renamed _ _ (parent Find refl (c .path) old (h .found)))
+  own-fit _ (passed.transfers old at h q d i) = (silent, transferred _ _ _ (parent Find refl (c .path) old (h .found)) (parent Create refl (c .«data») at (h .walked)))
 
   grant : (n : ℕ) (o : Output) (e : Effect) → Permit K v c n o e → Grant (K .policy) v (c .process) n o e
   unfolding inUse

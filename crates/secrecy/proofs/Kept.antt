@@ -16,7 +16,7 @@ use Rattle.rules.specs.Paths.{Name}
 use Rattle.rules.specs.Walk.{isDirectory, isLink, labelAllows}
 use Rattle.rules.specs.Calls.{Call}
 use Rattle.rules.specs.Checks.{slotFree, releasing, shareOf}
-use Rattle.rules.specs.Effects.{nameChanges, unnameChanges, createChanges, symlinkChanges, linkChanges, unnamedChanges, unlinkChanges, removeChanges, openChanges, truncateChanges, releaseChanges, closeChanges, storeChanges, duplicateChanges, shareChanges, shared, sharedAll, released, releasedAll, forkChanges, carryOut, dirWords}
+use Rattle.rules.specs.Effects.{nameChanges, unnameChanges, createChanges, symlinkChanges, linkChanges, unnamedChanges, unlinkChanges, removeChanges, transferChanges, openChanges, truncateChanges, releaseChanges, closeChanges, storeChanges, duplicateChanges, shareChanges, shared, sharedAll, released, releasedAll, forkChanges, carryOut, dirWords}
 use Rattle.rules.specs.Step.{nameOut, bytesOf, bytesOut}
 use Rattle.rules.specs.declared.ids.Slot.{Slot}
 use Rattle.rules.specs.declared.ids.Pid.{Pid}
@@ -39,7 +39,7 @@ use Rattle.secrecy.specs.Claim.{mayRead}
 use Rattle.secrecy.proofs.Tables.{OwnWord}
 use Rattle.secrecy.proofs.Agree.{agree-block}
 use Rattle.secrecy.proofs.Related.{Apart, Secret, Related, apart, view-same, Keeps, KeepsAll, all-keep, append-keep, repeat-keep, alike-keep}
-use Rattle.secrecy.proofs.Fit.{OutputFit, silent, listed, described, fetched, texted, EffectFit, nothing, opened, truncates, created, unlinked, removed, linked, rebitted, closed, stored, shifted, duplicated, forked, exited, relabelled, symlinked}
+use Rattle.secrecy.proofs.Fit.{OutputFit, silent, listed, described, fetched, texted, EffectFit, nothing, opened, truncates, created, unlinked, removed, linked, rebitted, closed, stored, shifted, duplicated, forked, exited, relabelled, symlinked, renamed, transferred}
 use Rattle.rules.specs.declared.request.Subject.{Subject}
 
 -- ---- changes that keep any two related stores
@@ -153,6 +153,10 @@ module _ (K : Fixed) (reach : ℕ → Type 0) (f n L : ℕ) (no-right : (l : ℕ
     unfolding removeChanges
     remove-keep d t x h = append-keep reach f n L (unnameChanges d) _ (unname-keep d h) (clear-keep reach f n L t x)
 
+    transfer-keep : (nm : Name) (from to : DirChange) (t : Slot) → isDirectory (v .tree .file) (from .dir) ≡ true → isDirectory (v .tree .file) (to .dir) ≡ true → KeepsAll reach f n L (transferChanges nm from to t)
+    unfolding transferChanges
+    transfer-keep nm from to t h g = append-keep reach f n L (unnameChanges from) _ (unname-keep from h) (name-keep nm t to g)
+
     -- a write never makes a file shorter
     store-keep : (bs : List ℕ) (w : Placement) → v .tree .file (w .slot .0) FILE-LENGTH ≤ w .length → KeepsAll reach f n L (storeChanges bs w)
     unfolding storeChanges KeepsAll Keeps
@@ -192,6 +196,8 @@ module _ (K : Fixed) (reach : ℕ → Type 0) (f n L : ℕ) (no-right : (l : ℕ
     effect-keep c _ r exited = all-keep reach f n L _ _ _ (tt, tt) (releasedAll-keep reach f n L (c .process) s s′ (apart a z))
     effect-keep c _ r (relabelled t label h) = all-keep reach f n L _ s s′ ((refl, subst reach h (closed-under _ _ (small t) r)), tt) (apart a z)
     effect-keep c _ r (symlinked d t x h g) = all-keep reach f n L _ s s′ (symlink-keep _ (c .«data») d t x h g) (apart a z)
+    effect-keep c _ r (renamed d t h) = all-keep reach f n L _ s s′ (name-keep _ t d h) (apart a z)
+    effect-keep c _ r (transferred from to t h g) = all-keep reach f n L _ s s′ (transfer-keep _ from to t h g) (apart a z)
 
     -- the answer: only reads and a read link look at bytes, and not at those of f
     bytes-of : (t : Slot) → t .0 ≢ f → bytesOf (K .rom) (s .contents) t ≡ bytesOf (K .rom) (s′ .contents) t

@@ -30,6 +30,7 @@ pub fn operation_of(call: u8) -> Operation
         17 => Operation::Execute,
         18 => Operation::Symlink,
         19 => Operation::ReadLink,
+        20 => Operation::Rename,
         _ => Operation::Unknown,
     }
 }
@@ -83,6 +84,7 @@ pub fn uses(o: Operation) -> Parts
         Operation::Execute => parts(false, false, PATH, 0),
         Operation::Symlink => parts(false, false, PATH, PATH),
         Operation::ReadLink => reading(parts(false, true, PATH, 0)),
+        Operation::Rename => parts(false, false, PATH, PATH),
         Operation::Unknown => parts(true, true, PATH, BLOCK),
     }
 }

@@ -133,7 +133,7 @@ fn request(chance: &mut Chance) -> Request {
 #[test]
 fn a_history_tells_what_each_process_holds() {
     let mut chance = Chance(8);
-    let mut granted = [0; 20];
+    let mut granted = [0; 21];
     for _ in 0..40 {
         let mut console = Console::talking();
         for _ in 0..chance.below(4) {

@@ -41,12 +41,15 @@ fn assert_alike(one: &Console, other: &Console, freed: bool) {
     assert_eq!(*one, masked);
 }
 
-/// The same call by chance on both, the answers and buffers compared; whether
-/// it was a read of what is open and refused for its label.
-fn call_both(stores: &mut [Console; 2], chance: &mut Chance) -> bool {
+/// The same call by chance on both, the answers and buffers compared; its
+/// number and refusal.
+fn call_both(stores: &mut [Console; 2], chance: &mut Chance) -> (u8, u32) {
     let mut request = chance.request();
     if request.call == 16 {
         request.call = 11; // else there is soon nobody left
+    }
+    if chance.below(8) == 0 {
+        request.call = 20; // else few of them are granted
     }
     let (path, data) = (chance.path(), chance.data(request.call));
     let size = chance.below(10);
@@ -60,24 +63,29 @@ fn call_both(stores: &mut [Console; 2], chance: &mut Chance) -> bool {
         .each_mut()
         .map(|store| store.borrow(request.process, request.descriptor, size as u32));
     assert_eq!(borrowed, other);
-    request.call == 11 && first.0.refusal == 10
+    (request.call, first.0.refusal)
 }
 
 #[test]
 fn a_file_open_from_the_start_shows_nothing() {
     let mut chance = Chance(6);
-    let (mut refused, mut freed_in) = (0, 0);
+    let (mut refused, mut renamed, mut freed_in) = (0, 0, 0);
     for _ in 0..40 {
         let mut stores = [holding(b"\x01\x02\x03\x04"), holding(b"\xff\x00AB")];
         let mut freed = false;
         for _ in 0..200 {
-            refused += usize::from(call_both(&mut stores, &mut chance));
+            match call_both(&mut stores, &mut chance) {
+                (11, 10) => refused += 1,
+                (20, 0) => renamed += 1,
+                _ => {}
+            }
             freed |= stores[0].kind(KEY) == FREE;
             assert_alike(&stores[0], &stores[1], freed);
         }
         freed_in += usize::from(freed);
     }
     assert!(refused > 100, "{refused}");
+    assert!(renamed > 20, "{renamed}");
     assert!(freed_in < 40, "{freed_in}");
 }
 

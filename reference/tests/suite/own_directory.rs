@@ -8,6 +8,7 @@ use crate::steps::no;
 pub const A: u8 = 1;
 const OTHER: u8 = 2;
 
+pub const FARES: usize = 1;
 pub const FOO: usize = 4;
 pub const BAR: usize = 5;
 const BAZ: usize = 6;
@@ -31,15 +32,21 @@ impl Console {
         console
     }
 
-    /// That bar is what it is in the other store, with the entry of foo that
-    /// names it.
+    /// That bar is what it is in the other store, and foo names it in the same
+    /// entry, under some name: R-10 lets A give it another.
     pub fn assert_bar_stays(&self, before: &Console) {
         assert_eq!(self.file(BAR), before.file(BAR));
         assert_eq!(self.block(BAR), before.block(BAR));
         assert_eq!(self.kind(FOO), before.kind(FOO));
+        assert_eq!(self.block(FOO)[14], BAR as u8);
+        assert_eq!(before.block(FOO)[14], BAR as u8);
+    }
+
+    /// The same under its own name, where no call was a rename.
+    fn assert_bar_keeps_its_name(&self, before: &Console) {
+        self.assert_bar_stays(before);
         assert_eq!(self.block(FOO)[..16], before.block(FOO)[..16]);
         assert_eq!(before.block(FOO)[..4], *b"bar\0");
-        assert_eq!(before.block(FOO)[14], BAR as u8);
     }
 }
 
@@ -64,7 +71,24 @@ fn assert_stuck(console: &mut Console, process: u8) {
     assert_eq!(console.symlink(process, new, "/fares/now"), no(9));
     assert_eq!(console.link(process, "/fares/foo/bar", "/fares/b"), no(8));
     assert_eq!(console.open(process, "/fares/foo/bar", 10), no(8));
+    assert_no_way_by_rename(console, process);
     assert_eq!(*console, before);
+}
+
+/// Bar does not leave foo, and nothing enters bar or leaves it.
+fn assert_no_way_by_rename(console: &mut Console, process: u8) {
+    for (old, new, refusal) in [
+        ("/fares/foo/bar", "/fares/b", 8),
+        ("/fares/foo/bar", "/fares/foo/bar/b", 9),
+        ("/fares/foo/bar/baz", "/fares/b", 9),
+        ("/fares/foo/bar/baz", "/fares/foo/b", 9),
+        ("/fares/foo/bar/baz", "/fares/foo/bar/b", 9),
+        ("/fares/now", "/fares/foo/bar/b", 9),
+        ("/fares/foo", "/fares/foo/b", 8),
+        ("/fares/foo", "/fares/foo/bar/b", 9),
+    ] {
+        assert_eq!(console.rename(process, old, new), no(refusal), "{old}");
+    }
 }
 
 #[test]
@@ -87,7 +111,7 @@ fn no_call_of_as_children_does() {
         assert_eq!(console.exit(3), Ok(0));
         assert_stuck(&mut console, 4);
         assert_stuck(&mut console, A);
-        console.assert_bar_stays(&before);
+        console.assert_bar_keeps_its_name(&before);
     }
 }
 
@@ -101,9 +125,11 @@ fn no_symbolic_link_helps() {
     assert_eq!(console.unlink(A, "/fares/l/baz"), no(9));
     assert_eq!(console.change_bits(A, "/fares/l", 0o777), no(9));
     assert_eq!(console.remove_directory(A, "/fares/l"), no(8));
+    assert_eq!(console.rename(A, "/fares/l/baz", "/fares/b"), no(9));
+    assert_eq!(console.rename(A, "/fares/now", "/fares/l/b"), no(9));
     assert_eq!(console, before);
     assert_eq!(console.unlink(A, "/fares/l"), Ok(0));
-    console.assert_bar_stays(&before);
+    console.assert_bar_keeps_its_name(&before);
 }
 
 /// What A may do with foo, and with baz in other directories, leaves bar as it
@@ -118,7 +144,7 @@ fn what_is_granted_leaves_bar_alone() {
     assert_eq!(console.open(A, "/fares/foo/bar/baz", 1), Ok(0));
     assert_eq!(console.unlink(A, "/fares/b"), Ok(0));
     assert_eq!(console.exit(A), Ok(0));
-    console.assert_bar_stays(&before);
+    console.assert_bar_keeps_its_name(&before);
 }
 
 /// A who shuts himself out of foo has it no less: he lets himself in again.
@@ -129,9 +155,34 @@ fn foos_own_bits_do_not_matter() {
         let before = console.clone();
         assert_eq!(console.change_bits(A, "/fares/foo", bits), Ok(0));
         assert_eq!(console.remove_directory(A, "/fares/foo"), no(12));
-        console.assert_bar_stays(&before);
+        console.assert_bar_keeps_its_name(&before);
     }
     assert_stuck(&mut console, A);
+}
+
+/// "Under some name": A may give bar and foo other names, and has them
+/// no less.
+#[test]
+fn other_names_do_not_help() {
+    for (bits, group) in NOT_WRITABLE {
+        let mut console = Console::bogus(bits, group);
+        let before = console.clone();
+        assert_eq!(console.rename(A, "/fares/foo/bar", "/fares/foo/b"), Ok(0));
+        assert_eq!(console.stat(A, "/fares/foo/bar"), Err((6, 3)));
+        assert_eq!(console.rename(A, "/fares/foo", "/fares/f"), Ok(0));
+        console.assert_bar_stays(&before);
+        assert_eq!(console.block(FOO)[..4], *b"b\0\0\0");
+
+        assert_eq!(console.remove_directory(A, "/fares/f"), no(12));
+        assert_eq!(console.remove_directory(A, "/fares/f/b"), no(12));
+        assert_eq!(console.unlink(A, "/fares/f/b/baz"), no(9));
+        assert_eq!(console.rename(A, "/fares/f/b", "/fares/b"), no(8));
+        console.assert_bar_stays(&before);
+        assert_eq!(console.rename(A, "/fares/f", "/fares/foo"), Ok(0));
+        assert_eq!(console.rename(A, "/fares/foo/b", "/fares/foo/bar"), Ok(0));
+        assert_stuck(&mut console, A);
+        console.assert_bar_keeps_its_name(&before);
+    }
 }
 
 /// The premise that A has no write right on bar: without it the same create is

@@ -112,3 +112,19 @@ fn both_of_a_links_paths_are_read() {
     assert_eq!(console.link(1, "/fares/now", "x"), no(3));
     assert_eq!(console.link(1, "/fares/now", ""), no(3));
 }
+
+#[test]
+fn both_of_a_renames_paths_are_read() {
+    let long = format!("/{}", "x".repeat(15));
+    let longest = "/".repeat(65);
+    let deep = "/d".repeat(9);
+    let bad = [
+        "", "x", "/x/", "/.", "/x/..", "/x\0", "/", "//", &long, &longest, &deep,
+    ];
+    for path in bad {
+        let mut console = Console::new();
+        assert_eq!(console.rename(1, "/fares/now", path), no(3), "{path}");
+        assert_eq!(console.rename(1, path, "/fares/x"), no(3), "{path}");
+        assert_eq!(console.rename(1, path, path), no(3), "{path}");
+    }
+}

@@ -5,7 +5,7 @@ use crate::console::{request, Console, SLOTS};
 use crate::steps::{no, outcome, stopped, Outcome};
 
 /// Three prompts, and every right over all of the store for everyone.
-fn free_for_all() -> Console {
+pub fn free_for_all() -> Console {
     let mut console = Console::open_policy();
     console.rom = Console::talking().rom;
     for slot in 0..4 {
@@ -15,7 +15,7 @@ fn free_for_all() -> Console {
 }
 
 /// That everyone gets this answer to a call on an untouched console.
-fn everyone(expected: Outcome, call: impl Fn(&mut Console, u8) -> Outcome) {
+pub fn everyone(expected: Outcome, call: impl Fn(&mut Console, u8) -> Outcome) {
     for process in 0..3 {
         let mut console = free_for_all();
         assert_eq!(call(&mut console, process), expected, "process {process}");

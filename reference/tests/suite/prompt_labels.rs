@@ -55,6 +55,8 @@ fn a_name_in_it_asks_to_search() {
                 assert_eq!(console.create(process, "/rom/x", 0), stopped(10, 2));
                 assert_eq!(console.unlink(process, "/rom/00"), stopped(10, 2));
                 assert_eq!(console.link(process, "/rom/00", "/x"), stopped(10, 2));
+                assert_eq!(console.rename(process, "/rom/00", "/x"), stopped(10, 2));
+                assert_eq!(console.rename(process, "/key", "/rom/x"), stopped(10, 2));
                 assert_eq!(console.execute(process, "/rom/00"), stopped(10, 2));
             }
         }
@@ -82,6 +84,7 @@ fn changes_are_9_and_not_10() {
         let mut console = with_rights_over_0(0);
         assert_eq!(console.change_bits(process, "/rom", 0), no(9));
         assert_eq!(console.remove_directory(process, "/rom"), no(9));
+        assert_eq!(console.rename(process, "/rom", "/x"), no(9));
         assert_eq!(console.create(process, "/rom", 0), no(11));
         assert_eq!(console.open(process, "/rom", 1), no(8));
         assert_eq!(console.unlink(process, "/rom"), no(8));

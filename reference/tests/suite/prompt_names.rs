@@ -1,7 +1,7 @@
 //! The name "rom": in the root it is taken, elsewhere it is a name as others.
 
 use crate::console::{request, Console, DIRECTORY, FILE_LENGTH, PLAIN, SYMLINK};
-use crate::steps::{no, outcome};
+use crate::steps::{no, outcome, Outcome};
 
 /// All that a directory lists, as user 0 sees it.
 fn listed(console: &mut Console, path: &str) -> Vec<String> {
@@ -57,11 +57,11 @@ fn a_full_root_lists_17_names() {
 }
 
 /// The calls that make a name, each with this one in this place.
-fn make_each(console: &Console, process: u8, path: &str) -> [Result<u32, (u32, u32)>; 4] {
-    [2, 3, 6, 18].map(|call| {
+fn make_each(console: &Console, process: u8, path: &str) -> [Outcome; 5] {
+    [2, 3, 6, 18, 20].map(|call| {
         let mut console = console.clone();
         let (first, second) = match call {
-            6 => ("/fares/now", path),
+            6 | 20 => ("/fares/now", path),
             _ => (path, "/key"),
         };
         let answer = console.call(
@@ -78,7 +78,7 @@ fn make_each(console: &Console, process: u8, path: &str) -> [Result<u32, (u32, u
 fn in_the_root_it_is_there_already() {
     for console in [Console::new(), Console::talking()] {
         for process in 0..3 {
-            let refused = [no(11); 4]; // also where the root's bits would be 9
+            let refused = [no(11); 5]; // also where the root's bits would be 9
             assert_eq!(make_each(&console, process, "/rom"), refused);
             assert_eq!(make_each(&console, process, "///rom"), refused);
         }
@@ -103,7 +103,7 @@ fn other_names_in_the_root_are_free() {
     let console = Console::talking();
     for name in ["ROM", "Rom", "ro", "romm", "rom.", "rom ", " rom", "mor"] {
         let made = make_each(&console, 0, &format!("/{name}"));
-        assert_eq!(made, [Ok(4), Ok(4), Ok(0), Ok(4)], "{name}");
+        assert_eq!(made, [Ok(4), Ok(4), Ok(0), Ok(4), Ok(0)], "{name}");
     }
 }
 
@@ -111,7 +111,7 @@ fn other_names_in_the_root_are_free() {
 fn elsewhere_it_is_free() {
     let mut console = Console::talking();
     let made = make_each(&console, 1, "/fares/rom");
-    assert_eq!(made, [Ok(4), Ok(4), Ok(0), Ok(4)]);
+    assert_eq!(made, [Ok(4), Ok(4), Ok(0), Ok(4), Ok(0)]);
 
     assert_eq!(console.make_directory(1, "/fares/rom", 0o755), Ok(4));
     assert_eq!(console.create(1, "/fares/rom/00", 0o744), Ok(5));

@@ -110,7 +110,7 @@ fn a_run_resumed_with_less_rom() {
 fn the_borrowing_read_is_not_scripted() {
     let mut console = Console::talking();
     console.scripted(open("/rom/00", 1));
-    for call in [0, 20, 21, 255, 256, 65_535] {
+    for call in [0, 21, 22, 255, 256, 65_535] {
         let answered = console.scripted(block(2, call).number(4));
         assert_eq!(answered, lines(3, 0, b""), "{call}");
     }

@@ -18,7 +18,7 @@ fn assert_unsound(rom: &[u8]) {
     let mut console = with_rom(rom);
     let before = console.clone();
     assert!(!console.is_sound(), "{rom:?}");
-    for call in 0..=20 {
+    for call in 0..=21 {
         let answer = console.raw(request(9, call), b"/fares", b"/x", &mut [1; 9]);
         assert_eq!(outcome(&answer), no(1), "{rom:?}");
     }

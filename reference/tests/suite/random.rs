@@ -46,7 +46,7 @@ impl Chance {
     }
 
     pub fn request(&mut self) -> Request {
-        let call = self.mostly_below(20, 22);
+        let call = self.mostly_below(21, 23);
         let number = match call {
             _ if self.one_in(20) => self.below(65_536),
             1 => MODES[self.below(MODES.len())],
@@ -64,7 +64,7 @@ impl Chance {
 
     pub fn data(&mut self, call: u8) -> Vec<u8> {
         match call {
-            6 | 18 => self.path().into_bytes(),
+            6 | 18 | 20 => self.path().into_bytes(),
             _ => vec![65; self.mostly_below(60, 520)],
         }
     }
@@ -75,7 +75,7 @@ impl Chance {
 fn sound_stores_stay_sound() {
     let mut chance = Chance(1);
     let mut refused = [0; 16];
-    let mut granted = [0; 20];
+    let mut granted = [0; 21];
     let mut borrowed = 0;
     for round in 0..40 {
         let mut console = if round % 2 == 0 {

@@ -28,7 +28,7 @@ fn refusal_1_for_tables_of_another_size() {
         resize(&mut console);
         assert!(!console.is_sound());
         let before = console.clone();
-        for call in 0..=20 {
+        for call in 0..=21 {
             let answer = console.raw(request(1, call), b"/fares", b"/x", &mut []);
             assert_eq!(outcome(&answer), no(1));
         }
@@ -81,7 +81,7 @@ fn refusal_2_for_a_process_not_in_use_or_over_7() {
 #[test]
 fn refusal_3_for_unknown_calls() {
     let mut console = Console::new();
-    for call in (20..=255).chain([0]) {
+    for call in (21..=255).chain([0]) {
         let answer = console.call(request(1, call), b"/fares", b"", &mut []);
         assert_eq!(outcome(&answer), no(3));
     }
@@ -114,7 +114,7 @@ fn refusal_3_for_bits_over_511() {
 
 #[test]
 fn refusal_3_for_a_bad_path_in_every_call_with_a_path() {
-    for call in [1, 2, 3, 4, 5, 6, 7, 8, 9, 17] {
+    for call in [1, 2, 3, 4, 5, 6, 7, 8, 9, 17, 18, 19, 20] {
         let mut console = Console::new();
         let request = Request {
             number: 1,
@@ -124,6 +124,7 @@ fn refusal_3_for_a_bad_path_in_every_call_with_a_path() {
         assert_eq!(outcome(&answer), no(3), "{call}");
     }
     assert_eq!(Console::new().link(1, "/fares/now", "/x/"), no(3));
+    assert_eq!(Console::new().rename(1, "/fares/now", "/x/"), no(3));
 }
 
 #[test]
@@ -144,6 +145,8 @@ fn refusal_3_for_the_root_where_barred() {
         assert_eq!(console.unlink(0, root), no(3));
         assert_eq!(console.remove_directory(0, root), no(3));
         assert_eq!(console.link(0, "/fares/now", root), no(3));
+        assert_eq!(console.rename(0, "/fares/now", root), no(3));
+        assert_eq!(console.rename(0, root, "/x"), no(3));
         assert_eq!(console.link(0, root, "/x"), no(8));
         assert_eq!(console.open(0, root, 1), no(8));
     }

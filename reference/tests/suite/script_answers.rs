@@ -136,10 +136,11 @@ fn the_other_calls_use_their_parts() {
         block(3, 17).path("/fares/x"),
         block(3, 16),
         block(1, 4).path("/fares/x"),
-        block(1, 4).path("/fares/d/y"),
+        block(1, 20).path("/fares/d/y").data("/fares/d/z"),
+        block(1, 4).path("/fares/d/z"),
         block(1, 5).path("/fares/d"),
     ];
-    let values = [4, 5, 0, 0, 0, 1, 3, 1, 2, 0, 3, 0, 0, 0, 0, 0];
+    let values = [4, 5, 0, 0, 0, 1, 3, 1, 2, 0, 3, 0, 0, 0, 0, 0, 0];
     let expected: String = values
         .iter()
         .enumerate()

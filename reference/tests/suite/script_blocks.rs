@@ -147,9 +147,9 @@ fn data_that_is_not_lower_case_hex_in_pairs() {
         "0", "a", "000", "A0", "0A", "FF", "fF", "g0", "0g", "0x00", " 00", "00 ", "0 0", "00\r",
         "-1", "+1", "/0", ":0", "`0", "\u{e9}",
     ];
-    // A write and both links use their data, an unknown call uses everything,
+    // A write, both links and a rename use their data, an unknown call uses everything,
     // and an open uses none.
-    for call in [12, 6, 18, 0, 20, 300, 1] {
+    for call in [12, 6, 18, 20, 0, 21, 300, 1] {
         for data in wrong {
             let mut lines = block(1, call).lines();
             lines[5] = format!("data={data}\n").into_bytes();
@@ -159,7 +159,7 @@ fn data_that_is_not_lower_case_hex_in_pairs() {
 }
 
 /// Whether each call uses descriptor, number, path and data.
-const USES: [(u32, [bool; 4]); 22] = [
+const USES: [(u32, [bool; 4]); 23] = [
     (1, [false, true, true, false]),
     (2, [false, true, true, false]),
     (3, [false, true, true, false]),
@@ -179,8 +179,9 @@ const USES: [(u32, [bool; 4]); 22] = [
     (17, [false, false, true, false]),
     (18, [false, false, true, true]),
     (19, [false, true, true, false]),
+    (20, [false, false, true, true]),
     (0, [true; 4]),
-    (20, [true; 4]),
+    (21, [true; 4]),
     (65_535, [true; 4]),
 ];
 
@@ -221,7 +222,7 @@ fn every_value_of_an_unused_part_but_0_and_empty() {
 
 #[test]
 fn an_unknown_call_is_3_after_2() {
-    for call in [0, 20, 21, 255, 256, 257, 273, 65_535] {
+    for call in [0, 21, 22, 255, 256, 257, 273, 65_535] {
         let full = |process| {
             block(process, call)
                 .descriptor(9)

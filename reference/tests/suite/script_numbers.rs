@@ -20,7 +20,7 @@ fn holding() -> Console {
 #[test]
 fn a_high_process_is_not_in_use() {
     for process in HIGH {
-        for call in [1, 10, 15, 16, 18, 20] {
+        for call in [1, 10, 15, 16, 18, 20, 21] {
             let refused = block(process, call);
             assert_eq!(Console::new().scripted(refused), lines(2, 0, b""));
         }
@@ -31,7 +31,7 @@ fn a_high_process_is_not_in_use() {
 
 #[test]
 fn a_high_call_is_unknown() {
-    for call in [255, 256, 257, 256 + 15, 256 + 16, 65_535] {
+    for call in [255, 256, 257, 256 + 15, 256 + 16, 256 + 20, 65_535] {
         assert_eq!(Console::new().scripted(block(1, call)), lines(3, 0, b""));
         assert_eq!(Console::new().scripted(block(3, call)), lines(2, 0, b""));
     }

@@ -21,7 +21,7 @@ fn day() -> Vec<Block> {
         block(1, 7).path("/").number(0),
         block(1, 12).data("95"),
         block(9, 15),
-        block(1, 20).number(5),
+        block(1, 21).number(5),
         block(1, 13).number(500),
         block(1, 2).path("/fares/x").number(4),
         block(1, 9).path("/fares/now"),

@@ -9,7 +9,7 @@ use reference::{Answer, Reason, Request};
 fn scripted(request: Request, path: &str, data: &[u8]) -> Block {
     let call = request.call;
     let mut block = block(request.process.into(), call.into());
-    let unknown = !(1..=19).contains(&call);
+    let unknown = !(1..=20).contains(&call);
     if unknown || (10..=14).contains(&call) {
         block.descriptor = request.descriptor.into();
     }
@@ -19,7 +19,7 @@ fn scripted(request: Request, path: &str, data: &[u8]) -> Block {
     if unknown || !(10..17).contains(&call) {
         block.path = path.into();
     }
-    if unknown || [6, 12, 18].contains(&call) {
+    if unknown || [6, 12, 18, 20].contains(&call) {
         block.data = data.to_vec();
     }
     block

@@ -151,6 +151,11 @@ impl Console {
         outcome(&self.call(request, path.as_bytes(), text.as_bytes(), &mut []))
     }
 
+    pub fn rename(&mut self, process: u8, old: &str, new: &str) -> Outcome {
+        let request = request(process, 20);
+        outcome(&self.call(request, old.as_bytes(), new.as_bytes(), &mut []))
+    }
+
     /// As much of the text as a buffer of this size gets.
     pub fn read_symlink(
         &mut self,

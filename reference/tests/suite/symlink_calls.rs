@@ -139,6 +139,7 @@ fn a_link_at_a_new_name_is_a_name_already_there() {
         assert_eq!(console.make_directory(2, path, 0), no(11));
         assert_eq!(console.symlink(2, path, "/x"), no(11));
         assert_eq!(console.link(2, "/fares/now", path), no(11));
+        assert_eq!(console.rename(2, "/fares/now", path), no(11));
     }
 }
 
@@ -148,7 +149,7 @@ fn a_dangling_link_stops_at_the_name_that_met_it() {
     assert_eq!(console.open(2, "/gone", 1), stopped(6, 1));
     assert_eq!(console.execute(2, "/gone"), stopped(6, 1));
     assert_eq!(console.open(2, "/top/gone", 1), stopped(6, 2));
-    for call in [1, 2, 3, 4, 5, 6, 7, 8, 9, 17, 18, 19] {
+    for call in [1, 2, 3, 4, 5, 6, 7, 8, 9, 17, 18, 19, 20] {
         let mut request = request(0, call);
         request.number = u16::from(call == 1);
         let answer = console.call(request, b"/top/gone/x", b"/x", &mut []);
@@ -174,11 +175,11 @@ fn a_ring_is_refused_only_where_it_is_followed() {
         let answer = linked().call(request(0, call), b"/top/ring", b"/x", &mut []);
         assert_eq!(outcome(&answer), no(refusal), "{call}");
     }
-    for call in [4, 9, 19] {
-        let answer = linked().call(request(0, call), b"/top/ring", b"", &mut []);
+    for call in [4, 9, 19, 20] {
+        let answer = linked().call(request(0, call), b"/top/ring", b"/x", &mut []);
         assert_eq!(outcome(&answer), Ok(0), "{call}");
     }
-    for call in [1, 2, 3, 4, 5, 6, 7, 8, 9, 17, 18, 19] {
+    for call in [1, 2, 3, 4, 5, 6, 7, 8, 9, 17, 18, 19, 20] {
         let mut request = request(0, call);
         request.number = u16::from(call == 1);
         let answer = linked().call(request, b"/top/ring/x", b"/x", &mut []);

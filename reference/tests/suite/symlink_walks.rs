@@ -141,6 +141,17 @@ fn each_walk_of_a_hard_link_has_its_8() {
 }
 
 #[test]
+fn each_walk_of_a_rename_has_its_8() {
+    let mut console = chain(8, "/fares");
+    assert_eq!(console.rename(1, "/1/now", "/1/x"), Ok(0));
+    assert_eq!(console.rename(1, "/1/x", "/fares/1/y"), stopped(6, 2));
+    let mut console = chain(9, "/fares");
+    assert_eq!(console.rename(1, "/1/now", "/2/x"), stopped(15, 1));
+    assert_eq!(console.rename(1, "/2/now", "/1/x"), stopped(15, 1));
+    assert_eq!(console.rename(1, "/2/now", "/2/x"), Ok(0));
+}
+
+#[test]
 fn stop_numbers_count_names_of_the_callers_path() {
     let mut console = with_links(&[
         ("/day", "/fares"),

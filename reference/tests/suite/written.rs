@@ -28,18 +28,29 @@ fn reading_a_text_is_its_path_and_size() {
 }
 
 #[test]
+fn renaming_is_its_two_paths() {
+    let written = encode(full(20), b"/fares/now", b"/fares/old").unwrap();
+    assert_eq!(written, b"\x01\x14\0\0\0\x0a/fares/now/fares/old");
+    for at in [2, 3, 4] {
+        let mut altered = written.clone();
+        altered[at] = 1; // a part that the call does not use
+        assert_eq!(decode(&altered), None);
+    }
+}
+
+#[test]
 fn every_call_is_written_with_the_parts_it_uses() {
     // Calls, whether they use descriptor and number, path and data.
     type Form<'a> = (&'a [u8], [u8; 2], &'a [u8], &'a [u8]);
     let forms: [Form; 8] = [
         (&[1, 2, 3, 7, 8, 19], [0, 1], b"/p", b""),
         (&[4, 5, 9, 17], [0, 0], b"/p", b""),
-        (&[6, 18], [0, 0], b"/p", b"/d"),
+        (&[6, 18, 20], [0, 0], b"/p", b"/d"),
         (&[10, 14], [1, 0], b"", b""),
         (&[11, 13], [1, 1], b"", b""),
         (&[12], [1, 0], b"", b"/d"),
         (&[15, 16], [0, 0], b"", b""),
-        (&[0, 20, 21, 255], [1, 1], b"/p", b"/d"),
+        (&[0, 21, 22, 255], [1, 1], b"/p", b"/d"),
     ];
     for (calls, [descriptor, number], path, data) in forms {
         for &call in calls {
@@ -62,15 +73,15 @@ fn every_call_is_written_with_the_parts_it_uses() {
 
 #[test]
 fn paths_and_texts_of_at_most_64_bytes_are_kept() {
-    for call in [1, 4, 6, 18, 19, 0, 20] {
+    for call in [1, 4, 6, 18, 19, 20, 0, 21] {
         assert!(encode(full(call), &[b'/'; 64], b"/").is_some());
         assert_eq!(encode(full(call), &[b'/'; 65], b"/"), None);
     }
-    for call in [6, 18] {
+    for call in [6, 18, 20] {
         assert!(encode(full(call), b"/", &[b'/'; 64]).is_some());
         assert_eq!(encode(full(call), b"/", &[b'/'; 65]), None);
     }
-    for call in [12, 0, 20, 255] {
+    for call in [12, 0, 21, 255] {
         assert!(encode(full(call), b"/", &[b'/'; 512]).is_some());
         assert_eq!(encode(full(call), b"/", &[b'/'; 513]), None);
     }

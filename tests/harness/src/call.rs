@@ -3,7 +3,7 @@
 use mritvelja::calls::*;
 use std::fmt;
 
-pub const CALLS: usize = 19;
+pub const CALLS: usize = 20;
 /// The row of a borrowing read in a table of counts, which is no call.
 pub const BORROW: usize = CALLS + 1;
 pub const ROWS: usize = BORROW + 1;
@@ -29,6 +29,7 @@ const NAMES: [&str; ROWS] = [
     "execute",
     "symlink",
     "readlink",
+    "rename",
     "borrowing read",
 ];
 
@@ -70,7 +71,7 @@ impl Call {
 
 /// Whether a call, granted, gives or takes a name.
 pub fn changes_names(call: u16) -> bool {
-    u8::try_from(call).is_ok_and(|call| matches!(call, CREATE..=LINK | SYMLINK))
+    u8::try_from(call).is_ok_and(|call| matches!(call, CREATE..=LINK | SYMLINK | RENAME))
 }
 
 pub fn name_of(row: usize) -> &'static str {

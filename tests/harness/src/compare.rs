@@ -12,7 +12,7 @@ use crate::scripts::compare::Scripts;
 use crate::secrecy;
 use crate::sizes;
 use crate::tally::Tally;
-use mritvelja::calls::READ;
+use mritvelja::calls::{READ, RENAME};
 use mritvelja::layout::{BLOCK, SLOTS};
 use mritvelja::{Answer, Tables};
 
@@ -157,6 +157,8 @@ impl Comparison {
         }
         if let Action::Call(call) = action {
             self.tally.walks.count(&self.before, call, &outcome.answer);
+            let renames = &mut self.tally.renames;
+            renames.count(&self.before, call, &outcome.answer);
         }
         let tables = [&self.before, &self.store];
         self.tally.prompts.count(tables, action, &outcome);
@@ -311,7 +313,9 @@ impl Comparison {
             self.tally.pair_calls += 1;
             match pair.step(&mut self.chance) {
                 Ok(Action::Borrow(_)) => self.tally.pair_borrows += 1,
-                Ok(Action::Call(_)) => {}
+                Ok(Action::Call(call)) => {
+                    self.tally.renames.in_pairs += u64::from(call.call == RENAME);
+                }
                 Err((what, action)) => {
                     self.store.clone_from(&pair.one);
                     self.reference.clone_from(&pair.other);

@@ -16,6 +16,7 @@ pub mod held;
 pub mod ownership;
 pub mod programs;
 pub mod prompts;
+pub mod renames;
 pub mod rom;
 pub mod scripts;
 pub mod secrecy;

@@ -6,7 +6,7 @@ use crate::call::Call;
 use crate::programs::Outcome;
 use crate::rom::{self, ROM};
 use crate::tree::{self, Way};
-use mritvelja::calls::{CLOSE, DUPLICATE, EXIT, FORK, LINK};
+use mritvelja::calls::{CLOSE, DUPLICATE, EXIT, FORK, LINK, RENAME};
 use mritvelja::layout::{DESCRIPTORS, FOLLOWS, OPEN_FILES, OPEN_SLOT, PROCESSES, ROOT};
 use mritvelja::{refusals, Tables};
 
@@ -64,7 +64,7 @@ fn meets_rom(tables: &Tables, action: &Action) -> bool {
         Action::Call(call) => match call.call {
             FORK | EXIT => holds_prompt(tables, call.process, None),
             CLOSE..=DUPLICATE => holds_prompt(tables, call.process, Some(call.descriptor)),
-            LINK => leads_to_rom(tables, call) || last_in_rom(tables, &call.data),
+            LINK | RENAME => leads_to_rom(tables, call) || last_in_rom(tables, &call.data),
             _ => leads_to_rom(tables, call),
         },
     }

@@ -4,6 +4,7 @@ use crate::answers::Answers;
 use crate::defects::Defect;
 use crate::features::Features;
 use crate::prompts::Prompts;
+use crate::renames::Renames;
 use crate::sizes;
 use crate::stale::Stale;
 use crate::walks::Walks;
@@ -12,6 +13,7 @@ pub struct Tally {
     pub answers: Answers,
     pub stores: u64,
     pub features: Features,
+    pub renames: Renames,
     pub walks: Walks,
     pub prompts: Prompts,
     pub stale: Stale,
@@ -42,6 +44,7 @@ impl Tally {
             answers: Answers::default(),
             stores: 0,
             features: Features::default(),
+            renames: Renames::default(),
             walks: Walks::default(),
             prompts: Prompts::default(),
             stale: Stale::default(),
@@ -65,6 +68,7 @@ impl Tally {
     pub fn print(&self, defects: &[Defect]) {
         self.answers.print();
         self.features.print();
+        self.renames.print();
         self.walks.print();
         self.prompts.print();
         self.stale.print();

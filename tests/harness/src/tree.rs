@@ -121,7 +121,8 @@ pub fn names(path: &[u8]) -> impl Iterator<Item = &[u8]> {
         .filter(|name| !name.is_empty())
 }
 
-fn look_up(tables: &Tables, directory: usize, name: &[u8]) -> Option<usize> {
+/// What a name in a directory leads to.
+pub fn look_up(tables: &Tables, directory: usize, name: &[u8]) -> Option<usize> {
     let mut entries = entries(tables, directory);
     entries.find(|entry| entry.0 == name).map(|entry| entry.1)
 }

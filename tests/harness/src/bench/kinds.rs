@@ -6,11 +6,16 @@ use super::timing::{nanoseconds, print_head, print_row, side_by_side};
 use super::undo::Undo;
 use crate::call::{name_of, Call, CALLS};
 use crate::programs::reference_act;
+use mritvelja::calls::RENAME;
 use mritvelja::Tables;
 use std::hint::black_box;
 
 const SAMPLES_IN_A_SCENE: usize = 6;
 const TURNS: usize = 100;
+
+/// A rename between two directories has a row of its own, after all calls.
+const BETWEEN: usize = CALLS + 1;
+const KINDS: usize = BETWEEN + 1;
 
 /// A granted call, the store that it met, and what puts the store back.
 struct Sample {
@@ -19,18 +24,27 @@ struct Sample {
     undo: Undo,
 }
 
-pub fn print_by_kind(scenes: &[Scene]) {
+/// The kinds of calls in the scenes, and those of renames in others.
+pub fn print_by_kind(scenes: &[Scene], renames: &[Scene]) {
     println!("\n## By call: a granted call without the soundness test\n");
     print_head("call");
-    let mut samples = collect(scenes);
+    let mut samples = collect(scenes.iter().chain(renames));
     samples[0] = refused_at_once(scenes);
     print_row("refused: process not in use", compare(&mut samples[0]));
     for (kind, samples) in samples.iter_mut().enumerate().skip(1) {
         if samples.is_empty() {
-            println!("| {} | none granted | | |", name_of(kind));
+            println!("| {} | none granted | | |", kind_name(kind));
         } else {
-            print_row(name_of(kind), compare(samples));
+            print_row(kind_name(kind), compare(samples));
         }
+    }
+}
+
+fn kind_name(kind: usize) -> &'static str {
+    match kind {
+        BETWEEN => "rename between two directories",
+        within if within == usize::from(RENAME) => "rename within a directory",
+        kind => name_of(kind),
     }
 }
 
@@ -47,19 +61,24 @@ fn refused_at_once(scenes: &[Scene]) -> Vec<Sample> {
 }
 
 /// Granted calls of each kind from every scene.
-fn collect(scenes: &[Scene]) -> Vec<Vec<Sample>> {
-    let mut samples: Vec<Vec<Sample>> = (0..=CALLS).map(|_| Vec::new()).collect();
+fn collect<'a>(scenes: impl Iterator<Item = &'a Scene>) -> Vec<Vec<Sample>> {
+    let mut samples: Vec<Vec<Sample>> = (0..KINDS).map(|_| Vec::new()).collect();
     for scene in scenes {
-        let mut room = [SAMPLES_IN_A_SCENE; CALLS + 1];
+        let mut room = [SAMPLES_IN_A_SCENE; KINDS];
         let mut tables = scene.start.clone();
         for call in &scene.calls {
             let before = tables.clone();
             let answer = reference_act(&mut tables, call, &mut call.buffer.clone());
-            let kind = call.row();
+            let undo = Undo::between(&before, &tables);
+            let kind = match call.call {
+                // Both directories have other entries then.
+                RENAME if undo.blocks() == 2 => BETWEEN,
+                _ => call.row(),
+            };
             if answer.refusal == 0 && room[kind] > 0 {
                 room[kind] -= 1;
                 samples[kind].push(Sample {
-                    undo: Undo::between(&before, &tables),
+                    undo,
                     tables: before,
                     call: call.clone(),
                 });

@@ -7,7 +7,7 @@ use crate::generate::shape::Shape;
 use crate::generate::store::store_of;
 use crate::generate::CallMaker;
 use crate::programs::*;
-use mritvelja::calls::{READLINK, SYMLINK};
+use mritvelja::calls::{READLINK, RENAME, SYMLINK};
 use mritvelja::Tables;
 use std::hint::black_box;
 
@@ -25,9 +25,18 @@ fn random_store(chance: &mut Chance) -> Tables {
 }
 
 impl Scene {
+    /// Of the calls that there were before rename, so that what was measured then is so still.
     pub fn random(chance: &mut Chance, calls: usize) -> Scene {
         let start = random_store(chance);
         Scene::on(start, chance, calls, |_| true)
+    }
+
+    /// Of renames alone.
+    pub fn of_renames(chance: &mut Chance, calls: usize) -> Scene {
+        let start = random_store(chance);
+        Scene::made(start, chance, calls, |maker, chance, tables| {
+            maker.call_of(chance, tables, RENAME)
+        })
     }
 
     /// With no symbolic link, and no call that makes or reads one.
@@ -50,6 +59,21 @@ impl Scene {
 
     /// So many calls that pass.
     fn on(start: Tables, chance: &mut Chance, calls: usize, pass: fn(&Call) -> bool) -> Scene {
+        Scene::made(start, chance, calls, |maker, chance, tables| loop {
+            let call = maker.call_but_rename(chance, tables);
+            if pass(&call) {
+                return call;
+            }
+        })
+    }
+
+    /// So many calls, each made for the store that those before it leave.
+    fn made(
+        start: Tables,
+        chance: &mut Chance,
+        calls: usize,
+        make: impl Fn(&CallMaker, &mut Chance, &Tables) -> Call,
+    ) -> Scene {
         let mut tables = start.clone();
         let mut maker = CallMaker::without_rom(&tables);
         let mut scene = Scene {
@@ -58,10 +82,7 @@ impl Scene {
             granted: 0,
         };
         while scene.calls.len() < calls {
-            let call = maker.call(chance, &tables);
-            if !pass(&call) {
-                continue;
-            }
+            let call = make(&maker, chance, &tables);
             let mut buffer = call.buffer.clone();
             let answer = reference_act(&mut tables, &call, &mut buffer);
             if answer.refusal == 0 {

@@ -51,6 +51,11 @@ impl Undo {
         }
     }
 
+    /// How many slots have other contents.
+    pub fn blocks(&self) -> usize {
+        self.contents.len()
+    }
+
     pub fn put_back(&self, tables: &mut Tables) {
         self.files.put_back(&mut tables.files);
         for patch in &self.contents {

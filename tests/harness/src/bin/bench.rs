@@ -46,7 +46,7 @@ fn main() -> ExitCode {
     system::print_system_calls();
     scripts::print_scripts(SEED, STORES, CALLS_IN_A_STORE);
     borrows::print_borrows();
-    kinds::print_by_kind(&scenes);
+    kinds::print_by_kind(&scenes, &mixed(Scene::of_renames));
     growth::print_by_size();
     growth::print_by_depth();
     growth::print_by_follows();

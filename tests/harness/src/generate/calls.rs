@@ -12,7 +12,7 @@ use mritvelja::Tables;
 
 /// How often each call is made, the unknown ones at 0.
 const WEIGHTS: [usize; CALLS + 1] = [
-    1, 14, 8, 6, 5, 5, 5, 6, 5, 6, 9, 10, 10, 5, 4, 3, 2, 5, 5, 4,
+    1, 14, 8, 6, 5, 5, 5, 6, 5, 6, 9, 10, 10, 5, 4, 3, 2, 5, 5, 4, 10,
 ];
 const MODES: [u16; 9] = [1, 1, 1, 2, 3, 4, 10, 11, 12];
 /// Mostly of a file that everyone may use; some shut its owner or its group out.
@@ -97,7 +97,13 @@ impl CallMaker {
     }
 
     pub fn call(&self, chance: &mut Chance, tables: &Tables) -> Call {
-        let number = kind_of_call(chance);
+        let number = kind_of_call(chance, &WEIGHTS);
+        self.call_of(chance, tables, number)
+    }
+
+    /// A call but rename, by the same chance as before there was that call.
+    pub fn call_but_rename(&self, chance: &mut Chance, tables: &Tables) -> Call {
+        let number = kind_of_call(chance, &WEIGHTS[..CALLS]);
         self.call_of(chance, tables, number)
     }
 
@@ -117,13 +123,14 @@ impl CallMaker {
             holder.map_or_else(|| scene.descriptor(call), |(_, descriptor)| descriptor);
         let (call, known) = (scene.unknown_call(call), call);
         let number = scene.number(known);
+        let path = scene.path(known, number);
         Call {
             process: process as u8,
             call,
             descriptor: descriptor as u8,
             number,
-            path: scene.path(known, number),
-            data: scene.data(known, descriptor),
+            data: scene.data(known, descriptor, &path),
+            path,
             buffer: scene.buffer(),
         }
     }
@@ -153,11 +160,11 @@ impl CallMaker {
     }
 }
 
-fn kind_of_call(chance: &mut Chance) -> u8 {
-    let mut left = chance.below(WEIGHTS.iter().sum());
+fn kind_of_call(chance: &mut Chance, weights: &[usize]) -> u8 {
+    let mut left = chance.below(weights.iter().sum());
     let mut call = 0;
-    while left >= WEIGHTS[call] {
-        left -= WEIGHTS[call];
+    while left >= weights[call] {
+        left -= weights[call];
         call += 1;
     }
     call as u8
@@ -182,7 +189,7 @@ fn caller(chance: &mut Chance, tables: &Tables, call: u8, user: Option<u32>) -> 
 impl Scene<'_> {
     fn unknown_call(&mut self, call: u8) -> u8 {
         match call {
-            0 => self.chance.pick(&[0, 20, 21, 22, 33, 128, 255]),
+            0 => self.chance.pick(&[0, 21, 22, 23, 33, 128, 255]),
             known => known,
         }
     }
@@ -230,9 +237,11 @@ impl Scene<'_> {
         self.chance.bytes(length)
     }
 
-    fn data(&mut self, call: u8, descriptor: usize) -> Vec<u8> {
+    /// Of a rename the new path, which has to do with the old one.
+    fn data(&mut self, call: u8, descriptor: usize, path: &[u8]) -> Vec<u8> {
         match call {
             6 => self.new_path(),
+            20 => self.renamed(path),
             18 if self.chance.one_in(20) => self.missing_or_odd(),
             18 => self.names.text(self.chance, self.tables),
             12 => {

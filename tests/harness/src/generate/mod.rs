@@ -4,6 +4,7 @@ pub mod calls;
 pub mod names;
 pub mod open_files;
 pub mod paths;
+mod renames;
 pub mod shape;
 pub mod store;
 mod targets;

@@ -33,6 +33,7 @@ impl Scene<'_> {
             8 => self.existing(|_, node| stored(node.target), None),
             9 => self.existing(|_, _| true, None),
             19 => self.existing(|tables, node| kind(tables, node.slot, LINK), None),
+            20 => self.renamable(),
             // Not used by the call, and so of no matter.
             _ => self.unused(),
         }
@@ -49,7 +50,11 @@ impl Scene<'_> {
     }
 
     /// The path of a name that passes; a right is asked of its directory.
-    fn existing(&mut self, pass: impl Fn(&Tables, &Node) -> bool, asked: Option<u32>) -> Vec<u8> {
+    pub(super) fn existing(
+        &mut self,
+        pass: impl Fn(&Tables, &Node) -> bool,
+        asked: Option<u32>,
+    ) -> Vec<u8> {
         if self.chance.one_in(25) {
             return self.missing_or_odd();
         }
@@ -68,7 +73,7 @@ impl Scene<'_> {
     }
 
     /// A link's path or one below it, wherever the link leads.
-    fn by_any_link(&mut self) -> Vec<u8> {
+    pub(super) fn by_any_link(&mut self) -> Vec<u8> {
         let node = self.node(|scene, node| rom::is_kind(scene.tables, node.slot, LINK));
         let path = self.way_to(&node.path);
         if self.chance.one_in(2) {
@@ -78,7 +83,7 @@ impl Scene<'_> {
     }
 
     /// A path of or into /rom, also to what is not there, or of the same name elsewhere.
-    fn by_rom(&mut self) -> Vec<u8> {
+    pub(super) fn by_rom(&mut self) -> Vec<u8> {
         let rom = paths::below(b"/", rom::NAME);
         let number = format!("{:02}", self.chance.below(PROMPTS + 2));
         let prompt = paths::below(&rom, number.as_bytes());
@@ -94,7 +99,7 @@ impl Scene<'_> {
     }
 
     /// The path, at times through links.
-    fn way_to(&mut self, path: &[u8]) -> Vec<u8> {
+    pub(super) fn way_to(&mut self, path: &[u8]) -> Vec<u8> {
         let path = self.names.through(self.chance, path);
         paths::written(self.chance, &path)
     }
@@ -150,7 +155,7 @@ impl Scene<'_> {
     }
 
     /// A name that passes, tried for a few times; then any.
-    fn node(&mut self, pass: impl Fn(&Self, &Node) -> bool) -> Node {
+    pub(super) fn node(&mut self, pass: impl Fn(&Self, &Node) -> bool) -> Node {
         let wanted = self.favourite.filter(|_| self.chance.one_in(4));
         let careless = self.chance.one_in(12);
         let nodes = &self.names.nodes;
@@ -166,7 +171,7 @@ impl Scene<'_> {
     }
 
     /// Whether the caller likely has these rights: a guess that only shapes the calls.
-    fn may(&self, slot: usize, rights: u32) -> bool {
+    pub(super) fn may(&self, slot: usize, rights: u32) -> bool {
         let (who, file) = (
             self.tables.process(self.process),
             rom::file(self.tables, slot),

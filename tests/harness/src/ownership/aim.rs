@@ -11,7 +11,7 @@ use mritvelja::layout::DIRENTS;
 use mritvelja::Tables;
 
 /// The calls that change names or records.
-const AIMED: [u8; 16] = [
+const AIMED: [u8; 19] = [
     OPEN,
     CREATE,
     CREATE,
@@ -24,6 +24,9 @@ const AIMED: [u8; 16] = [
     REMOVE_DIRECTORY,
     LINK,
     LINK,
+    RENAME,
+    RENAME,
+    RENAME,
     CHANGE_BITS,
     CHANGE_BITS,
     SYMLINK,
@@ -42,27 +45,35 @@ pub struct Aim {
 
 impl Aim {
     pub fn at(situation: &Situation, left_out: Option<Supposition>) -> Aim {
-        let nodes = tree::stored_nodes(&situation.tables);
-        let path = |slot| {
-            let node = nodes.iter().find(|node| node.slot == slot);
-            node.map_or_else(|| b"/".to_vec(), |node| node.path.clone())
-        };
         let mut maker = CallMaker::new(&situation.tables);
         if left_out != Some(Supposition::NoOtherCaller) {
             maker.user = Some(situation.user);
         }
-        Aim {
+        let mut aim = Aim {
             maker,
             foo: situation.foo,
             bar: situation.bar,
-            foo_path: path(situation.foo),
-            bar_path: path(situation.bar),
-        }
+            foo_path: Vec::new(),
+            bar_path: Vec::new(),
+        };
+        aim.find(&situation.tables);
+        aim
+    }
+
+    /// Where foo and bar are: a rename takes their paths elsewhere.
+    fn find(&mut self, tables: &Tables) {
+        let nodes = tree::stored_nodes(tables);
+        let path = |slot| {
+            let node = nodes.iter().find(|node| node.slot == slot);
+            node.map_or_else(|| b"/".to_vec(), |node| node.path.clone())
+        };
+        (self.foo_path, self.bar_path) = (path(self.foo), path(self.bar));
     }
 
     /// To be called after names came or went.
     pub fn refresh(&mut self, tables: &Tables) {
         self.maker.refresh(tables);
+        self.find(tables);
     }
 
     /// Aimed half of the time, else any action, at times one that the second claim counts.
@@ -81,7 +92,7 @@ impl Aim {
         let number = chance.pick(&AIMED);
         let mut call = self.maker.call_of(chance, tables, number);
         match number {
-            LINK if chance.one_in(2) => call.data = self.path(chance, tables),
+            LINK | RENAME if chance.one_in(2) => call.data = self.path(chance, tables),
             _ => call.path = self.path(chance, tables),
         }
         call

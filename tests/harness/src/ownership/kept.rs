@@ -7,7 +7,6 @@ use mritvelja::Tables;
 pub struct Kept {
     foo_kind: u32,
     foo_owner: u32,
-    entry: [u8; DIRENT_WIDTH],
     bar_record: [u32; FILE_WIDTH],
     bar_block: [u8; BLOCK],
 }
@@ -15,16 +14,11 @@ pub struct Kept {
 impl Kept {
     pub fn of(situation: &Situation) -> Kept {
         let Situation {
-            tables,
-            foo,
-            entry,
-            bar,
-            ..
+            tables, foo, bar, ..
         } = situation;
         Kept {
             foo_kind: tables.file(*foo)[FILE_KIND],
             foo_owner: tables.file(*foo)[FILE_OWNER],
-            entry: *tables.dirent(*foo, *entry),
             bar_record: *tables.file(*bar),
             bar_block: *tables.block(*bar),
         }
@@ -41,7 +35,10 @@ impl Kept {
                 "foo's owner",
                 tables.file(foo)[FILE_OWNER] == self.foo_owner,
             ),
-            ("foo's entry", *tables.dirent(foo, entry) == self.entry),
+            (
+                "what foo's entry names",
+                tables.dirent_slot(foo, entry) == bar,
+            ),
             ("bar's record", *tables.file(bar) == self.bar_record),
             ("bar's bytes", *tables.block(bar) == self.bar_block),
         ];

@@ -80,7 +80,7 @@ fn raise(block: &mut Block, chance: &mut Chance) {
 
 /// An unknown call, which may use every part.
 fn make_unknown(block: &mut Block, chance: &mut Chance) {
-    block.call = chance.pick(&[0, 20, 21, 22, 255, 256, 257, 267, 65_535]);
+    block.call = chance.pick(&[0, 21, 22, 23, 255, 256, 257, 267, 65_535]);
     block.descriptor = chance.pick(&EDGES);
     block.number = chance.pick(&EDGES);
     if chance.one_in(2) {

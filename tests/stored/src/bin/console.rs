@@ -13,9 +13,9 @@ use stored::tables::{
 const LONGEST: usize = 512;
 
 /// Each call's name, in the order of their numbers.
-const NAMES: [&str; 19] = [
+const NAMES: [&str; 20] = [
     "open", "create", "mkdir", "unlink", "rmdir", "link", "list", "chmod", "stat", "close", "read",
-    "write", "seek", "dup", "fork", "exit", "exec", "symlink", "readlink",
+    "write", "seek", "dup", "fork", "exit", "exec", "symlink", "readlink", "rename",
 ];
 
 /// A line that is not understood.

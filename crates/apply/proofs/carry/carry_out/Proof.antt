@@ -151,11 +151,33 @@ returns-16 c buffer =
     let at-e14 = before-make-symlink .before .before in
     rw (at-e14 .e14 .given .1) (at-make-symlink .make-symlink .ensures _ _)
 
+returns-17 : tie.Need-returns-17
+unfolding carryOut
+returns-17 c buffer =
+    let before-c = c .before .before in
+    let at-rename-entry = before-c .before .before in
+    let before-rename-entry = at-rename-entry .before .before in
+    let at-e15 = before-rename-entry .before .before in
+    rw (at-e15 .e15 .given .1) (at-rename-entry .rename-entry .ensures _ _)
+
+returns-18 : tie.Need-returns-18
+unfolding carryOut
+returns-18 c buffer =
+    let before-c = c .before .before in
+    let at-transfer-entry = before-c .before .before in
+    let before-transfer-entry = at-transfer-entry .before .before in
+    let at-e16 = before-transfer-entry .before .before in
+    rw (at-e16 .e16 .given .1) (at-transfer-entry .transfer-entry .ensures _ _)
+
 pub carry-out-spec : {M : Type 1} → statement M
 carry-out-spec =
     tie.close
     (tie.spec
     (λ c. search needs)
+    (λ c. search needs)
+    (λ c κs. tt)
+    (λ c. search needs)
+    (λ c κs. tt)
     (λ c. search needs)
     (λ c κs. tt)
     (λ c. search needs)
@@ -235,4 +257,10 @@ carry-out-spec =
     returns-15
     (λ c. search needs)
     (λ c. search needs)
-    returns-16)
+    returns-16
+    (λ c. search needs)
+    (λ c. search needs)
+    returns-17
+    (λ c. search needs)
+    (λ c. search needs)
+    returns-18)

@@ -51,6 +51,8 @@ decide-own-spec =
     (λ c. search needs)
     (λ c κs. tt)
     (λ c. search needs)
+    (λ c κs. tt)
+    (λ c. search needs)
     (λ c.
     let at-enum-told = c .before in
     let at-subject = at-enum-told .before .before in
@@ -112,4 +114,8 @@ decide-own-spec =
     let at-enum-told19 = c .before in
     let at-subject = at-enum-told19 .before .before in
     rw (at-enum-told19 .enum-told19 .given .1) (rw (at-subject .subject .ensures) at (c .formed-read-link .ensures)))
-    (λ c. rw (c .enum-told20 .given .1)))
+    (λ c.
+    let at-enum-told20 = c .before in
+    let at-subject = at-enum-told20 .before .before in
+    rw (at-enum-told20 .enum-told20 .given .1) (rw (at-subject .subject .ensures) at (c .formed-rename .ensures)))
+    (λ c. rw (c .enum-told21 .given .1)))
