@@ -1,27 +1,11 @@
 //! Symbolic links and renames: a link on the way is followed, and one at the
 //! last name is renamed itself.
 
-use crate::console::{Console, FILE_LENGTH};
+use crate::console::FILE_LENGTH;
 use crate::steps::{no, stopped};
+use crate::symlink_calls::{linked, LINKS};
 
 const FARES: usize = 1;
-
-/// Links in the root, in slots 4 to 8.
-const LINKS: [(&str, &str); 5] = [
-    ("/day", "/fares"),
-    ("/today", "/day/now"),
-    ("/gone", "/fares/no"),
-    ("/ring", "/ring"),
-    ("/top", "//"),
-];
-
-fn linked() -> Console {
-    let mut console = Console::new();
-    for (slot, (path, text)) in (4..).zip(LINKS) {
-        assert_eq!(console.symlink(0, path, text), Ok(slot));
-    }
-    console
-}
 
 #[test]
 fn a_link_is_renamed_itself() {

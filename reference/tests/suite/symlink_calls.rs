@@ -4,7 +4,7 @@ use crate::console::{request, Console, FILE_BITS, PLAIN, PROCESS_LABEL, SYMLINK}
 use crate::steps::{no, outcome, stopped};
 
 /// Links in the root, in slots 4 to 8.
-const LINKS: [(&str, &str); 5] = [
+pub const LINKS: [(&str, &str); 5] = [
     ("/day", "/fares"),
     ("/today", "/day/now"),
     ("/gone", "/fares/no"),
@@ -12,7 +12,7 @@ const LINKS: [(&str, &str); 5] = [
     ("/top", "//"),
 ];
 
-fn linked() -> Console {
+pub fn linked() -> Console {
     let mut console = Console::new();
     for (slot, (path, text)) in (4..).zip(LINKS) {
         assert_eq!(console.symlink(0, path, text), Ok(slot));
