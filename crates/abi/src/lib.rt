@@ -1,4 +1,6 @@
 // The store for C, but for `mritvelja_act`. A slice crosses as a pointer and a number of elements; slices of any length are taken.
+#![tactic(auto)]
+
 ghost use Rattle.std.specs.Prelude.{◌≡◌, length};
 ghost use Rattle.rules.specs.Store.{fixed, store, pid_of, fd_of};
 ghost use Rattle.rules.specs.Sound.{sound};
@@ -19,7 +21,7 @@ use script_rules::replayed::Replayed;
 
 // What came of a run of a script, as it crosses to C.
 #[repr(C)]
-#[derive(Drop)]
+#[derive(Clone, Copy)]
 pub struct Report {
     // Where the next block begins.
     pub next: usize,

@@ -1,6 +1,8 @@
 // The call without a soundness test, for C. It is compiled apart from the rest of the store: where nothing else calls them, the compiler makes one piece of
 // the decision, the answer and the effect, and hands nothing over in memory. It is `store::call::act` written out: as one function that is called from here
 // the piece is larger than what the compiler takes in.
+#![tactic(auto)]
+
 ghost use Rattle.std.specs.Prelude.{◌≡◌};
 ghost use Rattle.rules.specs.Store.{fixed, store};
 ghost use Rattle.rules.specs.Step.{act};

@@ -20,7 +20,7 @@ use tables::parts::after;
 
 // `value` bytes from `at` on, of the contents where `memory` is 0, of the factory part where it is 1. All are 0 where it is refused, but for the refusal.
 #[repr(C)]
-#[derive(Drop)]
+#[derive(Clone, Copy)]
 pub struct Borrowed {
     pub refusal: u32,
     pub value: u32,

@@ -1,1 +1,2 @@
 // The P cases are theorems about the rules: see specs/.
+#![tactic(auto)]

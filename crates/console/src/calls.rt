@@ -17,7 +17,7 @@ use tables::calls::{operation_of, uses};
 use tables::parts::upto;
 
 // A call as the line has it: its numbers, and how many bytes its path, its data and its buffer have.
-#[derive(Drop)]
+#[derive(Clone, Copy)]
 struct Parsed {
     known: bool,
     request: Request,

@@ -1,4 +1,6 @@
 // Runs a script of calls on the test console, and writes each line with its answer. docs/console.md has the lines.
+#![tactic(auto)]
+
 mod borrows;
 mod calls;
 mod numbers;

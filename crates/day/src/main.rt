@@ -1,4 +1,6 @@
 // Runs a script on the test console, and writes its answers and how far the run came. docs/scripts.md has the lines.
+#![tactic(auto)]
+
 mod test_console;
 
 ghost use Rattle.std.specs.Prelude.{◌≡◌, take};

@@ -19,7 +19,7 @@ use tables::parts::upto;
 use tables::words::copy_bytes;
 
 // An entry that is looked for, 17 where it is missing, and the slot that it names.
-#[derive(Drop)]
+#[derive(Clone, Copy)]
 pub struct Found {
     pub dirent: Dirent,
     pub slot: Slot,

@@ -1,5 +1,7 @@
 // Runs stored calls on stored tables, and writes a line for each call: its answer, and a digest of the tables and the
 // buffer afterwards. docs/recorded.md has the input and the lines.
+#![tactic(auto)]
+
 mod borrows;
 mod calls;
 mod digest;

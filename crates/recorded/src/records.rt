@@ -35,7 +35,7 @@ pub(crate) struct Tables {
     pub(crate) rom_size: usize,
 }
 
-#[derive(Drop)]
+#[derive(Clone, Copy)]
 pub(crate) struct Sizes {
     pub(crate) files: usize,
     pub(crate) contents: usize,

@@ -1,2 +1,4 @@
 // Scripts replayed on the lent tables.
+#![tactic(auto)]
+
 pub mod run;

@@ -1,2 +1,4 @@
 // What a call answers, and the reader's buffer.
+#![tactic(auto)]
+
 pub mod answer;

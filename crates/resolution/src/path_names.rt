@@ -6,13 +6,13 @@ use crate::paths::{ByteClass, in_class, span_end};
 use tables::words::byte;
 
 // At most eight bytes of a name as a word, the first byte the lowest.
-#[derive(Drop)]
+#[derive(Clone, Copy)]
 pub struct Word {
     pub word: u64,
     pub end: usize,
 }
 
-#[derive(Drop)]
+#[derive(Clone, Copy)]
 pub struct PathName {
     pub low: u64,
     pub high: u64,

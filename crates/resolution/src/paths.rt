@@ -10,7 +10,7 @@ use tables::layout::{NAME, NAMES, PATH};
 use tables::words::byte;
 
 // A class of bytes: `Inner` are those that may stand in a name.
-#[derive(Drop)]
+#[derive(Clone, Copy)]
 pub enum ByteClass {
     Slash,
     NotSlash,
@@ -18,7 +18,7 @@ pub enum ByteClass {
 }
 
 // What a path is: malformed, or a number of names.
-#[derive(Drop)]
+#[derive(Clone, Copy)]
 pub enum Parsed {
     Bad,
     Names(u8),

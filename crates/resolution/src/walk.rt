@@ -23,7 +23,7 @@ use tables::ids::is_entry;
 use tables::layout::{FOLLOWS, NAMES};
 
 // What is left of a path: from `start` on, where the k-th name starts if there is one.
-#[derive(Drop)]
+#[derive(Clone, Copy)]
 struct Rest {
     start: usize,
     k: u32,

@@ -16,7 +16,7 @@ use rules::rights::{Bits, Rights};
 use tables::ids::is_slot;
 
 // The answer to a subject that asks for rights over a slot.
-#[derive(Drop)]
+#[derive(Clone, Copy)]
 pub enum Permission {
     Allowed,
     Forbidden(Refusal),

@@ -1,2 +1,4 @@
 // Whole rows and entries stored in the tables.
+#![tactic(auto)]
+
 pub mod rows;

@@ -1,6 +1,6 @@
 // The answer of a call, as it crosses to C. The reader's buffer is lent beside it.
 #[repr(C)]
-#[derive(Drop)]
+#[derive(Clone, Copy)]
 pub struct Answer {
     pub refusal: u32,
     pub stop: u32,

@@ -6,7 +6,7 @@ use crate::rights::{Bits, OpenMode};
 
 // Where a walk came to: a slot, and the directory and directory entry that name it; how many names deep it lies, as the walk came to it; and how many
 // symbolic links may still be followed.
-#[derive(Drop)]
+#[derive(Clone, Copy)]
 pub struct Location {
     pub dir: Slot,
     pub dirent: Dirent,
@@ -17,7 +17,7 @@ pub struct Location {
 
 // What a path is walked for: the file that it names; the file that a link by that name leads to; or a new name in its parent, which may be there or
 // not.
-#[derive(Drop)]
+#[derive(Clone, Copy)]
 pub enum Intent {
     Find,
     Follow,
@@ -25,14 +25,14 @@ pub enum Intent {
 }
 
 // A walk reaches a location, or stops with a refusal at a name of the path, counted from 1: the paper's stop number.
-#[derive(Drop)]
+#[derive(Clone, Copy)]
 pub enum Walk {
     Reached(Location),
     Stopped(Refusal, u32),
 }
 
 // A file's record, in the order of its columns. Its links are the paper's names, its version the paper's stamp.
-#[derive(Drop)]
+#[derive(Clone, Copy)]
 pub struct Record {
     pub kind: u32,
     pub owner: u32,
@@ -45,7 +45,7 @@ pub struct Record {
 }
 
 // What a file that is made has of its own. A link's length is that of its text.
-#[derive(Drop)]
+#[derive(Clone, Copy)]
 pub struct NewFile {
     pub kind: u32,
     pub bits: Bits,
@@ -53,7 +53,7 @@ pub struct NewFile {
 }
 
 // A directory entry (the paper's place) that is written or cleared, with the directory's new length and version.
-#[derive(Drop)]
+#[derive(Clone, Copy)]
 pub struct DirChange {
     pub dir: Slot,
     pub dirent: Dirent,
@@ -62,7 +62,7 @@ pub struct DirChange {
 }
 
 // A new open file (the paper's open entry), and the descriptor that holds it.
-#[derive(Drop)]
+#[derive(Clone, Copy)]
 pub struct NewOpen {
     pub fd: Fd,
     pub ofd: Ofd,
@@ -72,7 +72,7 @@ pub struct NewOpen {
 
 // Bytes to be written at `at`: the file's end and the gap behind it, and its length, version (the paper's stamp) and offset (the paper's
 // position) afterwards.
-#[derive(Drop)]
+#[derive(Clone, Copy)]
 pub struct Placement {
     pub ofd: Ofd,
     pub slot: Slot,
@@ -85,7 +85,7 @@ pub struct Placement {
 }
 
 // What becomes of a plain file or a link that loses a name: it keeps its slot, with its links afterwards; or the slot is freed, with its record afterwards.
-#[derive(Drop)]
+#[derive(Clone, Copy)]
 pub enum Unnamed {
     Kept(Slot, u32),
     Freed(Slot, Record),
@@ -93,7 +93,7 @@ pub enum Unnamed {
 
 // What becomes of the open file of a descriptor that is emptied: nothing was held; references remain; the open file
 // goes; its file goes with it, with its record afterwards.
-#[derive(Drop)]
+#[derive(Clone, Copy)]
 pub enum Release {
     Nothing,
     Kept(Ofd, u32),
@@ -102,7 +102,7 @@ pub enum Release {
 }
 
 // What a child gets of one of its parent's descriptors: nothing; or the open file, with its references afterwards.
-#[derive(Drop)]
+#[derive(Clone, Copy)]
 pub enum Share {
     Nothing,
     Held(Ofd, u32),
@@ -110,7 +110,7 @@ pub enum Share {
 
 // What a granted call answers beside its value: nothing; the name of a directory entry; a file's record; bytes of a slot,
 // from where and how many.
-#[derive(Drop)]
+#[derive(Clone, Copy)]
 pub enum Output {
     Nothing,
     Name(Slot, Dirent),
@@ -120,7 +120,7 @@ pub enum Output {
 
 // What a granted call does. `Truncated`: the paper's cut; `Moved`: a new offset (the paper's position); `Relabelled`: the label after execute;
 // `Symlinked`: a link with its text; `Renamed`: another name in the same entry; `Transferred`: a name taken from one directory and given in another.
-#[derive(Drop)]
+#[derive(Clone, Copy)]
 pub enum Effect {
     Nothing,
     Opened(NewOpen),
@@ -143,7 +143,7 @@ pub enum Effect {
 }
 
 // Refused, at a name of the path; or granted, with a value.
-#[derive(Drop)]
+#[derive(Clone, Copy)]
 pub enum Decision {
     Refused(Refusal, u32),
     Granted(u32, Output, Effect),

@@ -2,7 +2,7 @@
 use crate::ids::{Fd, Pid};
 
 // The numbers of a call. Its path, its bytes and the reader's buffer are lent beside it.
-#[derive(Drop)]
+#[derive(Clone, Copy)]
 pub struct Request {
     pub process: Pid,
     pub call: u8,
@@ -11,7 +11,7 @@ pub struct Request {
 }
 
 // Which call a number names.
-#[derive(Drop)]
+#[derive(Clone, Copy)]
 pub enum Operation {
     Open,
     Create,
@@ -38,7 +38,7 @@ pub enum Operation {
 
 // Which parts a call uses: its descriptor, its number; of its path and its last text, the most bytes that a kept call has, 0 where it has none;
 // and whether it reads into a buffer, whose size is then its number.
-#[derive(Drop)]
+#[derive(Clone, Copy)]
 pub struct Parts {
     pub fd: bool,
     pub number: bool,
@@ -48,7 +48,7 @@ pub struct Parts {
 }
 
 // Who asks.
-#[derive(Drop)]
+#[derive(Clone, Copy)]
 pub struct Subject {
     pub user: u32,
     pub group: u32,

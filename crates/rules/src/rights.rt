@@ -4,10 +4,10 @@ ghost use Rattle.std.specs.Prelude.{◌≡◌};
 ghost use Rattle.rules.specs.Rights.{rights_known, rights_of, bits_known, bits_of, mode_of, mode_known, mode_kept};
 
 // A set of rights: read 4, write 2, search or execute 1.
-#[derive(Drop)]
+#[derive(Clone, Copy)]
 pub struct Rights(pub u32);
 
-#[derive(Drop)]
+#[derive(Clone, Copy)]
 pub enum RightsNumber {
     Valid(Rights),
     OutOfRange,
@@ -34,6 +34,7 @@ impl Rights {
     }
 
     // The number is one of rights.
+    #[tactic(auto, unfolding(crate::specs::Rights::rights_valid))]
     pub fn known(n: u32) -> bool
         ensures { result ≡ rights_known n }
     {
@@ -46,10 +47,10 @@ impl Rights {
 }
 
 // Permission bits: the rights that a file gives to its owner (64 each), its group (8 each) and others.
-#[derive(Drop)]
+#[derive(Clone, Copy)]
 pub struct Bits(pub u32);
 
-#[derive(Drop)]
+#[derive(Clone, Copy)]
 pub enum BitsNumber {
     Valid(Bits),
     OutOfRange,
@@ -67,6 +68,7 @@ impl Bits {
     }
 
     // The number is one of bits.
+    #[tactic(auto, unfolding(crate::specs::Rights::bits_valid))]
     pub fn known(n: u32) -> bool
         ensures { result ≡ bits_known n }
     {
@@ -79,10 +81,10 @@ impl Bits {
 }
 
 // The mode of an open file.
-#[derive(Drop)]
+#[derive(Clone, Copy)]
 pub struct OpenMode(pub u32);
 
-#[derive(Drop)]
+#[derive(Clone, Copy)]
 pub enum ModeNumber {
     // The file is opened as it is.
     Keep(OpenMode),
@@ -116,6 +118,7 @@ impl OpenMode {
     }
 
     // The number is one that an open may be given.
+    #[tactic(auto, unfolding(crate::specs::Rights::mode_known))]
     pub fn known(n: u32) -> bool
         ensures { result ≡ mode_known (mode_of n) }
     {
@@ -128,6 +131,7 @@ impl OpenMode {
     }
 
     // The number is one that an open file has: the 8 of an open that truncates is not kept.
+    #[tactic(auto, unfolding(crate::specs::Rights::mode_kept))]
     pub fn kept(n: u32) -> bool
         ensures { result ≡ mode_kept (mode_of n) }
     {

@@ -16,7 +16,7 @@ use script_text::numbers::{NO_NUMBER, NUMBER_MAX, number_of, number_ok};
 use tables::calls::{operation_of, uses};
 
 // A block's numbers, each `NO_NUMBER` where its line is broken.
-#[derive(Drop)]
+#[derive(Clone, Copy)]
 pub struct Numbers {
     pub process: u32,
     pub call: u32,

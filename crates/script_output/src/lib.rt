@@ -1,2 +1,4 @@
 // A script's output: an answer is written.
+#![tactic(auto)]
+
 pub mod answers;

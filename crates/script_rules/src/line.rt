@@ -1,5 +1,5 @@
 // The six lines of a block, each with a key.
-#[derive(Drop)]
+#[derive(Clone, Copy)]
 pub enum Line {
     Proc,
     Call,

@@ -3,7 +3,7 @@ ghost use Rattle.std.specs.Prelude.{◌≡◌};
 ghost use Rattle.script_rules.specs.Reasons.{reason_number};
 
 // Why a run stopped. The numbers are given by the definition `reason_number`.
-#[derive(Drop)]
+#[derive(Clone, Copy)]
 pub enum Reason {
     // The script's end.
     End,
@@ -28,7 +28,7 @@ impl Reason {
     }
 }
 
-#[derive(Drop)]
+#[derive(Clone, Copy)]
 pub struct Replayed {
     // Calls answered.
     pub calls: u32,

@@ -1,2 +1,4 @@
 // One block of a script, served on the lent tables.
+#![tactic(auto)]
+
 pub mod turn;

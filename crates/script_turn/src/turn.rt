@@ -19,7 +19,7 @@ use tables::layout::BLOCK;
 use tables::parts::upto;
 
 // The run stops; or a call is answered: the bytes of its block, and of its answer.
-#[derive(Drop)]
+#[derive(Clone, Copy)]
 pub enum Turn {
     Stopped(Reason),
     Answered(usize, usize),

@@ -1,1 +1,2 @@
 // Theorems alone: the runs of specs/, computed.
+#![tactic(auto)]

@@ -1,4 +1,6 @@
 // "Sound": the test that runs before every call, or once before a script's, of the store and of the policy apart.
+#![tactic(auto)]
+
 mod bytes;
 mod dirents;
 mod fields;

@@ -1,2 +1,4 @@
 // The stages of a call, one at a time.
+#![tactic(auto)]
+
 pub mod call;

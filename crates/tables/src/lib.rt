@@ -1,4 +1,6 @@
 // The lent tables: total reads and stores, and every field by its named column and typed index.
+#![tactic(auto)]
+
 pub mod calls;
 pub mod directories;
 pub mod files;

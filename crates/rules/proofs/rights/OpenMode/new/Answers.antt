@@ -1,15 +1,9 @@
-use Prim.Native.Nat.{ℕ}
-use mathlib.Core.Path.{◌≡◌, refl}
-use mathlib.Core.Bool.{Bool, true, false}
-use mathlib.Core.List.{[], ◌∷◌}
-use native.Mathlib.Omega.{arith}
-use lib.Dec.{leb}
+use Rattle.std.proofs.Common.{ℕ, ◌≡◌, refl, Bool, true, false, [], ◌∷◌, arith, leb}
 use borrow.Author.Tests.{leb-true}
 use Rattle.rules.specs.Choice.{every}
 use Rattle.rules.specs.Rights.{mode_of}
 use Rattle.rules.specs.declared.rights.ModeNumber.TheVariants.{OutOfRange}
-use Rattle.rules.proofs.rights.OpenMode.new.Statement.{statement}
-use Rattle.rules.proofs.rights.OpenMode.new.Tie as tie
+use Rattle.rules.proofs.rights.OpenMode.new.Goals as goal
 
 -- two tests of which not both pass
 not-both : (a b : Bool) → (a ≡ true → b ≡ true → ⊥) → every (a ∷ b ∷ []) ≡ false
@@ -28,16 +22,33 @@ unknown : (n : ℕ) → (n ≡ 1 → ⊥) → (n ≡ 2 → ⊥) → (n ≡ 3 →
 unfolding mode_of
 unknown n n1 n2 n3 n4 n10 n11 n12 = rw (not_low n n1 n2 n3 n4, not-high n n10 n11 n12)
 
-pub new_spec : {M : Type 1} → statement M
+pub returns-in-1 : goal.returns-in-1
 unfolding mode_of every
-new_spec =
-    tie.close
-    (tie.spec
-    (λ c. rw c.match.keys1)
-    (λ c. rw c.match.keys2)
-    (λ c. rw c.match.keys3)
-    (λ c. rw c.match.keys4)
-    (λ c. rw c.match.keys5)
-    (λ c. rw c.match.keys6)
-    (λ c. rw c.match.keys7)
-    (λ c. search unknown))
+returns-in-1 c = rw c.in-1.is
+
+pub returns-in-2 : goal.returns-in-2
+unfolding mode_of every
+returns-in-2 c = rw c.in-2.is
+
+pub returns-in-3 : goal.returns-in-3
+unfolding mode_of every
+returns-in-3 c = rw c.in-3.is
+
+pub returns-in-4 : goal.returns-in-4
+unfolding mode_of every
+returns-in-4 c = rw c.in-4.is
+
+pub returns-in-10 : goal.returns-in-10
+unfolding mode_of every
+returns-in-10 c = rw c.in-10.is
+
+pub returns-in-11 : goal.returns-in-11
+unfolding mode_of every
+returns-in-11 c = rw c.in-11.is
+
+pub returns-in-12 : goal.returns-in-12
+unfolding mode_of every
+returns-in-12 c = rw c.in-12.is
+
+pub returns-in_default : goal.returns-in_default
+returns-in_default c = search unknown
