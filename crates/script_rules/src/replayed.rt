@@ -16,6 +16,7 @@ pub enum Reason {
 }
 
 impl Reason {
+    #[tactic(auto, unfolding(crate::specs::Reasons::reason_number))]
     pub fn number(self) -> u32
         ensures { result ≡ reason_number self }
     {

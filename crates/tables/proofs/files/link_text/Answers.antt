@@ -1,0 +1,6 @@
+use Rattle.rules.specs.Store.{shown_of}
+use Rattle.tables.proofs.files.link_text.Goals as goal
+
+pub returns : goal.returns
+unfolding shown_of
+returns c = cc
