@@ -3,38 +3,42 @@ use mathlib.Core.Path.{◌≡◌, refl, ap}
 use mathlib.Core.Bool.{true}
 use mathlib.Core.Logic.{◌⊎◌, inl, inr}
 use Prim.Native.Nat.{ℕ, ◌-◌}
+use lib.ListN.{length}
 use native.Mathlib.Decide.{ℕ_discrete}
-use Rattle.rules.specs.Layout.{FILE_KIND, FILE_OWNER, FILE_BITS, FREE, PLAIN}
-use Rattle.rules.specs.Store.{Store, Fixed, view, slot, subject_of}
+use Rattle.rules.specs.Layout.{FILE_KIND, FILE_OWNER, FILE_BITS, FREE, PLAIN, OPEN_SLOT, OPEN_OFFSET}
+use Rattle.rules.specs.Store.{Store, Fixed, view, slot, ofd_of, subject_of}
 use Rattle.rules.specs.Refusals.{GRANTED}
 use Rattle.rules.specs.Rights.{owns}
 use Rattle.rules.specs.Calls.{Call}
+use Rattle.rules.specs.Decide.{placement}
 use Rattle.rules.specs.Effects.{carry_out}
 use Rattle.rules.specs.Step.{Outcome, reply_to, store_after, outcome_of, into, act, step}
 use Rattle.rules.specs.declared.ids.Slot.{Slot}
 use Rattle.rules.specs.declared.decision.Unnamed.{Unnamed}
 use Rattle.rules.specs.declared.decision.Unnamed.TheVariants as unnamed
 use Rattle.rules.specs.Checks as checks
+use Rattle.rules.specs.declared.decision.NewOpen.{NewOpen}
+use Rattle.rules.specs.declared.decision.Placement.{Placement}
 use Rattle.rules.specs.declared.decision.Output.{Output}
 use Rattle.rules.specs.declared.decision.Effect.{Effect}
 use Rattle.rules.specs.declared.decision.Decision.{Decision}
 use Rattle.rules.proofs.Passed.{Fit, granting, refusing}
 use Rattle.preservation.specs.Claims.{word, caller_user}
 use Rattle.preservation.proofs.Tests.{split, means-or, means-eq}
-use Rattle.preservation.proofs.Tables.{Tables}
+use Rattle.preservation.proofs.Tables.{Tables, open_to}
 use Rattle.preservation.proofs.Remake.{remade}
 use Rattle.preservation.proofs.Plain.{wrote}
 use Rattle.preservation.proofs.Open.{handed}
 use Rattle.preservation.proofs.Processes.{shared}
 use Rattle.preservation.proofs.StoreChanges.{tables_of}
 use Rattle.preservation.proofs.SoundStore.{SoundStore, means-sound}
-use Rattle.preservation.proofs.OpenEffects.{Leaves, open-leaves, truncate-leaves, move-leaves, duplicate-leaves, bits-leaves, execute-leaves, write-leaves}
+use Rattle.preservation.proofs.OpenEffects.{Leaves, with_open, open-leaves, truncate-leaves, move-leaves, bits-leaves, execute-leaves, write-leaves}
 use Rattle.preservation.proofs.NameEffects.{link-leaves, create-leaves, symlink-leaves, unlinked_tables, Unnaming, keeps, frees, unlink-leaves, unnaming-is, remove-leaves}
 use Rattle.preservation.proofs.RenameEffects.{rename-leaves, transfer-leaves}
 use Rattle.preservation.proofs.CloseEffects.{Still, Steady, close-leaves, releasing-is, exit-leaves}
 use Rattle.preservation.proofs.Granted.{Granting, nothing, opens, truncates, creates, symlinks, unlinks, removes, links, renames, transfers, changes_bits, closes, stores, reads, seeks, duplicates, forks, exits, executes}
 use Rattle.preservation.proofs.Decided.{decide-fit}
-use Rattle.preservation.proofs.Preserved.{placed-well, read_fits, forking}
+use Rattle.preservation.proofs.Preserved.{placed-well, read_fits, forking, duplicating}
 use Rattle.preservation.proofs.TestedOnce.{step_by}
 
 module _ (s : Store) (h : SoundStore s) (c : Call) (f : ℕ) where
@@ -87,12 +91,24 @@ module _ (s : Store) (h : SoundStore s) (c : Call) (f : ℕ) where
   unlink-left d i y (keeps a) = unfold unlinked_tables in inr refl
   unlink-left d i y (frees a b) = remove-left d i y
 
+  opened-bits : (n : NewOpen) → (with_open c.process n (tables_of s)).file f FILE_BITS ≡ (tables_of s).file f FILE_BITS
+  unfolding handed
+  opened-bits n = refl
+
+  shared-bits : (p j e : ℕ) → (shared p j e (tables_of s)).file f FILE_BITS ≡ (tables_of s).file f FILE_BITS
+  unfolding shared handed
+  shared-bits p j e = refl
+
+  wrote-bits : (w : Placement) (g : ℕ → ℕ) → (open_to w.ofd.0 OPEN_OFFSET w.offset (wrote w.slot.0 g w.length w.version (tables_of s))).file f FILE_BITS ≡ (tables_of s).file f FILE_BITS
+  unfolding wrote
+  wrote-bits w g = refl
+
   -- each effect: all but a change of bits leave the bits of f, or free it; a create or a new link gives out a slot that was free
   changes-bits : {K : Fixed} {n : ℕ} {o : Output} {e : Effect} → Granting K s h c n o e → Differ (carry_out c e s)
   unfolding carry_out
   changes-bits (nothing n o) = λ a b x. absurd (x refl)
-  changes-bits (opens n o l) = leaves-bits (open-leaves s h c.process n o) (unfold handed in refl)
-  changes-bits (truncates n o hs a) = leaves-bits (truncate-leaves s h c.process n o hs) (truncate-bits n.slot.0 _ _ (unfold handed in refl) refl)
+  changes-bits (opens n o l) = leaves-bits (open-leaves s h c.process n o) (opened-bits n)
+  changes-bits (truncates n o hs a) = leaves-bits (truncate-leaves s h c.process n o hs) (truncate-bits n.slot.0 _ _ (opened-bits n) refl)
   changes-bits (creates d i y new o) = let w = create-leaves s h _ (subject_of (view s).proc c.process) d i (slot y) new o in
       split f y (λ q _ a. absurd (a (rw q o.free))) (λ q t. leaves-bits w (rw t))
   changes-bits (symlinks d i y o) = let w = symlink-leaves s h _ (subject_of (view s).proc c.process) d i (slot y) c.«data» o in
@@ -104,10 +120,10 @@ module _ (s : Store) (h : SoundStore s) (c : Call) (f : ℕ) where
   changes-bits (transfers d i e j y n k m a) = leaves-bits (transfer-leaves s h _ d i e j y n k m a) refl
   changes-bits (changes_bits y b hy k n l o a) = split f y.0 (λ q _ _ _ _. (a, rw q (owner-or-0 y.0 o))) (λ q t. leaves-bits (bits-leaves s h y.0 b.0 hy k n l) (rw t))
   changes-bits (closes i u hi) = steadily _ (close-leaves s h c.process i u.small hi u.used (releasing-is s h c.process i u.small hi)).steady
-  changes-bits (stores e at o hs l a) = leaves-bits (write-leaves s h c.«data» _ (placed-well s h c e at o hs l)) (unfold wrote in refl)
+  changes-bits (stores e at o hs l a) = leaves-bits (write-leaves s h c.«data» _ (placed-well s h c e at o hs l)) (wrote-bits (placement (view s).tree.file (ofd_of e) (slot ((view s).open_files e OPEN_SLOT)) at (length c.«data»)) _)
   changes-bits (reads e n o l) = leaves-bits (move-leaves s h e _ o (read_fits s h c e n l)) refl
   changes-bits (seeks e n o l) = leaves-bits (move-leaves s h e n o l) refl
-  changes-bits (duplicates i j e o hj g) = unfold tables_of in leaves-bits (duplicate-leaves s h c.process i j e o hj g) (unfold shared handed in refl)
+  changes-bits (duplicates i j e o hj g) = leaves-bits (duplicating s h c i j e o hj g) (shared-bits c.process.0 j.0 e)
   changes-bits (forks q u hq g) = let w = forking s h c q u hq g in leaves-bits w.leaves (ap (λ (t : ℕ → ℕ → ℕ). t f FILE_BITS) w.files-same)
   changes-bits (exits u) = steadily _ (exit-leaves s h c.process u.small u.used).steady
   changes-bits (executes l u hl) = leaves-bits (execute-leaves s h c.process l u hl) refl

@@ -149,16 +149,18 @@ module _ (s : Store) (h : SoundStore s) where
 pub may_write : (file : Table) (who : Subject) (y : Slot) → bits_allow file who y WRITE ≡ true → y.0 < SLOTS
 may_write file who y e = write-stored file who y WRITE (unfold asks_write in refl) e
 
+either-asks : (b : Bool) → asks_write (cond b READ_WRITE WRITE) ≡ true
+unfolding asks_write
+either-asks true = refl
+either-asks false = refl
+
+mode-asks : (m : OpenMode) → eqb m.0 MODE_READ.0 ≡ false → asks_write (mode_rights m) ≡ true
+unfolding mode_rights
+mode-asks m t = rw t (either-asks (eqb m.0 MODE_BOTH.0))
+
 -- so a prompt is opened in mode 1 only
 pub opens-reading : (file : Table) (who : Subject) (y : Slot) (m : OpenMode) → bits_allow file who y (mode_rights m) ≡ true → (y.0 < SLOTS → ⊥) → m.0 ≡ MODE_READ.0
-opens-reading file who y m e n = split m.0 MODE_READ.0 (λ q _. q) (λ q t. absurd (n (write-stored file who y (mode_rights m) (asks t) e)))
-  where
-    other : (b : Bool) → asks_write (cond b READ_WRITE WRITE) ≡ true
-    other true = unfold asks_write in refl
-    other false = unfold asks_write in refl
-
-    asks : eqb m.0 MODE_READ.0 ≡ false → asks_write (mode_rights m) ≡ true
-    asks t = unfold mode_rights in rw t (other (eqb m.0 MODE_BOTH.0))
+opens-reading file who y m e n = split m.0 MODE_READ.0 (λ q _. q) (λ q t. absurd (n (write-stored file who y (mode_rights m) (mode-asks m t) e)))
 
 -- ---- a label moves to a label
 

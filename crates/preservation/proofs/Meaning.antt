@@ -20,7 +20,7 @@ use Rattle.preservation.proofs.Tables.{col}
 use Rattle.preservation.proofs.Sound.{All, File, Dirent, Directory, OpenFile, Process, same_row, name_count, holder_count}
 use Rattle.preservation.proofs.Dirents.{same_row-sym}
 use Rattle.preservation.proofs.StoreChanges.{Sized}
-use Rattle.preservation.proofs.Shown.{means-zeros, means-dirent, means-empty, same_row}
+use Rattle.preservation.proofs.Shown.{means-zeros, means-dirent, means-empty, same_row_lem}
 use Rattle.preservation.proofs.Counted.{names-counted, holders-counted}
 
 -- ---- sizes
@@ -90,7 +90,7 @@ means-record file s = means-same
 module _ (file : Table) (D : List ℕ) (rows : ℕ → ℕ → ℕ) (agree : (i k : ℕ) → k < DIRENT_WIDTH → get_or (dirent_at D i) k 0 ≡ rows i k) where
   means-differs : (i j : ℕ) → Means (differs D i j) ((rows i NAME ≡ 0 → ⊥) → (rows j NAME ≡ 0 → ⊥) → same_row (rows i) (rows j) ≡ true → ⊥)
   unfolding differs
-  means-differs i j = means-or3 (means-empty D rows agree i) (means-empty D rows agree j) (rw (same_row D rows agree i j) (means-not (means-test (same_row (rows i) (rows j)))))
+  means-differs i j = means-or3 (means-empty D rows agree i) (means-empty D rows agree j) (rw (same_row_lem D rows agree i j) (means-not (means-test (same_row (rows i) (rows j)))))
 
   means-new : (i : ℕ) → Means (is_new D i) (All i (λ j. (rows i NAME ≡ 0 → ⊥) → (rows j NAME ≡ 0 → ⊥) → same_row (rows i) (rows j) ≡ true → ⊥))
   unfolding is_new

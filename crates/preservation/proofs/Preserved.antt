@@ -5,12 +5,12 @@ use mathlib.Core.List.{List}
 use Prim.Native.Nat.{ℕ, ◌+◌, ◌-◌, ◌≤◌, ◌<◌, max}
 use native.Mathlib.Omega.{arith}
 use lib.ListN.{length}
-use Rattle.rules.specs.Layout.{SLOTS, BLOCK, PROCESSES, FILE_LENGTH, OPEN_SLOT, OPEN_OFFSET, PROCESS_USED}
-use Rattle.rules.specs.Store.{Store, Fixed, view, slot, ofd_of, subject_of, apply_all, plus}
+use Rattle.rules.specs.Layout.{SLOTS, BLOCK, PROCESSES, FILE_LENGTH, DESCRIPTORS, OPEN_SLOT, OPEN_OFFSET, OPEN_REFERENCES, PROCESS_USED}
+use Rattle.rules.specs.Store.{Store, Fixed, view, slot, ofd_of, subject_of, apply_all, plus, up}
 use Rattle.rules.specs.Sound.{sound}
 use Rattle.rules.specs.Calls.{Call}
 use Rattle.rules.specs.Decide.{placement}
-use Rattle.rules.specs.Effects.{shared_all, fork_changes, carry_out}
+use Rattle.rules.specs.Effects.{shared_all, duplicate_changes, fork_changes, carry_out}
 use Rattle.rules.specs.Step.{store_after, outcome_of, into, act, step, handed, read_of, act_borrow, step_borrow, Action, Calls, Borrows, serve, final}
 use Rattle.rules.specs.declared.ids.Pid.{Pid}
 use Rattle.rules.specs.declared.ids.Fd.{Fd}
@@ -23,11 +23,11 @@ use Rattle.preservation.proofs.OneWord.{Held}
 use Rattle.preservation.proofs.Words.{plus-is}
 use Rattle.preservation.proofs.StoreChanges.{tables_of}
 use Rattle.preservation.proofs.SoundStore.{SoundStore, AllSound, means-sound}
-use Rattle.preservation.proofs.OpenEffects.{Caller, Writes, leaves-sound, open-leaves, truncate-leaves, move-leaves, duplicate-leaves, bits-leaves, execute-leaves, write-leaves}
+use Rattle.preservation.proofs.OpenEffects.{Caller, Writes, Holds, Leaves, leaves-sound, open-leaves, truncate-leaves, move-leaves, duplicate-leaves, bits-leaves, execute-leaves, write-leaves}
 use Rattle.preservation.proofs.NameEffects.{link-leaves, create-leaves, symlink-leaves, unlink-leaves, unnaming-is, remove-leaves}
 use Rattle.preservation.proofs.RenameEffects.{rename-leaves, transfer-leaves}
 use Rattle.preservation.proofs.CloseEffects.{close-leaves, releasing-is, exit-leaves}
-use Rattle.preservation.proofs.Processes.{Ranged}
+use Rattle.preservation.proofs.Processes.{Ranged, shared}
 use Rattle.preservation.proofs.ForkEffects.{Forks, fork-leaves}
 use Rattle.preservation.proofs.Granted.{Granting, nothing, opens, truncates, creates, symlinks, unlinks, removes, links, renames, transfers, changes_bits, closes, stores, reads, seeks, duplicates, forks, exits, executes}
 use Rattle.preservation.proofs.Decided.{decide-fit, borrow-fit}
@@ -66,6 +66,11 @@ module _ (s : Store) (h : SoundStore s) (c : Call) where
       Forks c.process q who u.small hq s (apply_all (fork_changes q who) (shared_all c.process q s))
   forking q u hq f = fork-leaves c.process q (subject_of (view s).proc c.process) u.small hq s h f (caller-ranged u)
 
+  pub duplicating : (i j : Fd) (e : ℕ) → Holds (tables_of s) c.process i e → j.0 < DESCRIPTORS → (tables_of s).desc c.process.0 j.0 ≡ 0 →
+      Leaves (apply_all (duplicate_changes c.process j (ofd_of e) (up ((view s).open_files e OPEN_REFERENCES))) s) (shared c.process.0 j.0 e (tables_of s))
+  unfolding tables_of
+  duplicating i j e o hj f = duplicate-leaves s h c.process i j e o hj f
+
   pub effect-keeps : {K : Fixed} {n : ℕ} {o : Output} {e : Effect} → Granting K s h c n o e → SoundStore (carry_out c e s)
   unfolding carry_out
   effect-keeps (nothing n o) = h
@@ -83,7 +88,7 @@ module _ (s : Store) (h : SoundStore s) (c : Call) where
   effect-keeps (stores e at o hs l a) = leaves-sound (write-leaves s h c.«data» _ (placed-well e at o hs l))
   effect-keeps (reads e n o l) = leaves-sound (move-leaves s h e _ o (read_fits e n l))
   effect-keeps (seeks e n o l) = leaves-sound (move-leaves s h e n o l)
-  effect-keeps (duplicates i j e o hj f) = unfold tables_of in leaves-sound (duplicate-leaves s h c.process i j e o hj f)
+  effect-keeps (duplicates i j e o hj f) = leaves-sound (duplicating i j e o hj f)
   effect-keeps (forks q u hq f) = leaves-sound (forking q u hq f).leaves
   effect-keeps (exits u) = (exit-leaves s h c.process u.small u.used).sound
   effect-keeps (executes l u hl) = leaves-sound (execute-leaves s h c.process l u hl)

@@ -111,9 +111,9 @@ module _ (D : List ℕ) (rows : ℕ → ℕ → ℕ) (agree : (i k : ℕ) → k 
   unfolding dirent_slot
   slot_row i = agree i NAME (omega arith)
 
-  pub same_row : (i j : ℕ) → same_name (dirent_at D i) (dirent_at D j) ≡ same_row (rows i) (rows j)
+  pub same_row_lem : (i j : ℕ) → same_name (dirent_at D i) (dirent_at D j) ≡ same_row (rows i) (rows j)
   unfolding same_name same_at
-  same_row i j = unfold-row ∙ same_row-to (λ k. get_or (dirent_at D i) k 0) (rows i) (λ k. get_or (dirent_at D j) k 0) (rows j) (λ k l. agree i k (omega arith)) (λ k l. agree j k (omega arith))
+  same_row_lem i j = unfold-row ∙ same_row-to (λ k. get_or (dirent_at D i) k 0) (rows i) (λ k. get_or (dirent_at D j) k 0) (rows j) (λ k l. agree i k (omega arith)) (λ k l. agree j k (omega arith))
     where
       unfold-row : same_name (dirent_at D i) (dirent_at D j) ≡ same_row (λ k. get_or (dirent_at D i) k 0) (λ k. get_or (dirent_at D j) k 0)
       unfold-row = unfold same_name same_at same_row in refl

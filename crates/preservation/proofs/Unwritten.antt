@@ -36,13 +36,13 @@ use Rattle.preservation.proofs.Open.{handed}
 use Rattle.preservation.proofs.Processes.{shared}
 use Rattle.preservation.proofs.StoreChanges.{tables_of}
 use Rattle.preservation.proofs.SoundStore.{SoundStore, AllSound, means-sound}
-use Rattle.preservation.proofs.OpenEffects.{Leaves, with_open, open-leaves, truncate-leaves, move-leaves, duplicate-leaves, bits-leaves, execute-leaves, write-leaves}
+use Rattle.preservation.proofs.OpenEffects.{Leaves, with_open, open-leaves, truncate-leaves, move-leaves, bits-leaves, execute-leaves, write-leaves}
 use Rattle.preservation.proofs.NameEffects.{link-leaves, create-leaves, symlink-leaves, unlink-leaves, unnaming-is, remove-leaves}
 use Rattle.preservation.proofs.RenameEffects.{rename-leaves, transfer-leaves}
 use Rattle.preservation.proofs.CloseEffects.{Still, Steady, close-leaves, releasing-is, exit-leaves}
 use Rattle.preservation.proofs.Granted.{AsksWrite, AsksTruncation, Granting, nothing, opens, truncates, creates, symlinks, unlinks, removes, links, renames, transfers, changes_bits, closes, stores, reads, seeks, duplicates, forks, exits, executes, used-small}
 use Rattle.preservation.proofs.Decided.{decide-fit}
-use Rattle.preservation.proofs.Preserved.{placed-well, read_fits, forking, effect-keeps, after-sound}
+use Rattle.preservation.proofs.Preserved.{placed-well, read_fits, forking, duplicating, effect-keeps, after-sound}
 use Rattle.preservation.proofs.TestedOnce.{step_by}
 use Rattle.preservation.proofs.Kept.{Kept, kept-both, kept_same, kept-written, kept-remade, kept_row, kept-bytes, kept-column, kept-remove, kept-unlink, kept_block, past_same, same-file, unchanged}
 use Rattle.preservation.proofs.OpenStays.{open_plain}
@@ -107,6 +107,10 @@ module _ (K : Fixed) (s : Store) (h : SoundStore s) (c : Call) (f : ℕ) where
   unfolding wrote
   written w g n = kept-both f (kept-written f w.slot.0 g w.length w.version (tables_of s) n) (kept_same f _ _ refl refl)
 
+  sharing : (p j e : ℕ) → Left (shared p j e (tables_of s))
+  unfolding shared handed
+  sharing p j e = kept_same f (tables_of s) (shared p j e (tables_of s)) refl refl
+
   leaves : {t : Store} {m : Tables} → Leaves t m → Left m → Left (tables_of t) ⊎ Rewriting
   leaves l y = inl (rw l.has.is y)
 
@@ -160,7 +164,7 @@ module _ (K : Fixed) (s : Store) (h : SoundStore s) (c : Call) (f : ℕ) where
       (λ q _. leaves (write-leaves s h c.«data» _ (placed-well s h c e at o hs l)) (written (placement (view s).tree.file (ofd_of e) (slot ((view s).open_files e OPEN_SLOT)) at (length c.«data»)) _ (λ z. q (sym z))))
   effect-leaves (reads e n o l) y = leaves (move-leaves s h e _ o (read_fits s h c e n l)) (kept_same f (tables_of s) _ refl refl)
   effect-leaves (seeks e n o l) y = leaves (move-leaves s h e n o l) (kept_same f (tables_of s) _ refl refl)
-  effect-leaves (duplicates i j e o hj g) y = unfold tables_of in leaves (duplicate-leaves s h c.process i j e o hj g) (unfold shared handed in kept_same f (tables_of s) _ refl refl)
+  effect-leaves (duplicates i j e o hj g) y = leaves (duplicating s h c i j e o hj g) (sharing c.process.0 j.0 e)
   effect-leaves (forks q u hq g) y = let w = forking s h c q u hq g in leaves w.leaves (kept_same f (tables_of s) _ w.files-same w.bytes_same)
   effect-leaves (exits u) y = steadily _ y (exit-leaves s h c.process u.small u.used).steady
   effect-leaves (executes l u hl) y = leaves (execute-leaves s h c.process l u hl) (kept_same f (tables_of s) _ refl refl)

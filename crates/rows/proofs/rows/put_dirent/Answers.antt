@@ -1,0 +1,7 @@
+use Rattle.rules.specs.Directories.{dirent}
+use Rattle.rules.proofs.Lists.{padded-two}
+use Rattle.rows.proofs.rows.put_dirent.Goals as goal
+
+pub returns : goal.returns
+unfolding dirent
+returns c = rw (c.put_byte-2.ensures, c.put_byte.ensures, c.slot_byte.ensures, c.put_name.ensures) (padded-two _ _ _ _ _ _)

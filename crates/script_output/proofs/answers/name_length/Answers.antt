@@ -1,0 +1,6 @@
+use borrow.Author.Rules.{rules}
+use Rattle.script_output.proofs.AnswerLaws.{name-most}
+use Rattle.script_output.proofs.answers.name_length.Goals as goal
+
+pub returns : goal.returns
+returns c = (search (rules, name-most), search rules)
