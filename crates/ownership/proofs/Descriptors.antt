@@ -177,10 +177,10 @@ module _ (K : Fixed) (s : Store) (h : SoundStore s) (c : Call) where
       counts-exit c.process.0 0 (held_by s) _ u.small (others-of _ c.process.0 _ w.desc-to) (own_of _ c.process.0 _ w.desc-to ∙ row-none (λ _. 0) (λ _ _. refl))
 
   effect-counts : {n : ℕ} {o : Output} {e : Effect} → Granting K s h c n o e → Asked K s c e → Numbered K s c e → Done c.call n (carry_out c e s)
-  unfolding carry_out Asked Numbered
+  unfolding carry_out Asked Numbered handed remade wrote
   effect-counts (nothing n o) a k = counts_same c.process.0 c.call n (held_by s) (held_by s) k (λ q. refl)
-  effect-counts (opens n o l) a k = rw k (opened _ _ n.fd.0 n.ofd.0 o.caller (desc-is (open-leaves s h c.process n o) ∙ (unfold handed in refl)) o.fd-small o.fd-free)
-  effect-counts (truncates n o hs b) a k = rw k (opened _ _ n.fd.0 n.ofd.0 o.caller (desc-is (truncate-leaves s h c.process n o hs) ∙ (unfold remade handed in refl)) o.fd-small o.fd-free)
+  effect-counts (opens n o l) a k = rw k (opened _ _ n.fd.0 n.ofd.0 o.caller (desc-is (open-leaves s h c.process n o) ∙ (refl)) o.fd-small o.fd-free)
+  effect-counts (truncates n o hs b) a k = rw k (opened _ _ n.fd.0 n.ofd.0 o.caller (desc-is (truncate-leaves s h c.process n o hs) ∙ (refl)) o.fd-small o.fd-free)
   effect-counts (creates d j y new o) a k = quiet _ k (create-leaves s h _ (subject_of (view s).proc c.process) d j (slot y) new o) refl
   effect-counts (symlinks d j y o) a k = quiet _ k (symlink-leaves s h _ (subject_of (view s).proc c.process) d j (slot y) c.«data» o) refl
   effect-counts (unlinks d j y n r) a k = quiet _ k (unlink-leaves s h d j y n r (unnaming-is s h y)) (unlink-desc d j (unnaming-is s h y))
@@ -190,7 +190,7 @@ module _ (K : Fixed) (s : Store) (h : SoundStore s) (c : Call) where
   effect-counts (transfers d j e l y n r m b) a k = quiet _ k (transfer-leaves s h _ d j e l y n r m b) refl
   effect-counts (changes_bits y b hy r n l o q) a k = quiet _ k (bits-leaves s h y.0 b.0 hy r n l) refl
   effect-counts (closes j u hj) a k = rw k (closed _ _ j.0 u (close-leaves s h c.process j u.small hj u.used (releasing-is s h c.process j u.small hj)).desc-to hj (something j a))
-  effect-counts (stores e at o hs l b) a k = quiet _ k (write-leaves s h c.«data» _ (placed-well s h c e at o hs l)) (unfold wrote in refl)
+  effect-counts (stores e at o hs l b) a k = quiet _ k (write-leaves s h c.«data» _ (placed-well s h c e at o hs l)) (refl)
   effect-counts (reads e n o l) a k = quiet _ k (move-leaves s h e _ o (read_fits s h c e n l)) refl
   effect-counts (seeks e n o l) a k = quiet _ k (move-leaves s h e n o l) refl
   effect-counts (duplicates j i e o hi g) a k = rw k (duplicated _ i.0 i.0 e o.caller (duplicate-desc j i e o hi g) hi g)

@@ -139,11 +139,11 @@ module _ (K : Fixed) (A foo bar i : ℕ) (s : Store) (h : SoundStore s) (c : Cal
       (kept_word foo bar i (tables_of s) (file_to y FILE_LENGTH z (bytes_to y g (tables_of s))) y FILE_VERSION t f b (kept_word foo bar i (tables_of s) (bytes_to y g (tables_of s)) y FILE_LENGTH z f b (kept-bytes foo bar i (tables_of s) (tables_of s) y g f b same)))
 
   pub effect-leaves : {n : ℕ} {o : Output} {e : Effect} → Granting K s h c n o e → Asked K s c e → After (tables_of (carry_out c e s))
-  unfolding carry_out Asked
+  unfolding carry_out Asked handed remade shared tables_of wrote
   effect-leaves (nothing n o) a = record { files = same; processes = same-processes (tables_of s).proc (tables_of s).proc refl }
-  effect-leaves (opens n o l) a = quiet (open-leaves s h c.process n o) (unfold handed in refl) (unfold handed in kept-all foo bar i _ _ refl refl)
-  effect-leaves (truncates n o hs b) a = quiet (truncate-leaves s h c.process n o hs) (unfold remade handed in refl)
-      (kept-remade foo bar i _ _ n.slot.0 _ _ (not-foo n.slot.0 (λ z. omega (arith, o.plain hs, z))) (not-bar n.slot.0 (λ z. omega (arith, o.plain hs, z))) (unfold handed in kept-all foo bar i _ _ refl refl))
+  effect-leaves (opens n o l) a = quiet (open-leaves s h c.process n o) (refl) (kept-all foo bar i _ _ refl refl)
+  effect-leaves (truncates n o hs b) a = quiet (truncate-leaves s h c.process n o hs) (refl)
+      (kept-remade foo bar i _ _ n.slot.0 _ _ (not-foo n.slot.0 (λ z. omega (arith, o.plain hs, z))) (not-bar n.slot.0 (λ z. omega (arith, o.plain hs, z))) (kept-all foo bar i _ _ refl refl))
   effect-leaves (creates d j y new o) a = quiet (create-leaves s h _ (subject_of (view s).proc c.process) d j (slot y) new o) refl
       (kept-dirent foo bar i (tables_of s) _ d.0 j _ _ _ o.naming.fits.row-end (denied d a) (other-entry d j 0 _ o.naming.fits.dirent-empty x.not_root)
       (kept_row foo bar i (tables_of s) (tables_of s) y _ (not-foo y (λ z. omega (arith, o.free, z))) (not-bar y (λ z. omega (arith, o.free, z))) same))
@@ -171,16 +171,16 @@ module _ (K : Fixed) (A foo bar i : ℕ) (s : Store) (h : SoundStore s) (c : Cal
   })
   effect-leaves (closes j u hj) a = let w = close-leaves s h c.process j u.small hj u.used (releasing-is s h c.process j u.small hj) in steadily _ w.steady (same-processes (tables_of s).proc _ w.proc-same)
   effect-leaves (stores e at o hs l b) a =
-      let k : (tables_of s).file ((view s).open_files e OPEN_SLOT) FILE_KIND ≡ PLAIN = unfold tables_of in ((h.tables.opens.open-files e o.small).plain o.open-refs hs) in
-      quiet (write-leaves s h c.«data» _ (placed-well s h c e at o hs l)) (unfold wrote in refl)
+      let k : (tables_of s).file ((view s).open_files e OPEN_SLOT) FILE_KIND ≡ PLAIN = ((h.tables.opens.open-files e o.small).plain o.open-refs hs) in
+      quiet (write-leaves s h c.«data» _ (placed-well s h c e at o hs l)) (refl)
       (stored ((view s).open_files e OPEN_SLOT) _ _ _ e _ (not-foo ((view s).open_files e OPEN_SLOT) (λ z. omega (arith, k, z))) (not-bar ((view s).open_files e OPEN_SLOT) (λ z. omega (arith, k, z))))
   effect-leaves (reads e n o l) a = quiet (move-leaves s h e _ o (read_fits s h c e n l)) refl (kept-all foo bar i _ _ refl refl)
   effect-leaves (seeks e n o l) a = quiet (move-leaves s h e n o l) refl (kept-all foo bar i _ _ refl refl)
-  effect-leaves (duplicates j k e o hk g) a = unfold tables_of in quiet (duplicate-leaves s h c.process j k e o hk g) (unfold shared handed in refl) (unfold shared handed in kept-all foo bar i _ _ refl refl)
+  effect-leaves (duplicates j k e o hk g) a = quiet (duplicate-leaves s h c.process j k e o hk g) (refl) (kept-all foo bar i _ _ refl refl)
   effect-leaves (forks q u hq g) a = let w = forking s h c q u hq g in
       rw w.leaves.has.is (record {
         files = kept-all foo bar i _ _ w.files-same w.bytes_same;
-        processes = subst (λ (f : ℕ → ℕ → ℕ). Ancestors (tables_of s).proc f) (sym w.proc-to) (unfold tables_of in forked (view s).proc c.process q used);
+        processes = subst (λ (f : ℕ → ℕ → ℕ). Ancestors (tables_of s).proc f) (sym w.proc-to) (forked (view s).proc c.process q used);
       })
   effect-leaves (exits u) a = let w = exit-leaves s h c.process u.small u.used in steadily _ w.steady (subst (λ (f : ℕ → ℕ → ℕ). Ancestors (tables_of s).proc f) (sym w.proc-to) (exited (tables_of s).proc c.process.0))
   effect-leaves (executes l u hl) a = rw (execute-leaves s h c.process l u hl).has.is (record { files = kept-all foo bar i _ _ refl refl; processes = relabelled (tables_of s).proc c.process.0 l })

@@ -1,6 +1,5 @@
-use borrow.Author.Rules.{rules}
 use Rattle.script_output.proofs.AnswerLaws.{data-sum}
 use Rattle.script_output.proofs.answers.data_length.Goals as goal
 
-pub returns : goal.returns
-returns c = (search data-sum, search rules)
+pub returns-clause-is : goal.returns-clause-is
+returns-clause-is c = search data-sum

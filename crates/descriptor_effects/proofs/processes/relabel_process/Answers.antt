@@ -1,0 +1,6 @@
+use Rattle.rules.specs.Store.{apply_all}
+use Rattle.descriptor_effects.proofs.processes.relabel_process.Goals as goal
+
+pub returns : goal.returns
+unfolding apply_all
+returns c = λ F C E. rw c.put.ensures

@@ -1,0 +1,4 @@
+use Rattle.directories.proofs.seen.ranked_in_own.Goals as goal
+
+pub returns : goal.returns
+returns c = cc

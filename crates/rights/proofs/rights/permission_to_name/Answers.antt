@@ -1,0 +1,8 @@
+use Rattle.rights.proofs.Permissions.{names-stored, names-other}
+use Rattle.rights.proofs.rights.permission_to_name.Goals as goal
+
+pub returns-then-is_slot : goal.returns-then-is_slot
+returns-then-is_slot c = search names-stored
+
+pub returns : goal.returns
+returns c = search names-other
