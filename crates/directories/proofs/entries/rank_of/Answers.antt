@@ -10,9 +10,9 @@ loop-j-init c = omega arith
 
 pub loop-j-preserved : goal.loop-j-preserved
 loop-j-preserved c = elim c.if-is_before.branch [
-  then-is_before w ↦ (omega arith, cc (count_yes _ _ _ _ c.loop-j.invariant.1 c.loop-j-test.true w.if-is_before.true c.is_before.ensures))
+  | then-is_before w ↦ (omega arith, cc (count_yes _ _ _ _ c.loop-j.invariant.1 c.loop-j-test.true w.if-is_before.true c.is_before.ensures))
   | else-is_before w ↦ (omega arith, cc (count_no _ _ _ _ c.loop-j.invariant.1 c.loop-j-test.true w.if-is_before.false c.is_before.ensures))
-  ]
+]
 
 pub returns : goal.returns
 returns c = count-done _ _ _ _ c.loop-j.invariant.1 c.loop-j-test.false
