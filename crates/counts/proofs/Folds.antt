@@ -1,5 +1,5 @@
 -- Passes from the last number to the first: `fold f i n z` is z after the steps f (n - 1), .., f (i + 1), f i.
-use mathlib.Core.Path.{◌≡◌, refl, ◌∙◌, sym, ap}
+use mathlib.Core.Path.{◌≡◌, ◌∙◌, sym, ap}
 use Prim.Native.Nat.{ℕ, ◌+◌, ◌-◌, ◌≤◌, ◌<◌}
 use native.Mathlib.Omega.{arith}
 use Rattle.rules.specs.Scan.{fold}

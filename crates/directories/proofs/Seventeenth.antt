@@ -1,14 +1,14 @@
 -- The seventeenth entry, and the root and /rom as they are seen.
-use Prim.Native.Nat.{ℕ, zero, suc, ◌+◌, ◌-◌, ◌*◌, ◌≤◌, ◌<◌}
+use Prim.Native.Nat.{ℕ, zero, suc, ◌+◌, ◌*◌, ◌≤◌, ◌<◌}
 use mathlib.Core.Path.{◌≡◌, refl, sym, ap, ◌∙◌}
 use mathlib.Core.Bool.{Bool, true, false, cond}
 use mathlib.Core.List.{List, [], ◌∷◌, ◌++◌, append-nil}
 use native.Mathlib.Nat.{not-suc-le-zero}
 use native.Mathlib.Omega.{arith}
-use borrow.Author.Tests.{lt-ltb, le-ltb, ltb-true, ltb-false, eqb-true, eqb-false}
+use borrow.Author.Tests.{ltb-true, ltb-false, eqb-true, eqb-false}
 use lib.Dec.{eqb, ltb}
-use lib.ListN.{length, get_or, set, take, drop, replicate, length-take, length-replicate, length-append, drop_of_length-le, get_or-append, get_or-eq_default}
-use lib.Seq.{sets, sets-eq, length-sets, drop_at, get_or-drop, get_or-append-add}
+use lib.ListN.{length, get_or, set, take, drop, replicate, length-replicate, length-append, drop_of_length-le, get_or-append, get_or-eq_default}
+use lib.Seq.{sets, sets-eq, length-sets, drop_at, get_or-drop}
 use Rattle.rules.specs.Choice.{every}
 use Rattle.rules.specs.Scan.{first}
 use Rattle.rules.specs.Layout.{DIRENTS, ENTRIES, DIRENT_WIDTH, NAME, PROMPTS, ROM}
@@ -21,7 +21,7 @@ use Rattle.rules.proofs.Lists.{length-padded, padded-at}
 use Rattle.rules.proofs.Scans.{more, first_more, first-same}
 use Rattle.tables.specs.NameWords.{low_word, high_word}
 use Rattle.directories.specs.ByWords.{has_words, stored_by, dirent_by}
-use Rattle.directories.specs.Seen.{ROM_LOW, found, found_in, root_slot, store_dirents}
+use Rattle.directories.specs.Seen.{ROM_LOW, found_in, root_slot, store_dirents}
 use Rattle.directories.specs.declared.seen.Found.{Found}
 
 pub is_last : (b : Bool) → b ≡ true → entry DIRENTS ≡ entry (cond b DIRENTS ENTRIES)

@@ -2,7 +2,7 @@
 use mathlib.Core.Path.{◌≡◌, refl, ap}
 use mathlib.Core.Bool.{true}
 use mathlib.Core.Logic.{◌⊎◌, inl, inr}
-use Prim.Native.Nat.{ℕ, ◌-◌}
+use Prim.Native.Nat.{ℕ}
 use lib.ListN.{length}
 use native.Mathlib.Decide.{ℕ_discrete}
 use Rattle.rules.specs.Layout.{FILE_KIND, FILE_OWNER, FILE_BITS, FREE, PLAIN, OPEN_SLOT, OPEN_OFFSET}

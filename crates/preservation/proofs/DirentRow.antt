@@ -1,13 +1,12 @@
 -- A directory entry as it is written: its row.
-use mathlib.Core.Path.{◌≡◌, refl, sym, ap, ◌∙◌}
+use mathlib.Core.Path.{◌≡◌, sym, ap, ◌∙◌}
 use mathlib.Core.Bool.{true}
-use mathlib.Core.List.{List, [], ◌∷◌}
-use Prim.Native.Nat.{ℕ, zero, suc, ◌+◌, ◌-◌, ◌%◌, ◌≤◌, ◌<◌}
-use native.Mathlib.Nat.{not-suc-le-zero}
+use mathlib.Core.List.{[], ◌∷◌}
+use Prim.Native.Nat.{ℕ, ◌+◌, ◌%◌, ◌≤◌, ◌<◌}
 use native.Mathlib.Omega.{arith}
 use native.Mathlib.Decide.{dec_lt}
-use lib.ListN.{length, get_or, drop, length-append, get_or-append, get_or-eq_default}
-use lib.Seq.{get_or-append-add, get_or-drop}
+use lib.ListN.{length, get_or, length-append, get_or-append, get_or-eq_default}
+use lib.Seq.{get_or-append-add}
 use Rattle.rules.specs.Layout.{DIRENT_WIDTH, NAME, SLASH}
 use Rattle.rules.specs.Paths as paths
 use Rattle.rules.specs.Paths.{is_dots}

@@ -1,11 +1,9 @@
 -- Effects of rename, within a directory and between two. Each leaves sound tables.
 use mathlib.Core.Path.{◌≡◌, refl}
-use mathlib.Core.Bool.{false}
-use Prim.Native.Nat.{ℕ, ◌+◌, ◌-◌, ◌<◌}
+use Prim.Native.Nat.{ℕ, ◌+◌, ◌-◌}
 use native.Mathlib.Omega.{arith}
-use lib.Dec.{eqb}
 use borrow.Author.Tests.{eq-eqb, ne_eqb}
-use Rattle.rules.specs.Layout.{SLOTS, FILE_KIND, FILE_LENGTH, FILE_LINKS, FILE_VERSION, DIRECTORY, NAME}
+use Rattle.rules.specs.Layout.{SLOTS, FILE_KIND, FILE_LENGTH, FILE_LINKS, FILE_VERSION, DIRECTORY}
 use Rattle.rules.specs.Store.{Store, view, entry, up, apply_all}
 use Rattle.rules.specs.Paths as paths
 use Rattle.rules.specs.Directories.{dirent}

@@ -5,7 +5,7 @@ use mathlib.Core.Logic.{◌⊎◌, inl, inr}
 use Prim.Native.Nat.{ℕ, ◌≤◌}
 use native.Mathlib.Omega.{arith}
 use native.Mathlib.Decide.{ℕ_discrete}
-use Rattle.rules.specs.Layout.{KIND_MAX, FILE_KIND, FREE, PLAIN, DIRECTORY, LINK}
+use Rattle.rules.specs.Layout.{KIND_MAX, FILE_KIND, FREE, PLAIN, LINK}
 use Rattle.rules.specs.Store.{Store, Fixed, view}
 use Rattle.rules.specs.Rom.{seen}
 use Rattle.rules.specs.Sound.{sound}

@@ -5,7 +5,7 @@ use mathlib.Core.Bool.{Bool, true, false, cond}
 use mathlib.Core.List.{List, []}
 use lib.Dec.{eqb, ltb}
 use lib.ListN.{get_or}
-use Rattle.rules.specs.Layout.{SLOTS, ROM, FILE_KIND, FILE_OWNER, FILE_GROUP, FILE_BITS, FILE_LABEL, FILE_LENGTH, FILE_LINKS, FILE_VERSION, PLAIN, DIRECTORY}
+use Rattle.rules.specs.Layout.{ROM, FILE_KIND, FILE_OWNER, FILE_GROUP, FILE_BITS, FILE_LABEL, FILE_LENGTH, FILE_LINKS, FILE_VERSION, PLAIN, DIRECTORY}
 use Rattle.rules.specs.Store.{Table, words, is_slot, bits_at}
 use Rattle.rules.specs.Rom.{rom_record, rom_words, seen_file, length_in}
 use Rattle.rules.specs.declared.ids.Slot.{Slot}

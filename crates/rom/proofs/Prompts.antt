@@ -10,7 +10,7 @@ use borrow.Author.Tests.{not-true, not-false, ne_eqb}
 use mir.Syntax.{w32}
 use mir.Val.{Fits}
 use lib.Dec.{eqb, ltb}
-use lib.ListN.{length, take, drop, length-take}
+use lib.ListN.{length, drop, length-take}
 use Rattle.rules.specs.Choice.{every}
 use Rattle.rules.specs.Layout.{PROMPTS}
 use Rattle.rules.specs.Rom.{prompt_length, first_prompt, prompt, next_prompt, rom_from, prompt_count, prompt_sound, prompts_sound}

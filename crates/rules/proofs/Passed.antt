@@ -1,5 +1,5 @@
 -- What a granted decision has passed: one case a call, each check that it has passed an equation. Theorems about all calls case on it.
-use Prim.Native.Nat.{ℕ, ◌+◌, ◌-◌, min}
+use Prim.Native.Nat.{ℕ, ◌+◌, min}
 use mathlib.Core.Path.{◌≡◌, refl, subst}
 use mathlib.Core.Bool.{Bool, true, false, cond, not}
 use mathlib.Core.List.{List, [], ◌∷◌}
@@ -7,7 +7,7 @@ use lib.Dec.{eqb, ltb, leb}
 use lib.ListN.{length}
 use Rattle.rules.specs.Choice.{every, some}
 use Rattle.rules.specs.Layout.{BLOCK, FILE_OWNER, FILE_LABEL, FILE_LENGTH, FILE_LINKS, PLAIN, DIRECTORY, OPEN_SLOT, OPEN_MODE, OPEN_OFFSET, OPEN_REFERENCES}
-use Rattle.rules.specs.Store.{Fixed, Table, Tree, View, slot, is_slot, is_pid, is_fd, is_ofd, is_dirent, is_entry, mode_at, subject_of, zeros, up, plus}
+use Rattle.rules.specs.Store.{Fixed, Table, View, slot, is_slot, is_pid, is_fd, is_ofd, is_dirent, is_entry, mode_at, subject_of, up, plus}
 use Rattle.rules.specs.Rights.{READ, WRITE, EXECUTE, bits_of, mode_of, mode_rights, reads, writes, owns, moved}
 use Rattle.rules.specs.Directories.{free_dirent, dirent_ranked}
 use Rattle.rules.specs.Rom.{record_of}
@@ -16,7 +16,7 @@ use Rattle.rules.specs.Calls.{Call, operation_of, operation, form_ok, well_forme
 use Rattle.rules.specs.Checks.{need, after, in_use, held, ofd_held, is_absent, free_slot, free_ofd, free_fd, free_pid, gains, loses, renames, freed, unnaming, releasing}
 use Rattle.rules.specs.DecidePaths.{allowed, may_name, naming, new_open, truncated, opening, open_room, open_file, open_mode, decide_open, new_file, new_record, making, create_room, depth_ok, create_at, decide_create, new_link, decide_symlink, unlink_at, decide_unlink, remove_at, decide_remove}
 use Rattle.rules.specs.DecidePaths.{link_room, link_at, link_to, decide_link, list_entry, list_at, decide_list, may_change, change_bits_at, decide_change_bits, decide_stat, bits_allow_execute, execute_at, decide_execute, read_link_at, decide_read_link, transfer_to, rename_to, rename_at, rename_new, decide_rename}
-use Rattle.rules.specs.Decide.{decide_close, label_allows_open, remaining, read_open, decide_read, write_at, placement, write_file, write_some, write_open, decide_write, decide_seek, duplicate_to, decide_duplicate, fork_to, decide_fork, decide_own, decide, decide_borrow}
+use Rattle.rules.specs.Decide.{decide_close, label_allows_open, remaining, read_open, decide_read, write_at, placement, write_file, write_some, write_open, decide_write, decide_seek, duplicate_to, decide_duplicate, fork_to, decide_own, decide, decide_borrow}
 use Rattle.rules.specs.Step.{read_of}
 use Rattle.rules.specs.declared.ids.Slot.{Slot}
 use Rattle.rules.specs.declared.ids.Pid.{Pid}

@@ -9,7 +9,7 @@ use Rattle.rules.specs.Computing.{computing}
 use Rattle.rules.specs.Layout.{BLOCK, FILE_WIDTH, FILE_LENGTH, FILE_LINKS, FILE_VERSION, SLASH}
 use Rattle.rules.specs.Store.{Store, fixed, store, tab, block, slot, zeros}
 use Rattle.rules.specs.Directories.{dirent}
-use Rattle.rules.specs.Rom.{ROM_NAME, prompt_name}
+use Rattle.rules.specs.Rom.{ROM_NAME}
 use Rattle.rules.specs.Calls.{Call}
 use Rattle.rules.specs.Step.{act}
 use Rattle.rules.specs.Console.{console, console_fixed, console_policy, FARES, KEY}

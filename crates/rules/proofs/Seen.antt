@@ -2,13 +2,13 @@
 use Prim.Native.Nat.{ℕ, ◌≤◌, ◌<◌}
 use mathlib.Core.Path.{◌≡◌, refl, ap, subst, fun_ext}
 use mathlib.Core.Bool.{Bool, true, false, cond}
-use mathlib.Core.List.{[], ◌∷◌}
+use mathlib.Core.List.{[]}
 use borrow.Author.Tests.{lt-ltb, le-ltb, ltb-true}
 use lib.Dec.{eqb, ltb}
 use lib.ListN.{get_or}
 use Rattle.rules.specs.Choice.{every, implies}
 use Rattle.rules.specs.Layout.{SLOTS, ROM, FILE_KIND, FILE_LABEL, PLAIN, DIRECTORY}
-use Rattle.rules.specs.Store.{Table, words, slot, is_slot, open_but}
+use Rattle.rules.specs.Store.{Table, words, slot, is_slot}
 use Rattle.rules.specs.Rights.{asks_write}
 use Rattle.rules.specs.Rom.{rom_record, rom_words, seen_file}
 use Rattle.rules.specs.Walk.{bits_allow}

@@ -1,25 +1,20 @@
 -- Parts that a call does not use are not looked at: calls that agree in what they use are decided alike and carried out alike.
 use Prim.Native.Nat.{ℕ}
 use mathlib.Core.Path.{◌≡◌, refl, ◌∙◌}
-use mathlib.Core.Bool.{true, cond}
-use mathlib.Core.List.{List}
 use native.Mathlib.Omega.{arith}
 use Rattle.rules.specs.Store.{Store, Fixed, View, view}
 use Rattle.rules.specs.Rom.{seen}
-use Rattle.rules.specs.Calls.{Call, operation_of, operation, uses, Agree, form_ok}
-use Rattle.rules.specs.Checks.{need, in_use}
+use Rattle.rules.specs.Calls.{Call, operation, uses, Agree, form_ok}
+use Rattle.rules.specs.Checks.{need}
 use Rattle.rules.specs.Decide.{decide_own, decide}
 use Rattle.rules.specs.Effects.{carry_out}
-use Rattle.rules.specs.Sound.{sound}
 use Rattle.rules.specs.Step.{reply_to, store_after, outcome_of, into, act, step}
 use Rattle.rules.specs.declared.request.Operation.{Operation}
 use Rattle.rules.specs.declared.request.Operation.TheVariants as op
-use Rattle.rules.specs.declared.refusal.Refusal.TheVariants.{NoProcess, Malformed}
+use Rattle.rules.specs.declared.refusal.Refusal.TheVariants.{Malformed}
 use Rattle.rules.specs.declared.decision.Output.{Output}
 use Rattle.rules.specs.declared.decision.Effect.{Effect}
-use Rattle.rules.specs.declared.decision.Effect.TheVariants as effect
 use Rattle.rules.specs.declared.decision.Decision.{Decision}
-use Rattle.rules.specs.declared.decision.Decision.TheVariants.{Refused, Granted}
 use Rattle.rules.proofs.Passed.{Fit, granting, refusing, Permit, permitted, Passed}
 use Rattle.rules.proofs.Passed as passed
 

@@ -1,6 +1,6 @@
 -- Checks in the written order, and what every call that changes something is decided by: the lowest free ones, a directory that gains or
 -- loses a name, a file that loses a name or an open file.
-use Rattle.std.specs.Prelude.{ℕ, ◌+◌, ◌-◌, Bool, true, false, cond, not, List, [], ◌∷◌, eqb, ltb}
+use Rattle.std.specs.Prelude.{ℕ, ◌-◌, Bool, true, false, cond, not, [], ◌∷◌, eqb, ltb}
 use Rattle.rules.specs.Choice.{every}
 use Rattle.rules.specs.Scan.{first}
 use Rattle.rules.specs.Layout.{SLOTS, OPEN_FILES, PROCESSES, DESCRIPTORS, FILE_KIND, FILE_LENGTH, FILE_LINKS, FILE_VERSION, FREE, OPEN_SLOT, OPEN_REFERENCES, PROCESS_USED}
@@ -22,7 +22,6 @@ use Rattle.rules.specs.declared.decision.Release.{Release}
 use Rattle.rules.specs.declared.decision.Release.TheVariants as release
 use Rattle.rules.specs.declared.decision.Share.{Share}
 use Rattle.rules.specs.declared.decision.Share.TheVariants as share
-use Rattle.rules.specs.declared.decision.Output.{Output}
 use Rattle.rules.specs.declared.decision.Output.TheVariants as output
 use Rattle.rules.specs.declared.decision.Effect.{Effect}
 use Rattle.rules.specs.declared.decision.Decision.{Decision}

@@ -1,5 +1,5 @@
 -- "The test console". Rows of zeros fill each table to its size.
-use Rattle.std.specs.Prelude.{ℕ, zero, suc, ◌-◌, ◌*◌, List, [], ◌∷◌, ◌++◌, length, replicate}
+use Rattle.std.specs.Prelude.{ℕ, ◌-◌, ◌*◌, List, [], ◌∷◌, ◌++◌, length, replicate}
 use Rattle.rules.specs.Layout.{SLOTS, BLOCK, FILE_WIDTH, OPEN_FILE_WIDTH, OPEN_FILES, PROCESS_WIDTH, PROCESSES, LABELS, RIGHTS_SIZE, NO_TRANSITION}
 use Rattle.rules.specs.Store.{Store, store, Fixed, fixed, zeros, slot}
 use Rattle.rules.specs.Paths.{Name}

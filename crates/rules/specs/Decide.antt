@@ -1,6 +1,6 @@
 -- The calls on descriptors and processes, 10 to 16; and the stages of every decision: process (2), form (3), then the call's own checks.
-use Rattle.std.specs.Prelude.{ℕ, ◌+◌, ◌-◌, min, max, Bool, true, false, cond, not, List, [], ◌∷◌, eqb, ltb, leb, length}
-use Rattle.rules.specs.Layout.{BLOCK, DESCRIPTORS, PROCESSES, PLAIN, DIRECTORY, FILE_LENGTH, FILE_VERSION, OPEN_SLOT, OPEN_MODE, OPEN_OFFSET, OPEN_REFERENCES, PROCESS_USER, PROCESS_LABEL}
+use Rattle.std.specs.Prelude.{ℕ, ◌+◌, ◌-◌, min, max, Bool, cond, List, eqb, leb, length}
+use Rattle.rules.specs.Layout.{BLOCK, PLAIN, DIRECTORY, FILE_LENGTH, FILE_VERSION, OPEN_SLOT, OPEN_MODE, OPEN_OFFSET, OPEN_REFERENCES}
 use Rattle.rules.specs.Store.{Fixed, Table, View, slot, is_pid, is_fd, mode_at, subject_of, up, plus}
 use Rattle.rules.specs.Rom.{length_in}
 use Rattle.rules.specs.Rights.{READ, WRITE, bits_of, reads, writes, appends}
@@ -19,7 +19,6 @@ use Rattle.rules.specs.declared.request.Operation.TheVariants as op
 use Rattle.rules.specs.declared.refusal.Refusal.TheVariants.{NoProcess, Malformed, NotHeld, WrongDirection, LabelForbids, TableFull, TooLong}
 use Rattle.rules.specs.declared.decision.Placement.{Placement}
 use Rattle.rules.specs.declared.decision.Output.TheVariants as output
-use Rattle.rules.specs.declared.decision.Effect.{Effect}
 use Rattle.rules.specs.declared.decision.Effect.TheVariants as effect
 use Rattle.rules.specs.declared.decision.Decision.{Decision}
 use Rattle.rules.specs.declared.decision.Decision.TheVariants.{Refused, Granted}

@@ -1,8 +1,8 @@
 -- The calls on paths, once their form is right: 1 to 9 and 17 to 20. The text's order is the order of refusals.
-use Rattle.std.specs.Prelude.{ℕ, ◌+◌, ◌-◌, min, Bool, true, false, cond, not, List, [], ◌∷◌, eqb, ltb, leb}
+use Rattle.std.specs.Prelude.{ℕ, min, Bool, true, false, cond, not, List, [], ◌∷◌, eqb, ltb, leb}
 use Rattle.rules.specs.Choice.{every, some, implies}
-use Rattle.rules.specs.Layout.{SLOTS, OPEN_FILES, DESCRIPTORS, DIRENTS, FILE_OWNER, FILE_GROUP, FILE_BITS, FILE_LABEL, FILE_LENGTH, FILE_LINKS, FILE_VERSION, PLAIN, DIRECTORY, LINK, NAMES}
-use Rattle.rules.specs.Store.{Table, Tree, slot, is_slot, is_fd, is_ofd, is_dirent, is_entry, bits_at, up}
+use Rattle.rules.specs.Layout.{FILE_OWNER, FILE_GROUP, FILE_BITS, FILE_LABEL, FILE_LENGTH, FILE_LINKS, FILE_VERSION, PLAIN, DIRECTORY, LINK, NAMES}
+use Rattle.rules.specs.Store.{Table, Tree, is_slot, is_fd, is_ofd, is_dirent, is_entry, bits_at, up}
 use Rattle.rules.specs.Rights.{READ, WRITE, EXECUTE, bits_execute, owns, moved, mode_of, mode_rights}
 use Rattle.rules.specs.Directories.{free_dirent, dirent_ranked}
 use Rattle.rules.specs.Rom.{record_of}

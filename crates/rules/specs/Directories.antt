@@ -1,6 +1,6 @@
 -- "Directories": 16 entries (the paper's places) of 16 bytes: the name padded to 14 with 0, the slot, then 0.
 -- D is what is seen of a directory: its entries. The root is seen with one more.
-use Rattle.std.specs.Prelude.{ℕ, zero, suc, ◌*◌, ◌%◌, Bool, true, false, cond, not, List, [], ◌∷◌, ◌++◌, eqb, ltb, get_or, take, drop}
+use Rattle.std.specs.Prelude.{ℕ, zero, suc, ◌*◌, ◌%◌, Bool, not, List, [], ◌∷◌, ◌++◌, eqb, ltb, get_or, take, drop}
 use Rattle.rules.specs.Choice.{every}
 use Rattle.rules.specs.Scan.{count, first}
 use Rattle.rules.specs.Layout.{NAME, DIRENT_WIDTH, DIRENTS, ENTRIES}

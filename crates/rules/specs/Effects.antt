@@ -1,9 +1,9 @@
 -- What a granted call does: a list of changes, made from the call and the decision alone. Exit and fork go through the eight descriptors first,
 -- each on the tables as they then are.
-use Rattle.std.specs.Prelude.{ℕ, ◌+◌, ◌*◌, List, [], ◌∷◌, ◌++◌}
+use Rattle.std.specs.Prelude.{ℕ, ◌*◌, List, [], ◌∷◌, ◌++◌}
 use Rattle.rules.specs.Scan.{repeat}
 use Rattle.rules.specs.Layout.{DIRENT_WIDTH, DESCRIPTORS, FILE_BITS, FILE_LENGTH, FILE_LINKS, FILE_VERSION, OPEN_OFFSET, OPEN_REFERENCES, PROCESS_LABEL}
-use Rattle.rules.specs.Store.{Store, View, view, words, fd_of, up, zeros, Change, file_word, file_to, clear_to, bytes_to, open_word, open_to, open_zero, desc_to, proc_word, proc_to, proc_zero, apply_all}
+use Rattle.rules.specs.Store.{Store, view, words, fd_of, up, zeros, Change, file_word, file_to, clear_to, bytes_to, open_word, open_to, open_zero, desc_to, proc_word, proc_to, proc_zero, apply_all}
 use Rattle.rules.specs.Paths.{Name, names, last_name}
 use Rattle.rules.specs.Directories.{dirent}
 use Rattle.rules.specs.Calls.{Call}

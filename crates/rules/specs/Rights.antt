@@ -1,5 +1,5 @@
 -- Rights, permission bits and open modes: their numbers, and when the bits and the labels grant a right.
-use Rattle.std.specs.Prelude.{ℕ, ◌+◌, ◌-◌, ◌*◌, ◌/◌, ◌%◌, Bool, true, false, cond, List, [], ◌∷◌, eqb, ltb, leb, get_or}
+use Rattle.std.specs.Prelude.{ℕ, ◌+◌, ◌-◌, ◌*◌, ◌/◌, ◌%◌, Bool, true, false, cond, List, [], ◌∷◌, eqb, leb, get_or}
 use Rattle.rules.specs.Choice.{every, some, implies}
 use Rattle.rules.specs.Layout.{LABELS, RIGHTS_SIZE, NO_TRANSITION, RIGHTS_MAX, BITS_MAX, MODE_MAX}
 use Rattle.rules.specs.declared.rights.Rights.{Rights}

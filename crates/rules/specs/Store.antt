@@ -1,5 +1,5 @@
 -- The store as lent, four flat lists; what the rules may look at, the view; and the changes that a call makes.
-use Rattle.std.specs.Prelude.{ℕ, zero, suc, ◌+◌, ◌*◌, ◌%◌, ◌^◌, Bool, true, false, cond, not, List, [], ◌∷◌, ◌++◌, eqb, ltb, length, get_or, take, drop, set, replicate}
+use Rattle.std.specs.Prelude.{ℕ, suc, ◌+◌, ◌*◌, ◌%◌, ◌^◌, Bool, cond, not, List, [], ◌∷◌, eqb, ltb, get_or, take, drop, set, replicate}
 use Rattle.std.proofs.lemmas.List.Edits.{sets}
 use Rattle.rules.specs.Choice.{every}
 use Rattle.rules.specs.Scan.{any}

@@ -1,7 +1,7 @@
 -- "Written down, a call is process, call and descriptor .. its number .. the path's length, the path; then a write's bytes or a second path", or a link's text.
-use Rattle.std.specs.Prelude.{ℕ, ◌+◌, ◌*◌, ◌/◌, ◌%◌, ◌<◌, Bool, true, false, cond, not, List, [], ◌∷◌, ◌++◌, eqb, leb, length, get_or, take, drop}
+use Rattle.std.specs.Prelude.{ℕ, ◌+◌, ◌*◌, ◌/◌, ◌%◌, ◌<◌, Bool, cond, not, List, [], ◌∷◌, ◌++◌, eqb, leb, length, get_or, take, drop}
 use Rattle.rules.specs.Choice.{every, implies}
-use Rattle.rules.specs.Layout.{BLOCK, PATH, NUMBER_MAX}
+use Rattle.rules.specs.Layout.{NUMBER_MAX}
 use Rattle.rules.specs.Calls.{Call, operation_of, uses}
 use Rattle.rules.specs.declared.ids.Pid.{Pid}
 use Rattle.rules.specs.declared.ids.Fd.{Fd}

@@ -1,5 +1,5 @@
 -- A block as the code reads it is the rules' block.
-use Prim.Native.Nat.{ℕ, ◌-◌, ◌≤◌, ◌<◌}
+use Prim.Native.Nat.{ℕ, ◌≤◌}
 use mathlib.Core.Path.{◌≡◌, refl, sym, ◌∙◌}
 use mathlib.Core.Bool.{Bool, true, false, cond}
 use mathlib.Core.List.{List, [], ◌∷◌}
@@ -9,7 +9,7 @@ use lib.Dec.{leb}
 use lib.ListN.{take}
 use Rattle.rules.specs.Choice.{every}
 use Rattle.rules.specs.Layout.{NUMBER_MAX}
-use Rattle.rules.specs.Calls.{operation_of, uses, Call, call_of}
+use Rattle.rules.specs.Calls.{operation_of, uses, call_of}
 use Rattle.rules.specs.Store.{zeros}
 use Rattle.rules.specs.Written.{parts_of, capped}
 use Rattle.rules.proofs.Tests.{test}

@@ -1,5 +1,5 @@
 -- A block: "Each call is six lines in fixed order: proc=, call=, fd=, arg=, path=, data=". S is what is left of a script: it begins with a block or is not a script.
-use Rattle.std.specs.Prelude.{ℕ, zero, suc, ◌+◌, ◌-◌, ◌≤◌, ◌<◌, ◌≡◌, Bool, true, false, cond, not, List, [], ◌∷◌, ◌++◌, eqb, leb, length, get_or, take, drop}
+use Rattle.std.specs.Prelude.{ℕ, zero, suc, ◌≤◌, ◌<◌, ◌≡◌, Bool, cond, List, [], ◌∷◌, ◌++◌, eqb, length, get_or, take, drop}
 use Rattle.rules.specs.Choice.{every, implies}
 use Rattle.rules.specs.Scan.{all}
 use Rattle.rules.specs.Layout.{NUMBER_MAX}

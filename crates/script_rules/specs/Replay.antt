@@ -1,5 +1,5 @@
 -- A run of a script: which calls it takes, what it writes, where the next begins and why it stopped.
-use Rattle.std.specs.Prelude.{ℕ, zero, suc, ◌+◌, ◌-◌, Bool, true, false, cond, not, List, [], ◌∷◌, ◌++◌, eqb, ltb, leb, length, take}
+use Rattle.std.specs.Prelude.{ℕ, zero, suc, ◌+◌, ◌-◌, Bool, cond, not, List, [], ◌∷◌, ◌++◌, eqb, ltb, leb, length, take}
 use Rattle.rules.specs.Choice.{every}
 use Rattle.rules.specs.Layout.{BLOCK}
 use Rattle.rules.specs.Store.{Store, Fixed, pid_of, fd_of, zeros}

@@ -7,7 +7,7 @@ use Prim.Native.Nat.{ℕ, ◌-◌, ◌≤◌, ◌<◌}
 use native.Mathlib.Omega.{arith}
 use borrow.Author.Tests.{eqb-true}
 use lib.Dec.{eqb}
-use lib.ListN.{length, take, drop}
+use lib.ListN.{take, drop}
 use Rattle.rules.specs.Layout.{SLOTS, DESCRIPTORS, LABELS, FILE_WIDTH, FILE_KIND, FILE_BITS, FILE_LABEL, FILE_LENGTH, FILE_LINKS, FILE_VERSION, FREE, PLAIN, DIRECTORY, LINK, PROCESS_LABEL}
 use Rattle.rules.specs.Rights.{READ, label_grants, moved}
 use Rattle.rules.specs.Store.{Store, Fixed, View, view, tab, is_slot, subject_of, words, clear_to, fd_of}

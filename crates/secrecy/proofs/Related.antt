@@ -1,7 +1,6 @@
 -- Two stores during a run: apart in the first n bytes of a plain file that nobody may read, or equal. n is the file's length where the list
 -- starts: calls put the same bytes into both, so the difference never grows. The rules see none of it, and every form of change keeps it.
 use mathlib.Core.Path.{◌≡◌, sym, ap, ◌∙◌, subst, fun_ext}
-use mathlib.Core.Bool.{true}
 use mathlib.Core.List.{List, [], ◌∷◌, ◌++◌}
 use mathlib.Core.Logic.{◌≢◌}
 use Prim.Native.Nat.{ℕ, zero, suc, ◌+◌, ◌*◌, ◌≤◌, ◌<◌}

@@ -1,5 +1,4 @@
 use mathlib.Core.Path.{refl, ap}
-use Prim.Native.Nat.{◌-◌}
 use Rattle.rules.proofs.Scans.{first-yes, first-no, first_done}
 use Rattle.rules.specs.Store.{ofd_of}
 use Rattle.allocation.proofs.free.first_free_ofd.Goals as goal

@@ -1,4 +1,3 @@
-use Prim.Native.Nat.{◌-◌}
 use Rattle.allocation.proofs.Descriptors.{at-start, fits, next, at-end}
 use Rattle.allocation.proofs.used.word_of.Goals as goal
 

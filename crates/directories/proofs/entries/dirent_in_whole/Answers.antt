@@ -1,5 +1,4 @@
 use mathlib.Core.Path.{refl, ap}
-use Prim.Native.Nat.{◌-◌}
 use Rattle.rules.proofs.Scans.{first-yes, first-no, first_done}
 use Rattle.directories.proofs.ByWords.{both_words, not_low, not-high}
 use Rattle.rules.specs.Store.{entry}

@@ -1,7 +1,5 @@
-use Prim.Native.Nat.{◌-◌}
 use native.Mathlib.Omega.{arith}
 use Rattle.rules.proofs.Scans.{count_yes, count_no, count-done}
-use Rattle.rules.specs.Directories.{is_before}
 use Rattle.directories.proofs.entries.rank_of.Goals as goal
 use Rattle.directories.proofs.entries.rank_of.Goals.{then-is_before, else-is_before}
 

@@ -1,5 +1,4 @@
 use mathlib.Core.Path.{refl}
-use Prim.Native.Nat.{◌-◌}
 use Rattle.rules.proofs.Lists.{padded-start, padded-step, padded-done}
 use borrow.Author.Rules.{rules}
 use Rattle.rows.proofs.rows.put_name.Goals as goal

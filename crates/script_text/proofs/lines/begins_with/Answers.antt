@@ -1,5 +1,4 @@
 use mathlib.Core.Path.{refl}
-use Prim.Native.Nat.{◌-◌}
 use Rattle.rules.proofs.Scans.{all_yes, all-no, all_done}
 use Rattle.script_rules.specs.Blocks.{has_key}
 use Rattle.script_text.proofs.lines.begins_with.Goals as goal

@@ -1,4 +1,3 @@
-use Prim.Native.Nat.{◌-◌}
 use Rattle.script_text.proofs.Spans.{more, stop, past}
 use Rattle.script_text.proofs.lines.text_length.Goals as goal
 

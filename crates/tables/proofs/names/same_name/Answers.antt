@@ -1,4 +1,4 @@
-use Rattle.std.proofs.Common.{◌-◌, refl}
+use Rattle.std.proofs.Common.{refl}
 use Rattle.rules.proofs.Scans.{all_yes, all-no, all_done}
 use Rattle.rules.specs.Paths.{same_name}
 use Rattle.tables.proofs.names.same_name.Goals as goal

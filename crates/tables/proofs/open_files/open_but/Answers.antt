@@ -1,4 +1,4 @@
-use Rattle.std.proofs.Common.{◌-◌, refl}
+use Rattle.std.proofs.Common.{refl}
 use Rattle.rules.proofs.Scans.{any-yes, any-no, any-done}
 use Rattle.rules.specs.Store.{open_but}
 use Rattle.tables.proofs.open_files.open_but.Goals as goal

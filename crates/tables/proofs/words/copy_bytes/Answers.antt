@@ -1,4 +1,4 @@
-use Rattle.std.proofs.Common.{◌-◌, rules}
+use Rattle.std.proofs.Common.{rules}
 use Rattle.rules.proofs.Lists.{sets-out, sets-step, sets-done}
 use Rattle.tables.proofs.words.copy_bytes.Goals as goal
 
