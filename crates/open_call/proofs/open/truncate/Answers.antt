@@ -1,0 +1,4 @@
+use Rattle.open_call.proofs.open.truncate.Goals as goal
+
+pub returns : goal.returns
+returns c = cc

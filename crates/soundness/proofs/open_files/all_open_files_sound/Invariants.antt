@@ -1,0 +1,13 @@
+use mathlib.Core.Path.{◌≡◌}
+use Prim.Native.Nat.{◌-◌}
+use Rattle.rules.specs.Layout.{OPEN_FILES, OPEN_FILE_WIDTH, FILE_WIDTH}
+use Rattle.rules.specs.Scan.{all}
+use Rattle.rules.specs.Store.{tab}
+use Rattle.soundness.specs.Counted.{open_sound_by}
+use Rattle.soundness.proofs.open_files.all_open_files_sound.Given as goal
+
+abbrev pub invariant-loop-e : goal.invariant-loop-e
+invariant-loop-e l = all (open_sound_by (tab FILE_WIDTH l.files) (tab OPEN_FILE_WIDTH l.open_files) l.held) l.e OPEN_FILES ≡ all (open_sound_by (tab FILE_WIDTH l.files) (tab OPEN_FILE_WIDTH l.open_files) l.held) 0 OPEN_FILES
+
+abbrev pub decreases-loop-e : goal.decreases-loop-e
+decreases-loop-e l = OPEN_FILES - l.e

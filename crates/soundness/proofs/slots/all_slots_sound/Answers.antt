@@ -1,0 +1,16 @@
+use mathlib.Core.Path.{refl}
+use Prim.Native.Nat.{◌-◌}
+use Rattle.rules.proofs.Scans.{all_yes, all-no, all_done}
+use Rattle.soundness.proofs.slots.all_slots_sound.Goals as goal
+
+pub loop-s-init : goal.loop-s-init
+loop-s-init c = refl
+
+pub loop-s-preserved : goal.loop-s-preserved
+loop-s-preserved c = search all_yes
+
+pub returns-else-slot_sound : goal.returns-else-slot_sound
+returns-else-slot_sound c = search all-no
+
+pub returns : goal.returns
+returns c = search all_done
