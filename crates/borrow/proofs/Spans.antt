@@ -33,7 +33,7 @@ use Rattle.borrow.specs.declared.span.Borrowed.{Borrowed}
 use Rattle.borrow.specs.Lent.{lent_back, of_outcome}
 use Rattle.borrow.specs.Judged.{judged, refusal_of, bytes_lent, moved_on}
 use Rattle.borrow.specs.Spans.{span_bytes, placed, memory_of, place_of, span_in, span_out, span_of}
-use Rattle.borrow.proofs.Steps.{lent_back}
+use Rattle.borrow.proofs.Steps.{lent_back_lem}
 
 -- ---- tails and parts of lists
 
@@ -196,7 +196,7 @@ module _ (K : Fixed) (s : Store) (p : Pid) (i : Fd) (n : ℕ) where
     bytes-are = rw (b, a) judged-bytes
 
     pub span-back : (e : Ofd) (t : Store) → e ≡ ofd_held (view s).desc p i → t ≡ moved_on e d s → lent_back v.refusal (span_bytes K.rom s.contents v) t ≡ of_outcome (step_borrow K s p i n)
-    span-back e t q m = lent_back K s p i n d e v.refusal (span_bytes K.rom s.contents v) t a q (rw b (span-refusal K.rom s.contents d)) bytes-are m
+    span-back e t q m = lent_back_lem K s p i n d e v.refusal (span_bytes K.rom s.contents v) t a q (rw b (span-refusal K.rom s.contents d)) bytes-are m
 
     pub span_value : v.value ≡ length (span_bytes K.rom s.contents v)
     span_value = rw bytes-are (rw b (value_of K.rom s.contents d))
