@@ -17,7 +17,7 @@ use tables::words::{copy_bytes, zero_bytes};
 const ROM_ROOM: usize = 9216;
 
 // The tables, and whether the last line was understood. The factory part is the first `rom_size` bytes of its room.
-#[derive(Drop)]
+#[derive(Clone, Copy)]
 pub(crate) struct Console {
     pub(crate) known: bool,
     pub(crate) files: [u32; FILES_SIZE],

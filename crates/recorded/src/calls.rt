@@ -27,7 +27,7 @@ fn request(call: &[u8]) -> Request
 }
 
 // The tables after the call, and its answer.
-#[derive(Drop)]
+#[derive(Clone, Copy)]
 struct Served {
     answer: Answer,
     tables: Tables,

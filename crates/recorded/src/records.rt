@@ -21,7 +21,7 @@ pub(crate) const POLICY_ROOM: usize = POLICY_SIZE + 1;
 const ROM_ROOM: usize = 9216;
 
 // `sizes` says how much of each table is lent. The factory part is the first `rom_size` bytes of its room.
-#[derive(Drop)]
+#[derive(Clone, Copy)]
 pub(crate) struct Tables {
     pub(crate) broken: bool,
     pub(crate) ended: bool,

@@ -1,0 +1,6 @@
+use Rattle.rules.specs.Step.{act}
+use Rattle.abi_act.proofs.mritvelja_act.Goals as goal
+
+pub returns : goal.returns
+unfolding act
+returns c = rw c.decide_call-d.ensures at c.settle.ensures
