@@ -1,0 +1,4 @@
+use Rattle.recorded.proofs.records.put_bytes.Goals as goal
+
+pub returns : goal.returns
+returns c = cc

@@ -1,8 +1,0 @@
-use Rattle.recorded.specs.Records.{open_files_from}
-use borrow.Author.Rules.{rules}
-use Rattle.recorded.proofs.records.set_open_files.Statement.{statement}
-use Rattle.recorded.proofs.records.set_open_files.Tie as tie
-
-pub set_open_files_spec : {M : Type 1} → statement M
-unfolding open_files_from
-set_open_files_spec = tie.close (tie.spec (λ c. search rules) (λ c κs. tt) (λ c. cc))
