@@ -16,4 +16,4 @@ slice_bounds-make-end c = sym (length-take-le _ _ (search rules))
 
 pub returns : goal.returns
 unfolding record_called
-returns c = left-of _ _ _ _ _ c.is_cut.ensures c.if-is_cut.false (rw (c.make.ensures.0, c.after.ensures, c.upto.ensures, c.request.ensures, c.least-n.ensures, c.short_at.ensures.0, c.after-rest.ensures, c.byte-length.ensures, c.after-call.ensures))
+returns c = left-of _ _ _ _ _ c.is_cut.ensures c.if-is_cut.false (rw (c.make.ensures.tables, c.after.ensures, c.upto.ensures, c.request.ensures, c.least-n.ensures, c.short_at.ensures.is, c.after-rest.ensures, c.byte-length.ensures, c.after-call.ensures))

@@ -5,7 +5,7 @@ use Rattle.recorded.proofs.WordLaws.{full, done, more}
 use Rattle.recorded.proofs.records.put_words.Goals as goal
 
 pub loop-i-init : goal.loop-i-init
-loop-i-init c = (refl, rw (c.place_at-a.ensures.0, c.after-rest.ensures))
+loop-i-init c = (refl, rw (c.place_at-a.ensures.is, c.after-rest.ensures))
 
 pub returns-then-words-a : goal.returns-then-words-a
 returns-then-words-a c = search full
