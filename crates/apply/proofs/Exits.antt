@@ -1,16 +1,15 @@
 -- A descriptor whose word is 0 is released by changing nothing.
 use Prim.Native.Nat.{ℕ, zero, suc, ◌+◌, ◌*◌}
 use mathlib.Core.Path.{◌≡◌, refl, ap}
-use mathlib.Core.Bool.{Bool, true, false, cond, not}
+use mathlib.Core.Bool.{Bool, true, false, cond}
 use mathlib.Core.List.{List, [], ◌∷◌}
 use borrow.Author.Tests.{eqb-true}
 use lib.Dec.{eqb, ltb}
 use lib.ListN.{get_or, set}
 use Rattle.rules.specs.Layout.{PROCESS_WIDTH, PROCESS_DESCRIPTOR, DESCRIPTORS}
-use Rattle.rules.specs.Store.{Store, store, view, desc_of, apply_all, fd_of}
+use Rattle.rules.specs.Store.{Store, desc_of, apply_all}
 use Rattle.rules.specs.Checks.{held, releasing}
 use Rattle.rules.specs.Effects.{release_changes, close_changes, released}
-use Rattle.rules.specs.declared.decision.Release.TheVariants as release
 use Rattle.rules.specs.declared.ids.Pid.{Pid}
 
 set_same : (xs : List ℕ) (k : ℕ) → get_or xs k 0 ≡ 0 → set xs k 0 ≡ xs

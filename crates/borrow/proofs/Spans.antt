@@ -1,6 +1,6 @@
 -- The numbers of a borrowing read name its bytes.
-use Prim.Native.Nat.{ℕ, zero, suc, ◌+◌, ◌-◌, ◌*◌, ◌%◌, ◌^◌, ◌≤◌, ◌<◌, min}
-use mathlib.Core.Path.{◌≡◌, refl, sym, ap, ◌∙◌}
+use Prim.Native.Nat.{ℕ, zero, suc, ◌+◌, ◌-◌, ◌*◌, ◌^◌, ◌≤◌, ◌<◌, min}
+use mathlib.Core.Path.{◌≡◌, refl, ap, ◌∙◌}
 use mathlib.Core.Bool.{Bool, true, false, cond}
 use mathlib.Core.List.{List, [], ◌∷◌}
 use native.Mathlib.Nat.{mod-eq_of_lt}
@@ -13,7 +13,7 @@ use Rattle.rules.specs.Choice.{every}
 use Rattle.rules.specs.Layout.{BLOCK, SLOTS, PROMPTS}
 use Rattle.rules.specs.Store.{Fixed, Store, view, is_slot, block}
 use Rattle.rules.specs.Refusals.{GRANTED}
-use Rattle.rules.specs.Rom.{seen, prompt_length, next_prompt, rom_from, prompt_sound, prompts_sound, rom_sound, first_prompt, prompt}
+use Rattle.rules.specs.Rom.{seen, prompt_length, next_prompt, rom_from, prompt_sound, prompts_sound, first_prompt, prompt}
 use Rattle.rules.specs.Sound.{slots_sized, sizes_sound, tables_sound, opens_within, store_sound, sound}
 use Rattle.rules.specs.Checks.{ofd_held}
 use Rattle.rules.specs.Decide.{decide_borrow}

@@ -1,9 +1,8 @@
 -- Laws of a line that makes a call.
 use Prim.Native.Nat.{ℕ, zero, suc, ◌+◌, ◌≤◌, ◌<◌}
-use mathlib.Core.Path.{◌≡◌, refl, sym, ◌∙◌, ap}
+use mathlib.Core.Path.{◌≡◌, refl, ◌∙◌, ap}
 use mathlib.Core.Bool.{Bool, true, false, cond, not, false≢true}
 use mathlib.Core.List.{List, [], ◌∷◌}
-use native.Mathlib.Omega.{arith}
 use native.Mathlib.Nat.{not-suc-le-zero, le_of_suc-le-suc}
 use borrow.Author.Tests.{le-ltb, lt-ltb, leb-true, not-true, not-false}
 use lib.Dec.{eqb, leb}
@@ -22,7 +21,7 @@ use Rattle.console.specs.Texts.{text_bytes, text_length}
 use Rattle.console.specs.Settings.{tables, part_of, with_known}
 use Rattle.console.specs.declared.settings.Console.{Console}
 use Rattle.console.specs.declared.calls.Parsed.{Parsed}
-use Rattle.console.specs.Calls.{CALLS, PATH, DATA, call_number, parts_of, part_at, place_of, part_length, part_bytes, part_place, request_in, buffer_size, fits, is_call, parsed, call_in, outcome_on, called_tables, line_called}
+use Rattle.console.specs.Calls.{CALLS, PATH, DATA, call_number, parts_of, part_at, place_of, part_length, part_bytes, part_place, request_in, buffer_size, fits, is_call, parsed, outcome_on, called_tables, line_called}
 use Rattle.console.proofs.SettingLaws.{shown, front}
 
 -- ---- the call's number

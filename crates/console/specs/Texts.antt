@@ -1,5 +1,5 @@
 -- Texts: a byte stands for itself, but `\xNN` is byte NN.
-use Rattle.std.specs.Prelude.{ℕ, zero, suc, ◌+◌, ◌-◌, ◌*◌, Bool, true, false, cond, not, List, [], ◌∷◌, eqb, ltb, leb, length, get_or, drop}
+use Rattle.std.specs.Prelude.{ℕ, zero, suc, ◌+◌, ◌*◌, Bool, true, false, cond, not, List, [], ◌∷◌, eqb, ltb, leb, length, get_or, drop}
 use Rattle.rules.specs.Choice.{every}
 use Rattle.script_rules.specs.Text.{is_hex, hex_value}
 

@@ -1,6 +1,6 @@
 -- What each effect of a call of user A leaves of foo, of bar and of the processes.
 use mathlib.Core.Path.{◌≡◌, refl, sym, subst, ap, ◌∙◌}
-use mathlib.Core.Bool.{true, false, false≢true}
+use mathlib.Core.Bool.{true, false≢true}
 use Prim.Native.Nat.{ℕ, ◌<◌}
 use native.Mathlib.Omega.{arith}
 use Rattle.rules.specs.Layout.{SLOTS, NAME, FILE_KIND, FILE_OWNER, FILE_BITS, FILE_LENGTH, FILE_VERSION, OPEN_SLOT, OPEN_OFFSET, PLAIN, DIRECTORY}

@@ -9,7 +9,7 @@ use Rattle.rules.specs.Layout.{PROCESSES, DESCRIPTORS}
 use Rattle.rules.specs.Store.{Store}
 use Rattle.rules.specs.Checks.{held}
 use Rattle.preservation.proofs.Tests.{upd, upd_same, upd_other}
-use Rattle.preservation.proofs.Sums.{sum, ind, sum_same, sum-change, sum-none}
+use Rattle.preservation.proofs.Sums.{sum, ind, sum-change, sum-none}
 use Rattle.preservation.proofs.Scans.{count-sum, total-sum}
 use Rattle.preservation.proofs.StoreChanges.{tables_of}
 use Rattle.ownership.specs.Descriptors.{holds, held_by, held_in}

@@ -1,9 +1,9 @@
 -- Laws of a borrowing read on parts of the tables.
 use Prim.Native.Nat.{ℕ, min}
-use mathlib.Core.Path.{◌≡◌, sym, ◌∙◌, ap}
+use mathlib.Core.Path.{◌≡◌, ap}
 use mathlib.Core.List.{List, ◌++◌}
 use lib.ListN.{length, take, drop, take-append-drop}
-use Rattle.rules.specs.Store.{Store, fixed, store}
+use Rattle.rules.specs.Store.{fixed, store}
 use Rattle.rules.specs.Step.{step_borrow}
 use Rattle.rules.specs.declared.ids.Pid.{Pid}
 use Rattle.rules.specs.declared.ids.Fd.{Fd}

@@ -1,16 +1,15 @@
 -- Laws of `words_read`: the words of the path from `at` on, of which the first stands from s up to e; and what they have to do with a byte 0.
-use Prim.Native.Nat.{ℕ, zero, suc, ◌+◌, ◌-◌, ◌≤◌, ◌<◌}
+use Prim.Native.Nat.{ℕ, suc, ◌+◌, ◌-◌, ◌≤◌, ◌<◌}
 use mathlib.Core.Path.{◌≡◌, refl, sym, ◌∙◌}
 use mathlib.Core.Bool.{Bool, true, false, cond, false≢true}
 use mathlib.Core.List.{List, [], ◌∷◌}
 use native.Mathlib.Omega.{arith}
 use borrow.Author.Tests.{eq-eqb, ne_eqb, eqb-true}
-use lib.Dec.{eqb, eqb-suc-suc, eqb-zero-suc}
+use lib.Dec.{eqb-suc-suc, eqb-zero-suc}
 use lib.ListN.{length, take, drop, length-drop}
 use lib.Seq.{drop-drop}
 use Rattle.rules.specs.Choice.{every}
 use Rattle.rules.specs.Paths.{span, skip, is_slash, not_slash, not_zero, no_zero}
-use Rattle.resolution.specs.declared.paths.Parsed.{Parsed}
 use Rattle.resolution.specs.declared.paths.Parsed.TheVariants.{Bad, Names}
 use Rattle.resolution.specs.Parse.{inner, word, word_end, word_ok, words_read}
 

@@ -1,5 +1,4 @@
 use borrow.Author.Rules.{rules}
-use Prim.Native.Nat.{◌-◌}
 use Rattle.rules.specs.Effects.{released_all}
 use Rattle.rules.proofs.Scans.{repeat-step, repeat-done}
 use Rattle.apply.proofs.carry.release_all.Goals as goal

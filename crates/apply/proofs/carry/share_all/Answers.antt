@@ -1,6 +1,5 @@
 use borrow.Author.Rules.{rules}
 use mathlib.Core.Path.{refl}
-use Prim.Native.Nat.{◌-◌}
 use Rattle.rules.specs.Effects.{shared_all}
 use Rattle.rules.proofs.Scans.{repeat-step, repeat-done}
 use Rattle.apply.proofs.carry.share_all.Goals as goal

@@ -1,4 +1,3 @@
-use Prim.Native.Nat.{◌-◌}
 use Rattle.console.proofs.SettingLaws.{head-start, head-ends, head_more, head_done}
 use Rattle.console.proofs.settings.fresh.Goals as goal
 

@@ -1,5 +1,4 @@
 use mathlib.Core.Path.{refl}
-use Prim.Native.Nat.{◌-◌}
 use Rattle.rules.proofs.Scans.{first-yes, first-no, first_done}
 use Rattle.console.proofs.settings.numbers_end.Goals as goal
 

@@ -1,4 +1,3 @@
-use Prim.Native.Nat.{◌-◌}
 use mathlib.Core.Path.{refl}
 use Rattle.script_text.proofs.Spans.{more, stop, past as end}
 use Rattle.console.specs.Words.{past}

@@ -1,4 +1,3 @@
-use Prim.Native.Nat.{◌-◌}
 use Rattle.rules.proofs.Scans.{repeat-step, repeat-done}
 use Rattle.console.specs.Words.{word_start}
 use Rattle.console.proofs.words.word_start.Goals as goal

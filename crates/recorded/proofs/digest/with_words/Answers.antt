@@ -1,4 +1,3 @@
-use Prim.Native.Nat.{◌-◌}
 use mathlib.Core.Path.{refl}
 use Rattle.recorded.proofs.DigestLaws.{more, done}
 use Rattle.recorded.proofs.digest.with_words.Goals as goal

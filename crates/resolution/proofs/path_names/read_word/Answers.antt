@@ -1,4 +1,3 @@
-use Prim.Native.Nat.{◌-◌}
 use borrow.Author.Rules.{rules}
 use Rattle.resolution.proofs.Packed.{at-start, stop-end, stop-slash, stop-full, fits, again}
 use Rattle.resolution.proofs.path_names.read_word.Goals as goal

@@ -1,4 +1,3 @@
-use Prim.Native.Nat.{◌-◌}
 use Rattle.soundness.proofs.Flags.{or-next, or-done, zero-all}
 use Rattle.soundness.proofs.bytes.all_zero.Goals as goal
 

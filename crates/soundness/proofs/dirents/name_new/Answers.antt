@@ -1,4 +1,3 @@
-use Prim.Native.Nat.{◌-◌}
 use Rattle.rules.proofs.Scans.{all_yes, all-no, all_done}
 use Rattle.soundness.proofs.NewNames.{others_by}
 use Rattle.soundness.proofs.dirents.name_new.Goals as goal

@@ -1,8 +1,6 @@
-use Prim.Native.Nat.{◌-◌}
 use native.Mathlib.Omega.{arith}
 use borrow.Author.Rules.{rules}
 use Rattle.rules.proofs.Scans.{count_yes, count_no, count-done}
-use Rattle.rules.specs.Sound.{is_used}
 use Rattle.soundness.proofs.dirents.used_count.Goals as goal
 use Rattle.soundness.proofs.dirents.used_count.Goals.{then-is_used, else-is_used}
 

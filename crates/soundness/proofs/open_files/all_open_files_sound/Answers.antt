@@ -1,5 +1,4 @@
 use mathlib.Core.Path.{refl}
-use Prim.Native.Nat.{◌-◌}
 use Rattle.rules.proofs.Scans.{all_yes, all-no, all_done}
 use Rattle.soundness.proofs.open_files.all_open_files_sound.Goals as goal
 

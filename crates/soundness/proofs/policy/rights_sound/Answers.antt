@@ -1,5 +1,4 @@
 use mathlib.Core.Path.{refl}
-use Prim.Native.Nat.{◌-◌}
 use Rattle.soundness.proofs.Flags.{flag-next, flag-done}
 use Rattle.soundness.proofs.policy.rights_sound.Goals as goal
 

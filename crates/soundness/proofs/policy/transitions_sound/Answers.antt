@@ -1,5 +1,4 @@
 use mathlib.Core.Path.{refl}
-use Prim.Native.Nat.{◌-◌}
 use Rattle.soundness.proofs.Flags.{flag-next, flag-done}
 use Rattle.soundness.proofs.policy.transitions_sound.Goals as goal
 

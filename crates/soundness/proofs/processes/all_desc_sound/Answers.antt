@@ -1,5 +1,4 @@
 use mathlib.Core.Path.{refl}
-use Prim.Native.Nat.{◌-◌}
 use Rattle.rules.proofs.Scans.{all_yes, all-no, all_done}
 use Rattle.soundness.proofs.processes.all_desc_sound.Goals as goal
 
