@@ -135,8 +135,8 @@ pub fn borrow_span<'a>(
     i: Fd,
     n: u32,
 ) -> Borrowed
-    ensures processes_after { lent_back result.refusal (span_bytes rom.now contents.now result) (store files.now contents.now open_files.new processes.now) ≡ of_outcome (step_borrow (fixed policy.now rom.now) (store files.now contents.now open_files.old processes.now) p i n) }
-    ensures value_value { result.value ≡ length (span_bytes rom.now contents.now result) }
+    ensures outcome { lent_back result.refusal (span_bytes rom.now contents.now result) (store files.now contents.now open_files.new processes.now) ≡ of_outcome (step_borrow (fixed policy.now rom.now) (store files.now contents.now open_files.old processes.now) p i n) }
+    ensures value { result.value ≡ length (span_bytes rom.now contents.now result) }
 {
     let d = judge(files, contents, open_files, processes, policy, rom, p, i, n);
     move_on(open_files, ofd_held(processes, p, i), d);
