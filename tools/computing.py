@@ -14,16 +14,16 @@ def write(crate, what, below=None):
     modules = [m for m in re.findall(r'^pub mod (\S+)$', lib, re.M) if m != 'Computing']
     uses, names = [], []
     if below:
-        uses.append(f'use Rattle·{below}.specs.Computing.{{computing as {below}-computing}}')
+        uses.append(f'use Rattle.{below}.specs.Computing.{{computing as {below}-computing}}')
         names.append(f'{below}-computing')
     for m in modules:
         found = re.findall(r'^unfoldable pub (\S+) :', open(f'crates/{crate}/specs/{m}.antt').read(), re.M)
         if found:
-            uses.append(f'use Rattle·{crate}·specs.specs.{m}.{{{", ".join(found)}}}')
+            uses.append(f'use Rattle.{crate}.specs.{m}.{{{", ".join(found)}}}')
             names += found
     with open(f'crates/{crate}/specs/Computing.antt', 'w') as f:
         f.write(f'-- Opens every definition of {what}, for proofs by computation: `unfolding computing`. Written by tools/computing.py.\n')
-        f.write('use mathlib.Core.Bool.{Bool, true}\n' + '\n'.join(uses) + '\n\n')
+        f.write('use Rattle.std.specs.Prelude.{Bool, true}\n' + '\n'.join(uses) + '\n\n')
         f.write('unfoldable pub computing : Bool\nunfolding ' + ' '.join(names) + '\ncomputing = true\n')
 
 
