@@ -13,9 +13,9 @@ use Rattle.rules.specs.Store.{block}
 
 -- ---- one element, or some in a row, put anew
 
-pub get_d_sets_before : (l : List ℕ) (i : ℕ) (vs : List ℕ) (j : ℕ) → j < i → get_or (sets l i vs) j 0 ≡ get_or l j 0
-get_d_sets_before l i [] j h = refl
-get_d_sets_before l i (v ∷ vs) j h = get_d_sets_before (set l i v) (suc i) vs j (omega arith) ∙ get_or-set_other l i j v 0 (λ e. omega arith)
+pub get_or-sets_before : (l : List ℕ) (i : ℕ) (vs : List ℕ) (j : ℕ) → j < i → get_or (sets l i vs) j 0 ≡ get_or l j 0
+get_or-sets_before l i [] j h = refl
+get_or-sets_before l i (v ∷ vs) j h = get_or-sets_before (set l i v) (suc i) vs j (omega arith) ∙ get_or-set_other l i j v 0 (λ e. omega arith)
 
 pub get_or-sets-past : (l : List ℕ) (i : ℕ) (vs : List ℕ) (j : ℕ) → i + length vs ≤ j → get_or (sets l i vs) j 0 ≡ get_or l j 0
 get_or-sets-past l i [] j h = refl
@@ -25,7 +25,7 @@ pub get_or-sets-in : (l : List ℕ) (i : ℕ) (vs : List ℕ) (k : ℕ) → i + 
 get_or-sets-in l i [] k h g = absurd (omega arith)
 get_or-sets-in l i (v ∷ vs) zero h g =
     let e : i + 0 ≡ i = omega arith in
-    rw e (get_d_sets_before (set l i v) (suc i) vs i (omega arith) ∙ get_or-set_same l i v 0 (omega arith))
+    rw e (get_or-sets_before (set l i v) (suc i) vs i (omega arith) ∙ get_or-set_same l i v 0 (omega arith))
 get_or-sets-in l i (v ∷ vs) (suc k) h g =
     let e : i + suc k ≡ suc i + k = omega arith in
     rw e (get_or-sets-in (set l i v) (suc i) vs k (rw length-set (omega arith)) (omega arith))

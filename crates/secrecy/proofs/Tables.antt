@@ -10,7 +10,7 @@ use lib.Seq.{sets, length-sets, get_or-set_same, get_or-set_other}
 use Rattle.rules.specs.Layout.{SLOTS, FILE_WIDTH, FILE_KIND, FILE_LABEL, FILE_LENGTH, PLAIN, PROCESSES, PROCESS_WIDTH, PROCESS_DESCRIPTOR, DESCRIPTORS, PROCESS_USED, PROCESS_LABEL}
 use Rattle.rules.specs.Store.{tab, proc_of, puts, zeros}
 use Rattle.rules.proofs.Lists.{puts-sets, length-zeros}
-use Rattle.secrecy.proofs.Agree.{get_d_sets_before, get_or-sets-past, get_or-sets-in}
+use Rattle.secrecy.proofs.Agree.{get_or-sets_before, get_or-sets-past, get_or-sets-in}
 
 -- ---- the files: slot f has a plain file with label L, not shorter than n
 
@@ -52,7 +52,7 @@ record-other F t f j ws w ne h = rw puts-sets (go (dec_lt t f))
   where
     go : Dec (t < f) → get_or (sets F (FILE_WIDTH * t + 0) ws) (FILE_WIDTH * f + j) 0 ≡ get_or F (FILE_WIDTH * f + j) 0
     go (yes lt) = get_or-sets-past F (FILE_WIDTH * t + 0) ws (FILE_WIDTH * f + j) (omega arith)
-    go (no ge) = get_d_sets_before F (FILE_WIDTH * t + 0) ws (FILE_WIDTH * f + j) (omega (arith, ne))
+    go (no ge) = get_or-sets_before F (FILE_WIDTH * t + 0) ws (FILE_WIDTH * f + j) (omega (arith, ne))
 
 pub own-record : (f n L : ℕ) (F : List ℕ) (t : ℕ) (ws : List ℕ) → length ws ≡ FILE_WIDTH → t ≢ f → Own f n L F → Own f n L (puts FILE_WIDTH F t 0 ws)
 own-record f n L F t ws w ne o = record {
@@ -110,8 +110,8 @@ module _ (reach : ℕ → Type 0) (P : List ℕ) (old : Labels reach P) (p : ℕ
           let y : get_or (sets P (PROCESS_WIDTH * p + 0) ws) (PROCESS_WIDTH * q + PROCESS_USED) 0 ≡ get_or P (PROCESS_WIDTH * q + PROCESS_USED) 0 = get_or-sets-past P (PROCESS_WIDTH * p + 0) ws (PROCESS_WIDTH * q + PROCESS_USED) (omega arith) in
           rw m (old.used q b (rw y at u))
       go q b u (no ne) (no ge) =
-          let m : get_or (sets P (PROCESS_WIDTH * p + 0) ws) (PROCESS_WIDTH * q + PROCESS_LABEL) 0 ≡ get_or P (PROCESS_WIDTH * q + PROCESS_LABEL) 0 = get_d_sets_before P (PROCESS_WIDTH * p + 0) ws (PROCESS_WIDTH * q + PROCESS_LABEL) (omega (arith, ne)) in
-          let y : get_or (sets P (PROCESS_WIDTH * p + 0) ws) (PROCESS_WIDTH * q + PROCESS_USED) 0 ≡ get_or P (PROCESS_WIDTH * q + PROCESS_USED) 0 = get_d_sets_before P (PROCESS_WIDTH * p + 0) ws (PROCESS_WIDTH * q + PROCESS_USED) (omega (arith, ne)) in
+          let m : get_or (sets P (PROCESS_WIDTH * p + 0) ws) (PROCESS_WIDTH * q + PROCESS_LABEL) 0 ≡ get_or P (PROCESS_WIDTH * q + PROCESS_LABEL) 0 = get_or-sets_before P (PROCESS_WIDTH * p + 0) ws (PROCESS_WIDTH * q + PROCESS_LABEL) (omega (arith, ne)) in
+          let y : get_or (sets P (PROCESS_WIDTH * p + 0) ws) (PROCESS_WIDTH * q + PROCESS_USED) 0 ≡ get_or P (PROCESS_WIDTH * q + PROCESS_USED) 0 = get_or-sets_before P (PROCESS_WIDTH * p + 0) ws (PROCESS_WIDTH * q + PROCESS_USED) (omega (arith, ne)) in
           rw m (old.used q b (rw y at u))
 
   pub labels-own : (ws : List ℕ) → length ws ≡ PROCESS_DESCRIPTOR → (get_or ws PROCESS_USED 0 ≡ 1 → reach (get_or ws PROCESS_LABEL 0)) → Labels reach (puts PROCESS_WIDTH P p 0 ws)
