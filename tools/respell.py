@@ -1,5 +1,5 @@
 #!/usr/bin/env python3
-"""Brings the repository's own definitions and lemmas to Rattle's spelling. Run once, in the root, right after /opt/rattle/port/port.py.
+"""Brings the repository's own definitions and lemmas to Rattle's spelling. Run once, in the root, right after the kit's port/port.py.
 
 usage: tools/respell.py [FOLDER]
 
