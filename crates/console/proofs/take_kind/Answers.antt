@@ -25,4 +25,4 @@ returns-in-2 c = rw c.in-2.is c.show_line.ensures
 
 pub returns-in_default : goal.returns-in_default
 unfolding kind_taken
-returns-in_default c = other _ _ _ _ c.asked_line.ensures c.in_default.in_default-own.rest.0.0.1 c.in_default.in_default-own.rest.0.1 c.in_default.in_default-own.rest.1
+returns-in_default c = search other

@@ -1,8 +1,5 @@
 use Rattle.console.proofs.CallLaws.{tables_after}
 use Rattle.console.proofs.calls.serve.Goals as goal
 
-pub returns-clause-tables : goal.returns-clause-tables
-returns-clause-tables c = (tables_after c.args.s _ c.upto.ensures c.call-a.ensures).0
-
-pub returns-clause-buffer : goal.returns-clause-buffer
-returns-clause-buffer c = (tables_after c.args.s _ c.upto.ensures c.call-a.ensures).1
+pub returns : goal.returns
+returns c = let h = tables_after c.args.s _ c.upto.ensures c.call-a.ensures in record { tables = h.0; buffer = h.1 }

@@ -7,29 +7,17 @@ use Rattle.console.proofs.texts.unescape.Goals as goal
 pub loop-n-init : goal.loop-n-init
 loop-n-init c = (refl, start c.args.text.now c.args.out.now)
 
-pub returns-then-text-i-clause-count : goal.returns-then-text-i-clause-count
-returns-then-text-i-clause-count c = (all_read _ _ _ _ _ c.loop-n.invariant.1 c.if-text-i.true).0
+pub returns-then-text-i : goal.returns-then-text-i
+returns-then-text-i c = let h = all_read _ _ _ _ _ c.loop-n.invariant.1 c.if-text-i.true in record { count = h.0; bytes = h.1 }
 
-pub returns-then-text-i-clause-bytes : goal.returns-then-text-i-clause-bytes
-returns-then-text-i-clause-bytes c = (all_read _ _ _ _ _ c.loop-n.invariant.1 c.if-text-i.true).1
+pub returns-then-b-gt255 : goal.returns-then-b-gt255
+returns-then-b-gt255 c = let h = no_byte _ _ _ _ _ c.loop-n.invariant.1 c.loop-n-test.true c.if-text-i.false c.after-rest.ensures c.first_byte-b.ensures (omega arith) in record { count = h.0; bytes = h.1 }
 
-pub returns-then-b-gt255-clause-count : goal.returns-then-b-gt255-clause-count
-returns-then-b-gt255-clause-count c = (no_byte _ _ _ _ _ c.loop-n.invariant.1 c.loop-n-test.true c.if-text-i.false c.after-rest.ensures c.first_byte-b.ensures (omega arith)).0
-
-pub returns-then-b-gt255-clause-bytes : goal.returns-then-b-gt255-clause-bytes
-returns-then-b-gt255-clause-bytes c = (no_byte _ _ _ _ _ c.loop-n.invariant.1 c.loop-n-test.true c.if-text-i.false c.after-rest.ensures c.first_byte-b.ensures (omega arith)).1
-
-pub returns-then-text-i-2-clause-count : goal.returns-then-text-i-2-clause-count
-returns-then-text-i-2-clause-count c = (no_room _ _ _ _ _ c.loop-n.invariant.1 c.loop-n-test.true c.if-text-i.false c.after-rest.ensures c.first_byte-b.ensures (omega arith) c.first_width-w.ensures c.if-text-i-2.true).0
-
-pub returns-then-text-i-2-clause-bytes : goal.returns-then-text-i-2-clause-bytes
-returns-then-text-i-2-clause-bytes c = (no_room _ _ _ _ _ c.loop-n.invariant.1 c.loop-n-test.true c.if-text-i.false c.after-rest.ensures c.first_byte-b.ensures (omega arith) c.first_width-w.ensures c.if-text-i-2.true).1
+pub returns-then-text-i-2 : goal.returns-then-text-i-2
+returns-then-text-i-2 c = let h = no_room _ _ _ _ _ c.loop-n.invariant.1 c.loop-n-test.true c.if-text-i.false c.after-rest.ensures c.first_byte-b.ensures (omega arith) c.first_width-w.ensures c.if-text-i-2.true in record { count = h.0; bytes = h.1 }
 
 pub loop-n-preserved : goal.loop-n-preserved
 loop-n-preserved c = (search rules, more _ _ _ _ _ c.loop-n.invariant.1 c.loop-n-test.true c.if-text-i.false c.after-rest.ensures c.first_byte-b.ensures (omega arith) c.first_width-w.ensures c.if-text-i-2.false c.put_byte.ensures)
 
-pub returns-clause-count : goal.returns-clause-count
-returns-clause-count c = (end _ _ _ c.loop-n.i _ c.loop-n.invariant.1 c.loop-n-test.false).0
-
-pub returns-clause-bytes : goal.returns-clause-bytes
-returns-clause-bytes c = (end _ _ _ c.loop-n.i _ c.loop-n.invariant.1 c.loop-n-test.false).1
+pub returns : goal.returns
+returns c = let h = end _ _ _ c.loop-n.i _ c.loop-n.invariant.1 c.loop-n-test.false in record { count = h.0; bytes = h.1 }

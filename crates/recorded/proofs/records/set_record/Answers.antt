@@ -44,4 +44,4 @@ returns-in-8 c = rw c.in-8.is c.set_rom.ensures
 
 pub returns-in_default : goal.returns-in_default
 unfolding record_set
-returns-in_default c = other _ _ _ c.broken.ensures c.in_default.in_default-own.rest.0.0.0.0.0.0.0.1 c.in_default.in_default-own.rest.0.0.0.0.0.0.1 c.in_default.in_default-own.rest.0.0.0.0.0.1 c.in_default.in_default-own.rest.0.0.0.0.1 c.in_default.in_default-own.rest.0.0.0.1 c.in_default.in_default-own.rest.0.0.1 c.in_default.in_default-own.rest.0.1 c.in_default.in_default-own.rest.1
+returns-in_default c = search other

@@ -5,13 +5,11 @@ use native.Mathlib.Nat.{le_of_lt}
 use native.Mathlib.Omega.{arith}
 use borrow.Author.Rules.{rules}
 use lib.ListN.{length, take, drop}
-use Rattle.rules.specs.Paths.{Name, span, is_slash, not_slash, first_names}
+use Rattle.rules.specs.Paths.{Name, span, is_slash, not_slash}
 use Rattle.resolution.proofs.Spans.{within}
 use Rattle.resolution.proofs.Names.{names-zero, no_names, more-names, last_of, last-of}
+use Rattle.resolution.proofs.paths.last_name.Invariants.{last}
 use Rattle.resolution.proofs.paths.last_name.Goals as goal
-
-abbrev last : List ℕ → ℕ → ℕ → ℕ → Name
-last p start end k = last_of (take (end - start) (drop start p)) (first_names (9 - k) (drop end p))
 
 module _ (p : List ℕ) (start end k : ℕ) (z : Name) (inv : last p start end k ≡ z) where
   past : 9 ≤ k → take (end - start) (drop start p) ≡ z

@@ -7,7 +7,7 @@ use Rattle.rules.specs.Paths.{Name, first_names}
 use Rattle.resolution.proofs.Names.{last_of}
 use Rattle.resolution.proofs.paths.last_name.Given as goal
 
-abbrev last : List ℕ → ℕ → ℕ → ℕ → Name
+abbrev pub last : List ℕ → ℕ → ℕ → ℕ → Name
 last p start end k = last_of (take (end - start) (drop start p)) (first_names (9 - k) (drop end p))
 
 abbrev pub invariant-loop-k : goal.invariant-loop-k

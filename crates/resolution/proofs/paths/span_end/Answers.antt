@@ -4,14 +4,11 @@ use mathlib.Core.Bool.{Bool, true, false}
 use mathlib.Core.List.{List}
 use Rattle.resolution.specs.declared.paths.ByteClass.{ByteClass}
 use native.Mathlib.Omega.{arith}
-use lib.ListN.{length, get_or, drop}
-use Rattle.rules.specs.Paths.{span}
+use lib.ListN.{length, get_or}
 use Rattle.resolution.specs.Parse.{in_class}
 use Rattle.resolution.proofs.Spans.{span_more, span-stop, span-past}
+use Rattle.resolution.proofs.paths.span_end.Invariants.{ends}
 use Rattle.resolution.proofs.paths.span_end.Goals as goal
-
-abbrev ends : List ℕ → ℕ → ByteClass → ℕ
-ends p i k = i + span (in_class k) (drop i p)
 
 module _ (p : List ℕ) (at i b : ℕ) (k : ByteClass) (r : Bool) (inv : ends p at k ≡ ends p i k) (l : i < length p) (q : b ≡ get_or p i 0) (e : r ≡ in_class k b) where
   more : r ≡ true → ends p at k ≡ ends p (i + 1) k

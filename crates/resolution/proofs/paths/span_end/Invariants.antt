@@ -8,7 +8,7 @@ use Rattle.rules.specs.Paths.{span}
 use Rattle.resolution.specs.Parse.{in_class}
 use Rattle.resolution.proofs.paths.span_end.Given as goal
 
-abbrev ends : List ℕ → ℕ → ByteClass → ℕ
+abbrev pub ends : List ℕ → ℕ → ByteClass → ℕ
 ends p i k = i + span (in_class k) (drop i p)
 
 abbrev pub invariant-loop-i : goal.invariant-loop-i
