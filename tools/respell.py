@@ -12,7 +12,7 @@ import os
 import re
 import sys
 
-# Lemmas and a label of which another name in their file would take the spelling.
+# Lemmas of which another name in their file would take the spelling.
 APART = {
     "crates/preservation/proofs/Granted.antt": {"in_use": "in_use_lem"},
     "crates/preservation/proofs/Borrowed.antt": {"in_use": "in_use_lem"},
@@ -25,7 +25,6 @@ APART = {
     "crates/resolution/proofs/Parsing.antt": {"on_read": "on_read_lem", "word_ok": "word_ok_lem"},
 }
 TOKEN = re.compile(r"[A-Za-z_α-ωΑ-Ω][A-Za-z0-9_'α-ωΑ-Ω₀-₉-]*")
-CAMEL = re.compile(r"[a-z0-9][A-Z]")
 CONSTANT = re.compile(r"[A-Z0-9]+(-[A-Z0-9]+)+$")
 SIGNATURE = re.compile(r"^ *(?:pub |abbrev |unfoldable )*([^\s:(){}]+(?: [^\s:(){}]+)*) : ", re.M)
 HEAD = re.compile(r"^ *(?:pub )?(?:data|record) ([^\s:]+)", re.M)
