@@ -18,6 +18,7 @@ use rules::answer::Answer;
 use rules::ids::{Fd, Pid};
 use rules::request::Request;
 use script_rules::replayed::Replayed;
+use tables::lent::{Call, Tables};
 
 // What came of a run of a script, as it crosses to C.
 #[repr(C)]
@@ -64,22 +65,18 @@ pub extern "C" fn mritvelja_call(
 ) -> Answer
     ensures { lent result buffer.new (store files.new contents.new open_files.new processes.new) ≡ lent_of (step (fixed policy.now rom.now) (store files.old contents.old open_files.old processes.old) (numbered process call descriptor number path.now «data».now buffer.old)) }
 {
-    store::call::call(
-        files,
-        contents,
-        open_files,
-        processes,
-        policy,
-        rom,
-        Request {
+    let call = Call {
+        request: Request {
             process: Pid(process),
             call: call,
             fd: Fd(descriptor),
             number: number,
         },
-        path,
-        data,
-        buffer,
+        path: path,
+        data: data,
+    };
+    store::call::call(
+        files, contents, open_files, processes, policy, rom, &call, buffer,
     )
 }
 
@@ -124,10 +121,15 @@ pub extern "C" fn mritvelja_sound(
 ) -> u32
     ensures { result ≡ flag (sound (fixed policy.now rom.now) (store files.now contents.now open_files.now processes.now)) }
 {
-    if soundness::store::sound(files, contents, open_files, processes, policy, rom) {
-        return 1;
-    }
-    0
+    let t = Tables {
+        files: files,
+        contents: contents,
+        open_files: open_files,
+        processes: processes,
+        policy: policy,
+        rom: rom,
+    };
+    if soundness::store::sound(&t) { 1 } else { 0 }
 }
 
 // The calls of a script, at most `allowance` of them; their answers go to the output, and past them it stays.

@@ -12,6 +12,7 @@ ghost use Rattle.store.specs.Numbered.{numbered};
 use rules::answer::Answer;
 use rules::ids::{Fd, Pid};
 use rules::request::Request;
+use tables::lent::{Call, Tables};
 
 // One call on tables that are known to be sound: no test is made.
 #[unsafe(no_mangle)]
@@ -32,16 +33,26 @@ pub extern "C" fn mritvelja_act(
 ) -> Answer
     ensures { lent result buffer.new (store files.new contents.new open_files.new processes.new) ≡ lent_of (act (fixed policy.now rom.now) (store files.old contents.old open_files.old processes.old) (numbered process call descriptor number path.now «data».now buffer.old)) }
 {
-    let c = Request {
-        process: Pid(process),
-        call: call,
-        fd: Fd(descriptor),
-        number: number,
+    let t = Tables {
+        files: files,
+        contents: contents,
+        open_files: open_files,
+        processes: processes,
+        policy: policy,
+        rom: rom,
     };
-    let d = decision::decide::decide_call(
-        files, contents, open_files, processes, policy, rom, c, path, data, buffer,
-    );
+    let call = Call {
+        request: Request {
+            process: Pid(process),
+            call: call,
+            fd: Fd(descriptor),
+            number: number,
+        },
+        path: path,
+        data: data,
+    };
+    let d = decision::decide::decide_call(&t, &call, buffer);
     store::call::settle(
-        files, contents, open_files, processes, rom, c, path, data, buffer, d,
+        files, contents, open_files, processes, rom, &call, buffer, d,
     )
 }

@@ -19,14 +19,11 @@ fn slot_free(files: &[u32], s: Slot) -> bool
 fn first_free_slot(files: &[u32]) -> Slot
     ensures { result ≡ free_slot (tab FILE_WIDTH files.now) }
 {
-    let mut s: u32 = 0;
-    while s < SLOTS {
-        if slot_free(files, Slot(s)) {
-            return Slot(s);
-        }
-        s += 1;
-    }
-    Slot(SLOTS)
+    Slot(
+        (0..SLOTS)
+            .find(|s| slot_free(files, Slot(*s)))
+            .unwrap_or(SLOTS),
+    )
 }
 
 // A table that is whole is handed on at its known length: no slot is then tested against its end. Only what is stored is looked at: the factory part's
@@ -49,14 +46,11 @@ fn ofd_free(open_files: &[u32], e: Ofd) -> bool
 fn first_free_ofd(open_files: &[u32]) -> Ofd
     ensures { result ≡ free_ofd (tab OPEN_FILE_WIDTH open_files.now) }
 {
-    let mut e: u32 = 0;
-    while e < OPEN_FILES {
-        if ofd_free(open_files, Ofd(e)) {
-            return Ofd(e);
-        }
-        e += 1;
-    }
-    Ofd(OPEN_FILES)
+    Ofd(
+        (0..OPEN_FILES)
+            .find(|e| ofd_free(open_files, Ofd(*e)))
+            .unwrap_or(OPEN_FILES),
+    )
 }
 
 // As `free_slot`.
@@ -86,12 +80,9 @@ fn pid_free(processes: &[u32], q: Pid) -> bool
 pub fn free_pid(processes: &[u32]) -> Pid
     ensures { result ≡ free_pid (proc_of processes.now) }
 {
-    let mut q: u8 = 0;
-    while q < PROCESSES {
-        if pid_free(processes, Pid(q)) {
-            return Pid(q);
-        }
-        q += 1;
-    }
-    Pid(PROCESSES)
+    Pid(
+        (0..PROCESSES)
+            .find(|q| pid_free(processes, Pid(*q)))
+            .unwrap_or(PROCESSES),
+    )
 }

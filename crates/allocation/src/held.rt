@@ -1,28 +1,19 @@
 // Processes in use, and descriptors that are held.
-ghost use Rattle.std.specs.Prelude.{◌≡◌, eqb};
-ghost use Rattle.rules.specs.Layout.{PROCESS_USED};
+ghost use Rattle.std.specs.Prelude.{◌≡◌};
 ghost use Rattle.rules.specs.Store.{proc_of, desc_of};
 ghost use Rattle.rules.specs.Checks.{in_use, held, ofd_held};
 
 use rules::ids::{Fd, Ofd, Pid};
 use tables::ids::is_pid;
-use tables::numbers::down_one;
 
-fn marked_used(processes: &[u32], p: Pid) -> bool
-    ensures { result ≡ eqb (proc_of processes.now p.0 PROCESS_USED) 1 }
-{
-    tables::processes::used(processes, p) == 1
-}
-
+#[tactic(auto, unfolding(rules::specs::Checks::in_use, rules::specs::Choice::every))]
 pub fn in_use(processes: &[u32], p: Pid) -> bool
     ensures { result ≡ in_use (proc_of processes.now) p }
 {
-    if !is_pid(p) {
-        return false;
-    }
-    marked_used(processes, p)
+    is_pid(p) && tables::processes::used(processes, p) == 1
 }
 
+#[tactic(auto, unfolding(rules::specs::Checks::held))]
 pub fn is_held(processes: &[u32], p: Pid, i: Fd) -> bool
     ensures { result ≡ held (desc_of processes.now) p i }
 {
@@ -33,5 +24,5 @@ pub fn is_held(processes: &[u32], p: Pid, i: Fd) -> bool
 pub fn ofd_held(processes: &[u32], p: Pid, i: Fd) -> Ofd
     ensures { result ≡ ofd_held (desc_of processes.now) p i }
 {
-    Ofd(down_one(tables::processes::descriptor(processes, p, i)))
+    Ofd(tables::processes::descriptor(processes, p, i).saturating_sub(1))
 }

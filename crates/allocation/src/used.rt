@@ -28,10 +28,8 @@ fn word_of(processes: &[u32], p: Pid) -> u8
     ensures { result ≡ used_word (desc_of processes.now) p }
 {
     let mut w: u8 = 255;
-    let mut i: u8 = 0;
-    while i < DESCRIPTORS {
+    for i in 0..DESCRIPTORS {
         w -= bit_if_free(processes, p, Fd(i), 1 << i);
-        i += 1;
     }
     w
 }

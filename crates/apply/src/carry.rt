@@ -1,10 +1,10 @@
 // An effect is carried out on the tables. Exit and fork go through the eight descriptors, each on the tables as they then are.
 ghost use Rattle.std.specs.Prelude.{◌≡◌, ℕ, ◌+◌, ◌*◌, eqb, get_or, List, [], ◌∷◌};
 ghost use Rattle.rules.specs.Layout.{PROCESS_WIDTH, PROCESS_DESCRIPTOR};
-ghost use Rattle.rules.specs.Store.{store, apply_all, Change};
+ghost use Rattle.rules.specs.Store.{store, apply_all};
 ghost use Rattle.rules.specs.Store as change;
 ghost use Rattle.rules.specs.Effects.{shared, shared_all, released, released_all, fork_changes, carry_out};
-ghost use Rattle.rules.specs.Calls.{call_of};
+ghost use Rattle.tables.specs.Tables.{asked};
 
 use allocation::release::release;
 use allocation::share::share;
@@ -20,17 +20,19 @@ use file_effects::names::{
 };
 use rules::decision::Effect;
 use rules::ids::{Fd, Pid};
-use rules::request::{Request, Subject};
+use rules::request::Subject;
 use tables::layout::{DESCRIPTORS, PROCESS_DESCRIPTOR, PROCESS_WIDTH};
-use tables::words::get;
+use tables::lent::Call;
+use tables::words::get_or;
 
 // The word of a descriptor is 0: it holds nothing.
 fn holds_nothing(processes: &[u32], p: Pid, i: Fd) -> bool
     ensures { result ≡ eqb (get_or processes.now (PROCESS_WIDTH * p.0 + (PROCESS_DESCRIPTOR + i.0)) 0) 0 }
 {
-    get(
+    get_or(
         processes,
         PROCESS_WIDTH * (p.0 as usize) + (PROCESS_DESCRIPTOR + (i.0 as usize)),
+        0,
     ) == 0
 }
 
@@ -60,10 +62,9 @@ fn release_one(
 )
     ensures { store files.new contents.new open_files.new processes.new ≡ released p i.0 (store files.old contents.old open_files.old processes.old) }
 {
-    if holds_nothing(processes, p, i) {
-        return;
+    if !holds_nothing(processes, p, i) {
+        release_held(files, contents, open_files, processes, p, i);
     }
-    release_held(files, contents, open_files, processes, p, i);
 }
 
 fn release_all(
@@ -75,10 +76,8 @@ fn release_all(
 )
     ensures { store files.new contents.new open_files.new processes.new ≡ released_all p (store files.old contents.old open_files.old processes.old) }
 {
-    let mut i: u8 = 0;
-    while i < DESCRIPTORS {
+    for i in 0..DESCRIPTORS {
         release_one(files, contents, open_files, processes, p, Fd(i));
-        i += 1;
     }
 }
 
@@ -93,10 +92,8 @@ fn share_one(open_files: &mut [u32], processes: &mut [u32], p: Pid, q: Pid, i: F
 fn share_all(open_files: &mut [u32], processes: &mut [u32], p: Pid, q: Pid)
     ensures { (F C : List ℕ) → store F C open_files.new processes.new ≡ shared_all p q (store F C open_files.old processes.old) }
 {
-    let mut i: u8 = 0;
-    while i < DESCRIPTORS {
+    for i in 0..DESCRIPTORS {
         share_one(open_files, processes, p, q, Fd(i));
-        i += 1;
     }
 }
 
@@ -128,14 +125,14 @@ pub fn carry_out(
     contents: &mut [u8],
     open_files: &mut [u32],
     processes: &mut [u32],
-    c: Request,
-    path: &[u8],
-    data: &[u8],
+    call: &Call,
     e: Effect,
 )
-    ensures { (buffer : List ℕ) → store files.new contents.new open_files.new processes.new ≡ carry_out (call_of c path.now «data».now buffer) e (store files.old contents.old open_files.old processes.old) }
+    ensures { (buffer : List ℕ) → store files.new contents.new open_files.new processes.new ≡ carry_out (asked call.now buffer) e (store files.old contents.old open_files.old processes.old) }
 {
-    let p = c.process;
+    let p = call.request.process;
+    let path = call.path;
+    let data = call.data;
     match e {
         Effect::Nothing => {}
         Effect::Opened(n) => open_file(open_files, processes, p, n),

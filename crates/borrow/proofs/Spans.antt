@@ -9,6 +9,7 @@ use borrow.Author.Tests.{eqb-true, leb-true}
 use lib.Dec.{eqb, ltb}
 use lib.ListN.{length, take, drop, length-take, length-drop}
 use lib.Seq.{drop-drop}
+use Rattle.std.specs.Prelude.{Ok, Err}
 use Rattle.rules.specs.Choice.{every}
 use Rattle.rules.specs.Layout.{BLOCK, SLOTS, PROMPTS}
 use Rattle.rules.specs.Store.{Fixed, Store, view, is_slot, block}
@@ -25,8 +26,7 @@ use Rattle.rules.specs.declared.ids.Ofd.{Ofd}
 use Rattle.rules.specs.declared.refusal.Refusal.TheVariants.{Unsound}
 use Rattle.rules.specs.declared.decision.Output.{Output}
 use Rattle.rules.specs.declared.decision.Output.TheVariants as output
-use Rattle.rules.specs.declared.decision.Decision.{Decision}
-use Rattle.rules.specs.declared.decision.Decision.TheVariants.{Refused, Granted}
+use Rattle.rules.specs.Decisions.{Decision, Refused}
 use Rattle.rules.proofs.Tests.{both, test}
 use Rattle.rom.specs.Rest.{prompt_rest}
 use Rattle.borrow.specs.declared.span.Borrowed.{Borrowed}
@@ -151,8 +151,8 @@ module _ (R C : List ℕ) (r : length R < 2 ^ 32) (c : length C < 2 ^ 32) where
 
   span-bytes : (d : Decision) → span_bytes R C (span_of R C d) ≡ bytes_lent R C d
   unfolding span_of bytes_lent
-  span-bytes (Refused f k) = unfold span_bytes in refl
-  span-bytes (Granted n o e) = out-bytes o
+  span-bytes (Err stop) = unfold span_bytes in refl
+  span-bytes (Ok grant) = out-bytes grant.output
 
 module _ (R C : List ℕ) where
   out-refusal : (o : Output) → (span_out R C o).refusal ≡ GRANTED
@@ -164,8 +164,8 @@ module _ (R C : List ℕ) where
 
   span-refusal : (d : Decision) → (span_of R C d).refusal ≡ refusal_of d
   unfolding span_of refusal_of
-  span-refusal (Refused f k) = refl
-  span-refusal (Granted n o e) = out-refusal o
+  span-refusal (Err stop) = refl
+  span-refusal (Ok grant) = out-refusal grant.output
 
   out-value : (o : Output) → (span_out R C o).value ≡ length (bytes_out R C o)
   unfolding span_out bytes_out
@@ -176,8 +176,8 @@ module _ (R C : List ℕ) where
 
   value_of : (d : Decision) → (span_of R C d).value ≡ length (bytes_lent R C d)
   unfolding span_of bytes_lent
-  value_of (Refused f k) = refl
-  value_of (Granted n o e) = out-value o
+  value_of (Err stop) = refl
+  value_of (Ok grant) = out-value grant.output
 
 -- ---- of a borrowing read
 

@@ -17,8 +17,7 @@ use Rattle.rules.specs.declared.ids.Ofd.{Ofd}
 use Rattle.rules.specs.declared.refusal.Refusal.TheVariants.{Unsound}
 use Rattle.rules.specs.declared.decision.Output.{Output}
 use Rattle.rules.specs.declared.decision.Effect.{Effect}
-use Rattle.rules.specs.declared.decision.Decision.{Decision}
-use Rattle.rules.specs.declared.decision.Decision.TheVariants.{Refused}
+use Rattle.rules.specs.Decisions.{Decision, Refused}
 use Rattle.rules.proofs.Passed.{Fit, granting, refusing, need-fit}
 use Rattle.borrow.specs.Lent.{LentBack, lent_back, of_outcome}
 use Rattle.borrow.specs.Judged.{judged, refusal_of, bytes_lent, offset_moved, moved_on}

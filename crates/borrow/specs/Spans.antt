@@ -1,5 +1,5 @@
 -- A borrowing read's bytes by numbers: R is the factory part, C the contents.
-use Rattle.std.specs.Prelude.{ℕ, ◌+◌, ◌-◌, ◌*◌, ◌%◌, ◌^◌, min, cond, List, eqb, length, take, drop}
+use Rattle.std.specs.Prelude.{ℕ, ◌+◌, ◌-◌, ◌*◌, ◌%◌, ◌^◌, min, cond, Ok, Err, List, eqb, length, take, drop}
 use Rattle.rules.specs.Layout.{BLOCK, SLOTS}
 use Rattle.rules.specs.Store.{is_slot}
 use Rattle.rules.specs.Refusals.{refusal_number, GRANTED}
@@ -7,8 +7,7 @@ use Rattle.rules.specs.Step.{bytes_of}
 use Rattle.rules.specs.declared.ids.Slot.{Slot}
 use Rattle.rules.specs.declared.decision.Output.{Output}
 use Rattle.rules.specs.declared.decision.Output.TheVariants as output
-use Rattle.rules.specs.declared.decision.Decision.{Decision}
-use Rattle.rules.specs.declared.decision.Decision.TheVariants.{Refused, Granted}
+use Rattle.rules.specs.Decisions.{Decision}
 use Rattle.rom.specs.Rest.{prompt_rest}
 use Rattle.borrow.specs.declared.span.Borrowed.{Borrowed}
 
@@ -40,5 +39,5 @@ span_out R C (output.Fields r) = none GRANTED
 span_out R C (output.Bytes s from n) = span_in R C s from n
 
 unfoldable pub span_of : (R C : List ℕ) → Decision → Borrowed
-span_of R C (Refused r k) = none (refusal_number r)
-span_of R C (Granted n o e) = span_out R C o
+span_of R C (Err stop) = none (refusal_number stop.refusal)
+span_of R C (Ok grant) = span_out R C grant.output

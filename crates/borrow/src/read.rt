@@ -11,6 +11,7 @@ use descriptor_effects::open_files::move_offset;
 use rom::seen::bytes_of;
 use rules::decision::{Decision, Output};
 use rules::ids::{Fd, Ofd, Pid, Slot};
+use tables::lent::Tables;
 use tables::numbers::add;
 use tables::parts::{after, upto};
 
@@ -21,35 +22,34 @@ pub(crate) fn part_of<'a>(contents: &'a [u8], rom: &'a [u8], s: Slot, from: u32,
     upto(after(bytes_of(contents, rom, s), from as usize), n as usize)
 }
 
+#[tactic(auto, unfolding(rules::specs::Step::bytes_out))]
 fn bytes_out<'a>(contents: &'a [u8], rom: &'a [u8], o: Output) -> &'a [u8]
     ensures { result.now ≡ bytes_out rom.now contents.now o }
 {
     match o {
-        Output::Nothing => upto(contents, 0),
-        Output::Name(d, i) => upto(contents, 0),
-        Output::Fields(r) => upto(contents, 0),
+        Output::Nothing | Output::Name(..) | Output::Fields(_) => &contents[0..0],
         Output::Bytes(s, from, n) => part_of(contents, rom, s, from, n),
     }
 }
 
+#[tactic(auto, unfolding(crate::specs::Judged::bytes_lent))]
 fn bytes_lent<'a>(contents: &'a [u8], rom: &'a [u8], d: Decision) -> &'a [u8]
     ensures { result.now ≡ bytes_lent rom.now contents.now d }
 {
     match d {
-        Decision::Refused(why, stop) => upto(contents, 0),
-        Decision::Granted(value, o, e) => bytes_out(contents, rom, o),
+        Ok(grant) => bytes_out(contents, rom, grant.output),
+        Err(_) => &contents[0..0],
     }
 }
 
 // What is read through open file e moves its offset.
+#[tactic(auto, unfolding(crate::specs::Judged::offset_moved))]
 fn move_by(open_files: &mut [u32], e: Ofd, o: Output)
     ensures { (F C P : List ℕ) → store F C open_files.new P ≡ offset_moved e o (store F C open_files.old P) }
 {
     match o {
-        Output::Nothing => {}
-        Output::Name(d, i) => {}
-        Output::Fields(r) => {}
-        Output::Bytes(s, from, n) => move_offset(open_files, e, add(from, n)),
+        Output::Nothing | Output::Name(..) | Output::Fields(_) => {}
+        Output::Bytes(_, from, n) => move_offset(open_files, e, add(from, n)),
     }
 }
 
@@ -57,8 +57,8 @@ pub(crate) fn move_on(open_files: &mut [u32], e: Ofd, d: Decision)
     ensures { (F C P : List ℕ) → store F C open_files.new P ≡ moved_on e d (store F C open_files.old P) }
 {
     match d {
-        Decision::Refused(why, stop) => {}
-        Decision::Granted(value, o, x) => move_by(open_files, e, o),
+        Ok(grant) => move_by(open_files, e, grant.output),
+        Err(_) => {}
     }
 }
 
@@ -77,7 +77,15 @@ pub fn borrow_read<'a>(
 ) -> &'a [u8]
     ensures { lent_back refusal.new result.now (store files.now contents.now open_files.new processes.now) ≡ of_outcome (step_borrow (fixed policy.now rom.now) (store files.now contents.now open_files.old processes.now) p i n) }
 {
-    let d = judge(files, contents, open_files, processes, policy, rom, p, i, n);
+    let t = Tables {
+        files: files,
+        contents: contents,
+        open_files: open_files,
+        processes: processes,
+        policy: policy,
+        rom: rom,
+    };
+    let d = judge(&t, p, i, n);
     *refusal = refusal_of(d);
     move_on(open_files, ofd_held(processes, p, i), d);
     bytes_lent(contents, rom, d)

@@ -15,7 +15,8 @@ use rules::decision::{Decision, Output};
 use rules::ids::{Fd, Pid, Slot};
 use tables::ids::is_slot;
 use tables::layout::{BLOCK, SLOTS};
-use tables::numbers::{smaller, subtract, word_of};
+use tables::lent::Tables;
+use tables::numbers::{smaller, word_of};
 use tables::parts::after;
 
 // `value` bytes from `at` on, of the contents where `memory` is 0, of the factory part where it is 1. All are 0 where it is refused, but for the refusal.
@@ -28,20 +29,11 @@ pub struct Borrowed {
     pub at: u32,
 }
 
-fn less(a: usize, b: usize) -> usize
-    ensures { result ≡ a - b }
-{
-    if b < a {
-        return a - b;
-    }
-    0
-}
-
 // Where in a memory its tail `rest` begins.
 fn place(memory: &[u8], rest: &[u8]) -> u32
     ensures { result ≡ placed memory.now rest.now }
 {
-    word_of(less(memory.len(), rest.len()))
+    word_of(memory.len().saturating_sub(rest.len()))
 }
 
 fn place_in_contents(contents: &[u8], s: Slot, from: u32) -> u32
@@ -58,26 +50,26 @@ fn place_in_rom(rom: &[u8], s: Slot, from: u32) -> u32
 {
     place(
         rom,
-        after(prompt_rest(rom, subtract(s.0, SLOTS)), from as usize),
+        after(prompt_rest(rom, s.0.saturating_sub(SLOTS)), from as usize),
     )
 }
 
+#[tactic(auto, unfolding(crate::specs::Spans::place_of))]
 fn place_of(contents: &[u8], rom: &[u8], s: Slot, from: u32) -> u32
     ensures { result ≡ place_of rom.now contents.now s from }
 {
     if is_slot(s) {
-        return place_in_contents(contents, s, from);
+        place_in_contents(contents, s, from)
+    } else {
+        place_in_rom(rom, s, from)
     }
-    place_in_rom(rom, s, from)
 }
 
+#[tactic(auto, unfolding(crate::specs::Spans::memory_of))]
 fn memory_of(s: Slot) -> u32
     ensures { result ≡ memory_of s }
 {
-    if is_slot(s) {
-        return 0;
-    }
-    1
+    if is_slot(s) { 0 } else { 1 }
 }
 
 fn span_in<'a>(contents: &'a [u8], rom: &'a [u8], s: Slot, from: u32, n: u32) -> Borrowed
@@ -103,23 +95,23 @@ fn nothing(refusal: u32) -> Borrowed
     }
 }
 
+#[tactic(auto, unfolding(crate::specs::Spans::span_out))]
 fn span_out<'a>(contents: &'a [u8], rom: &'a [u8], o: Output) -> Borrowed
     ensures { result ≡ span_out rom.now contents.now o }
 {
     match o {
-        Output::Nothing => nothing(0),
-        Output::Name(d, i) => nothing(0),
-        Output::Fields(r) => nothing(0),
+        Output::Nothing | Output::Name(..) | Output::Fields(_) => nothing(0),
         Output::Bytes(s, from, n) => span_in(contents, rom, s, from, n),
     }
 }
 
+#[tactic(auto, unfolding(crate::specs::Spans::span_of))]
 fn span_of<'a>(contents: &'a [u8], rom: &'a [u8], d: Decision) -> Borrowed
     ensures { result ≡ span_of rom.now contents.now d }
 {
     match d {
-        Decision::Refused(why, stop) => nothing(why.number()),
-        Decision::Granted(value, o, e) => span_out(contents, rom, o),
+        Ok(grant) => span_out(contents, rom, grant.output),
+        Err(stop) => nothing(stop.refusal.number()),
     }
 }
 
@@ -138,7 +130,15 @@ pub fn borrow_span<'a>(
     ensures outcome { lent_back result.refusal (span_bytes rom.now contents.now result) (store files.now contents.now open_files.new processes.now) ≡ of_outcome (step_borrow (fixed policy.now rom.now) (store files.now contents.now open_files.old processes.now) p i n) }
     ensures value { result.value ≡ length (span_bytes rom.now contents.now result) }
 {
-    let d = judge(files, contents, open_files, processes, policy, rom, p, i, n);
+    let t = Tables {
+        files: files,
+        contents: contents,
+        open_files: open_files,
+        processes: processes,
+        policy: policy,
+        rom: rom,
+    };
+    let d = judge(&t, p, i, n);
     move_on(open_files, ofd_held(processes, p, i), d);
     span_of(contents, rom, d)
 }

@@ -1,5 +1,5 @@
 -- Laws of lines, numbers and texts as they are read, of the lines that set tables, and of those that make calls and borrowing reads.
-pub mod LineLaws
+pub mod WordLaws
 pub mod NumberLaws
 pub mod HexLaws
 pub mod TextLaws

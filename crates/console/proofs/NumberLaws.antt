@@ -1,19 +1,39 @@
--- Laws of decimal digits as they are read, up to `NO_NUMBER`.
-use Prim.Native.Nat.{ℕ, ◌+◌, ◌-◌, ◌*◌, ◌≤◌, ◌<◌, min}
-use mathlib.Core.Path.{◌≡◌}
+-- Laws of decimal digits as they are read, up to 32 bits.
+use Prim.Native.Nat.{ℕ, ◌+◌, ◌-◌, ◌*◌, ◌≤◌, ◌<◌}
+use mathlib.Core.Path.{◌≡◌, refl, sym, ◌∙◌}
+use mathlib.Core.Bool.{false}
 use mathlib.Core.List.{List}
 use native.Mathlib.Omega.{arith}
+use lib.Dec.{leb}
+use borrow.Author.Tests.{le-leb, lt-leb}
 use lib.ListN.{length, get_or, drop, drop_of_length-le}
+use Rattle.std.specs.Prelude.{Some, None}
 use Rattle.script_rules.specs.Text.{digits_from}
 use Rattle.script_text.proofs.DigitLaws.{grows, more}
-use Rattle.console.specs.Numbers.{NO_NUMBER}
+use Rattle.console.specs.Numbers.{NUMBER_MAX, narrow}
 
+-- the code takes the product and the sum one after the other, and stops at the first that is too wide
 module _ (p : List ℕ) (n i : ℕ) {z : ℕ} (inv : digits_from n (drop i p) ≡ z) where
-  pub large : i < length p → {v : ℕ} → v ≡ get_or p i 0 - 48 → NO_NUMBER ≤ n * 10 + v → NO_NUMBER ≡ min z NO_NUMBER
-  large l {v} q h = omega (arith, grows (n * 10 + v) (drop (i + 1) p), more p n i inv l q)
+  module _ (l : i < length p) where
+    wider : NUMBER_MAX < n * 10 + (get_or p i 0 - 48) → None ≡ narrow z
+    unfolding narrow
+    wider h =
+        let a : leb z NUMBER_MAX ≡ false = lt-leb z NUMBER_MAX (omega (arith, grows (n * 10 + (get_or p i 0 - 48)) (drop (i + 1) p), more p n i inv l refl)) in
+        rw a
 
-  pub end : length p ≤ i → n < NO_NUMBER → n ≡ min z NO_NUMBER
-  unfolding digits_from
-  end l h =
+    pub wide-product : (n * 10 < 4294967296 → ⊥) → None ≡ narrow z
+    wide-product h = wider (omega arith)
+
+    module _ {m v : ℕ} (q : m ≡ n * 10) (e : v ≡ get_or p i 0 - 48) where
+      pub wide-sum : (m + v < 4294967296 → ⊥) → None ≡ narrow z
+      wide-sum h = wider (omega arith)
+
+      pub next : {w : ℕ} → w ≡ m + v → digits_from w (drop (i + 1) p) ≡ z
+      next {w} x = rw (x, q) (more p n i inv l e)
+
+  pub past : length p ≤ i → n < 4294967296 → Some n ≡ narrow z
+  unfolding digits_from narrow
+  past l h =
       let s : digits_from n (drop i p) ≡ n = rw (drop_of_length-le p l) in
-      omega arith
+      let e : n ≡ z = sym s ∙ inv in
+      rw (← e, le-leb n NUMBER_MAX (omega arith))

@@ -1,115 +1,94 @@
 // A line that makes a borrowing read: the process, `borrow`, the descriptor and the count.
 ghost use Rattle.std.specs.Prelude.{◌≡◌};
-ghost use Rattle.console.specs.Borrows.{borrows, numbers_fit, ends_there, is_borrow, borrow_in, borrowed_tables, line_borrowed, line_asked};
+ghost use Rattle.std.specs.Option.{is_some};
+ghost use Rattle.console.specs.Borrows.{borrows, borrow_in, borrowed_tables, line_borrowed, line_asked, asked_known};
 
-use crate::calls::{call_line, in_range, print_named, request};
-use crate::numbers::number;
+use crate::calls::{call_line, print_named, request};
+use crate::numbers::number_at;
 use crate::printing::print_text;
-use crate::settings::{Console, with_known};
-use crate::words::{is_word, word};
+use crate::settings::Console;
+use crate::words::word;
 use rules::request::Request;
 use tables::parts::upto;
 
+#[tactic(auto, unfolding(crate::specs::Borrows::borrows))]
 fn borrows(line: &[u8]) -> bool
     ensures { result ≡ borrows line.now }
 {
-    is_word(b"borrow", word(line, 1), 0)
+    word(line, 1) == b"borrow".as_slice()
 }
 
-// Its numbers have as many bits as a call's.
-fn numbers_fit(line: &[u8]) -> bool
-    ensures { result ≡ numbers_fit line.now }
-{
-    in_range(
-        number(word(line, 0)),
-        0,
-        number(word(line, 2)),
-        number(word(line, 3)),
-    )
-}
-
-fn ends_there(line: &[u8]) -> bool
-    ensures { result ≡ ends_there line.now }
-{
-    word(line, 4).len() == 0
-}
-
-fn is_borrow(line: &[u8]) -> bool
-    ensures { result ≡ is_borrow line.now }
-{
-    if !numbers_fit(line) {
-        return false;
-    }
-    ends_there(line)
-}
-
-fn borrow_in(line: &[u8]) -> Request
+// The borrowing read that the line makes; none where its numbers are too large or more follows them.
+#[tactic(auto, unfolding(crate::specs::Borrows::borrow_in))]
+fn borrow_in(line: &[u8]) -> Option<Request>
     ensures { result ≡ borrow_in line.now }
 {
-    request(
-        number(word(line, 0)),
-        0,
-        number(word(line, 2)),
-        number(word(line, 3)),
-    )
+    if word(line, 4).is_empty() {
+        request(
+            number_at(line, 0),
+            Some(0),
+            number_at(line, 2),
+            number_at(line, 3),
+        )
+    } else {
+        None
+    }
 }
 
 // As a call's answer, of which the bytes handed back are the value.
 fn print_borrowed(refusal: u32, bytes: &[u8]) {
     io::write_all(1, b":");
-    print_named(0, refusal as u64);
-    print_named(1, 0);
-    print_named(2, bytes.len() as u64);
+    print_named(b"answer=", refusal as u64);
+    print_named(b"stop=", 0);
+    print_named(b"value=", bytes.len() as u64);
     io::write_all(1, b" bytes=");
     print_text(bytes);
 }
 
 // The tables after the borrowing read; its answer is written.
-fn serve_borrow(s: Console, c: Request) -> Console
-    ensures { result ≡ borrowed_tables s c }
+fn serve_borrow(s: &mut Console, c: Request)
+    ensures { s.new ≡ borrowed_tables s.old c }
 {
-    let files = s.files;
-    let contents = s.contents;
-    let mut open_files = s.open_files;
-    let processes = s.processes;
-    let policy = s.policy;
-    let rom = s.rom;
-    let size = s.rom_size;
     let mut refusal = 0u32;
     let bytes = borrow::read::borrow_read(
-        &files,
-        &contents,
-        &mut open_files,
-        &processes,
-        &policy,
-        upto(&rom, size),
+        &s.files,
+        &s.contents,
+        &mut s.open_files,
+        &s.processes,
+        &s.policy,
+        upto(&s.rom, s.rom_size),
         c.process,
         c.fd,
         c.number as u32,
         &mut refusal,
     );
     print_borrowed(refusal, bytes);
-    let mut t = with_known(s, true);
-    t.open_files = open_files;
-    t
 }
 
-// A line that makes a borrowing read, and the tables after it; where it makes none, they stay as they are.
-fn borrow_line(s: Console, line: &[u8]) -> Console
-    ensures { result ≡ line_borrowed line.now s }
+// A line that makes a borrowing read: whether it does, and the tables after it.
+#[tactic(auto, unfolding(crate::specs::Borrows::borrow_made))]
+fn borrow_line(s: &mut Console, line: &[u8]) -> bool
+    ensures known { result ≡ is_some (borrow_in line.now) }
+    ensures tables { s.new ≡ line_borrowed line.now s.old }
 {
-    if is_borrow(line) {
-        return serve_borrow(s, borrow_in(line));
+    match borrow_in(line) {
+        Some(c) => {
+            serve_borrow(s, c);
+            true
+        }
+        None => false,
     }
-    with_known(s, false)
 }
 
 // A line that makes a borrowing read or a call.
-pub(crate) fn asked_line(s: Console, line: &[u8]) -> Console
-    ensures { result ≡ line_asked line.now s }
+#[tactic(auto, unfolding(crate::specs::Borrows::line_asked, crate::specs::Borrows::asked_known))]
+pub(crate) fn asked_line(s: &mut Console, line: &[u8]) -> bool
+    ensures known { result ≡ asked_known line.now }
+    ensures tables { s.new ≡ line_asked line.now s.old }
 {
     if borrows(line) {
-        return borrow_line(s, line);
+        borrow_line(s, line)
+    } else {
+        call_line(s, line)
     }
-    call_line(s, line)
 }

@@ -1,186 +1,142 @@
 // A line that makes a call: the process, the call, and its parts.
-ghost use Rattle.std.specs.Prelude.{◌≡◌, ◌∷◌, [], take};
-ghost use Rattle.std.proofs.lemmas.List.Edits.{sets};
-ghost use Rattle.rules.specs.Choice.{every};
+ghost use Rattle.std.specs.Prelude.{◌≡◌, take};
+ghost use Rattle.std.specs.Option.{is_some, option_copied};
 ghost use Rattle.rules.specs.Calls.{call_of};
-ghost use Rattle.console.specs.Calls.{PATH, DATA, call_number, row_of, place_of, part_number, part_length, part_bytes, part_place, are_bytes, in_range, request_of, buffer_size, fits, parsed, outcome_on, called_tables, line_called};
+ghost use Rattle.console.specs.Calls.{call_number, row_of, place_of, part_number, part_text, part_ends, call_asked, request_of, request_in, buffer_size, outcome_on, called_tables, call_in, line_called};
 
-use crate::numbers::number;
+use crate::numbers::{number, number_at};
 use crate::printing::print_text;
-use crate::settings::{Console, with_known};
-use crate::texts::{head, unescape};
-use crate::words::{find, index_of, word};
+use crate::settings::Console;
+use crate::texts::text_of;
+use crate::words::{index_of, word};
 use rules::answer::Answer;
 use rules::ids::{Fd, Pid};
 use rules::request::Request;
 use tables::calls::{operation_of, uses};
+use tables::lent::Call;
 use tables::parts::upto;
 
-// A call as the line has it: its numbers, and how many bytes its path, its data and its buffer have.
-#[derive(Clone, Copy)]
-struct Parsed {
-    known: bool,
-    request: Request,
-    path: usize,
-    data: usize,
-    buffer: usize,
-}
-
 // A call's number by its name, or as it stands, so that unknown ones can be made too.
-fn call_number(name: &[u8]) -> u64
+fn call_number(name: &[u8]) -> Option<u32>
     ensures { result ≡ call_number name.now }
 {
-    let k = index_of(
+    let known = index_of(
         b"open create mkdir unlink rmdir link list chmod stat close read write seek dup fork exit exec symlink readlink rename",
-        20,
         name,
     );
-    if k < 20 {
-        return k as u64 + 1;
+    match known {
+        Some(k) => Some(k as u32 + 1),
+        None => number(name),
     }
-    number(name)
 }
 
 // Which parts a call has; unknown ones have those of row 0.
-fn row_of(call: u64) -> usize
+#[tactic(auto, unfolding(crate::specs::Calls::row_of))]
+fn row_of(call: Option<u32>) -> usize
     ensures { result ≡ row_of call }
 {
-    let known = call < 21;
-    if known {
-        return call as usize;
+    match call {
+        Some(c) if c < 21 => c as usize,
+        _ => 0,
     }
-    0
 }
 
-// The word that holds a part of a call, 0 where the call has none: f descriptor, n number, p path, d bytes, second
-// path or target. The words end at the dot.
-fn place(call: u64, part: u8) -> usize
+// The word that holds a part of a call: f descriptor, n number, p path, d bytes, second path or target. The words end
+// at the dot.
+fn place(call: Option<u32>, part: u8) -> Option<usize>
     ensures { result ≡ place_of call part }
 {
     let parts = word(
         b". np. np. np. p. p. pd. np. np. p. f. fn. fd. fn. f. . . p. pd. np. pd.",
         row_of(call),
     );
-    let k = find(parts, 0, part);
-    if k < parts.len() {
-        return k + 2;
-    }
-    0
+    let k = parts.iter().position(|p| *p == part)?;
+    Some(k + 2)
 }
 
-fn part_number(line: &[u8], k: usize) -> u64
-    ensures { result ≡ part_number line.now k }
+#[tactic(auto, unfolding(crate::specs::Calls::part_number))]
+fn part_number(line: &[u8], place: Option<usize>) -> Option<u32>
+    ensures { result ≡ part_number line.now place }
 {
-    let none = k == 0;
-    if none {
-        return 0;
+    match place {
+        Some(k) => number_at(line, k),
+        None => Some(0),
     }
-    number(word(line, k))
 }
 
-fn part_text(line: &[u8], k: usize, out: &mut [u8]) -> usize
-    ensures count { result ≡ part_length line.now k }
-    ensures bytes { out.new ≡ sets out.old 0 (part_bytes line.now k) }
+// The part's text, in the room that is lent for it; no bytes where the call has no such part.
+#[tactic(auto, unfolding(crate::specs::Calls::part_text))]
+fn part_text<'a>(line: &[u8], place: Option<usize>, room: &'a mut [u8; 512]) -> Option<&'a [u8]>
+    ensures { option_copied result ≡ part_text line.now place }
 {
-    let none = k == 0;
-    if none {
-        return 0;
+    match place {
+        Some(k) => text_of(word(line, k), room),
+        None => Some(&[]),
     }
-    unescape(word(line, k), out)
 }
 
-fn are_bytes(process: u64, call: u64, fd: u64) -> bool
-    ensures { result ≡ are_bytes process call fd }
+#[tactic(auto, unfolding(crate::specs::Calls::part_ends))]
+fn part_ends(line: &[u8], place: Option<usize>) -> bool
+    ensures { result ≡ part_ends line.now place }
 {
-    let process_fits = process < 256;
-    if !process_fits {
-        return false;
+    match place {
+        Some(k) => word(line, k).is_empty(),
+        None => false,
     }
-    let call_fits = call < 256;
-    if !call_fits {
-        return false;
-    }
-    fd < 256
 }
 
-pub(crate) fn in_range(process: u64, call: u64, fd: u64, n: u64) -> bool
-    ensures { result ≡ in_range process call fd n }
-{
-    if !are_bytes(process, call, fd) {
-        return false;
-    }
-    n < 65536
-}
-
-pub(crate) fn request(process: u64, call: u64, fd: u64, n: u64) -> Request
+// A call's numbers have 8 bits, and the last 16.
+#[tactic(auto, unfolding(crate::specs::Calls::request_of, crate::specs::Calls::in_range, rules::specs::Choice::every))]
+pub(crate) fn request(
+    process: Option<u32>,
+    call: Option<u32>,
+    fd: Option<u32>,
+    n: Option<u32>,
+) -> Option<Request>
     ensures { result ≡ request_of process call fd n }
 {
-    Request {
-        process: Pid((process % 256) as u8),
-        call: (call % 256) as u8,
-        fd: Fd((fd % 256) as u8),
-        number: (n % 65536) as u16,
-    }
+    Some(Request {
+        process: Pid(u8::try_from(process?).ok()?),
+        call: u8::try_from(call?).ok()?,
+        fd: Fd(u8::try_from(fd?).ok()?),
+        number: u16::try_from(n?).ok()?,
+    })
 }
 
 // A read's number is the size of its buffer.
+#[tactic(auto, unfolding(crate::specs::Calls::buffer_size))]
 fn buffer_size(c: Request) -> usize
     ensures { result ≡ buffer_size c }
 {
-    let parts = uses(operation_of(c.call));
-    if parts.reads {
-        return c.number as usize;
+    if uses(operation_of(c.call)).reads {
+        c.number as usize
+    } else {
+        0
     }
-    0
 }
 
-fn fits(path: usize, data: usize, buffer: usize) -> bool
-    ensures { result ≡ fits path «data» buffer }
+fn call_asked(line: &[u8]) -> Option<u32>
+    ensures { result ≡ call_asked line.now }
 {
-    let path_fits = path <= 512;
-    if !path_fits {
-        return false;
-    }
-    let data_fits = data <= 512;
-    if !data_fits {
-        return false;
-    }
-    buffer <= 512
+    call_number(word(line, 1))
 }
 
-fn all_three(a: bool, b: bool, c: bool) -> bool
-    ensures { result ≡ every (a ∷ b ∷ c ∷ []) }
+// The call's numbers; none where one is too large, or the line does not end after the call's parts.
+#[tactic(auto, unfolding(crate::specs::Calls::request_in, crate::specs::Calls::fitting, rules::specs::Choice::every))]
+fn request_in(line: &[u8]) -> Option<Request>
+    ensures { result ≡ request_in line.now }
 {
-    if !a {
-        return false;
-    }
-    if !b {
-        return false;
-    }
-    c
-}
-
-// The line's call, with its path and data.
-fn parse(line: &[u8], path: &mut [u8], data: &mut [u8]) -> Parsed
-    ensures result { result ≡ parsed line.now }
-    ensures path { path.new ≡ sets path.old 0 (part_bytes line.now (part_place line.now PATH)) }
-    ensures data { «data».new ≡ sets «data».old 0 (part_bytes line.now (part_place line.now DATA)) }
-{
-    let call = call_number(word(line, 1));
-    let process = number(word(line, 0));
-    let fd = part_number(line, place(call, b'f'));
-    let n = part_number(line, place(call, b'n'));
-    let ended = word(line, place(call, b'.')).len() == 0;
-    let p = part_text(line, place(call, b'p'), path);
-    let b = part_text(line, place(call, b'd'), data);
-    let c = request(process, call, fd, n);
-    let size = buffer_size(c);
-    Parsed {
-        known: all_three(in_range(process, call, fd, n), fits(p, b, size), ended),
-        request: c,
-        path: p,
-        data: b,
-        buffer: size,
+    let call = call_asked(line);
+    let c = request(
+        number_at(line, 0),
+        call,
+        part_number(line, place(call, b'f')),
+        part_number(line, place(call, b'n')),
+    )?;
+    if part_ends(line, place(call, b'.')) && buffer_size(c) <= 512 {
+        Some(c)
+    } else {
+        None
     }
 }
 
@@ -194,95 +150,73 @@ fn first(buffer: &mut [u8], n: usize) -> &mut [u8]
     buffer
 }
 
-pub(crate) fn print_named(k: usize, value: u64) {
+pub(crate) fn print_named(name: &[u8], value: u64) {
     io::write_all(1, b" ");
-    io::write_all(
-        1,
-        word(
-            b"answer= stop= value= kind= owner= group= bits= label= length= names= stamp=",
-            k,
-        ),
-    );
+    io::write_all(1, name);
     io::print_decimal(1, value);
 }
 
-fn print_fields(f: [u32; 8]) {
-    let mut k = 0;
-    while k < 8 {
-        print_named(k + 3, f[k] as u64);
-        k += 1;
+fn print_fields(fields: &[u32; 8]) {
+    let names = b"kind= owner= group= bits= label= length= names= stamp=";
+    for (name, value) in names.split(|b| *b == b' ').zip(fields) {
+        print_named(name, *value as u64);
     }
 }
 
 // The answer, with the listed name or the bytes read, or a file's fields: kind 0 is no file's.
 fn print_answer(a: Answer, buffer: &[u8]) {
     io::write_all(1, b":");
-    print_named(0, a.refusal as u64);
-    print_named(1, a.stop as u64);
-    print_named(2, a.value as u64);
+    print_named(b"answer=", a.refusal as u64);
+    print_named(b"stop=", a.stop as u64);
+    print_named(b"value=", a.value as u64);
     io::write_all(1, b" bytes=");
-    let name = a.name;
-    print_text(upto(&name, a.name_length as usize));
+    print_text(upto(&a.name, a.name_length as usize));
     print_text(upto(buffer, a.value as usize));
-    let fields = a.fields;
-    if fields[0] != 0 {
-        print_fields(fields);
+    if a.fields[0] != 0 {
+        print_fields(&a.fields);
     }
 }
 
 // The tables after the call; its answer is written.
-fn serve(s: Console, c: Request, path: &[u8], data: &[u8], buffer: &mut [u8]) -> Console
-    ensures tables { result ≡ called_tables s (call_of c path.now «data».now buffer.old) }
-    ensures buffer { buffer.new ≡ (outcome_on s (call_of c path.now «data».now buffer.old)).reply.buffer }
+fn serve(s: &mut Console, c: Request, path: &[u8], data: &[u8], buffer: &mut [u8])
+    ensures tables { s.new ≡ called_tables s.old (call_of c path.now «data».now buffer.old) }
+    ensures buffer { buffer.new ≡ (outcome_on s.old (call_of c path.now «data».now buffer.old)).reply.buffer }
 {
-    let mut files = s.files;
-    let mut contents = s.contents;
-    let mut open_files = s.open_files;
-    let mut processes = s.processes;
-    let policy = s.policy;
-    let rom = s.rom;
-    let size = s.rom_size;
+    let call = Call {
+        request: c,
+        path: path,
+        data: data,
+    };
     let a = store::call::call(
-        &mut files,
-        &mut contents,
-        &mut open_files,
-        &mut processes,
-        &policy,
-        upto(&rom, size),
-        c,
-        path,
-        data,
+        &mut s.files,
+        &mut s.contents,
+        &mut s.open_files,
+        &mut s.processes,
+        &s.policy,
+        upto(&s.rom, s.rom_size),
+        &call,
         buffer,
     );
     print_answer(a, buffer);
-    Console {
-        known: true,
-        files: files,
-        contents: contents,
-        open_files: open_files,
-        processes: processes,
-        policy: policy,
-        rom: rom,
-        rom_size: size,
-    }
 }
 
-// A line that makes a call, and the tables after it; where it makes none, they stay as they are.
-pub(crate) fn call_line(s: Console, line: &[u8]) -> Console
-    ensures { result ≡ line_called line.now s }
+// A line that makes a call: whether it does, and the tables after it.
+#[tactic(auto, unfolding(crate::specs::Calls::call_made, crate::specs::Calls::call_with))]
+pub(crate) fn call_line(s: &mut Console, line: &[u8]) -> bool
+    ensures known { result ≡ is_some (call_in line.now) }
+    ensures tables { s.new ≡ line_called line.now s.old }
 {
     let mut path = [0u8; 512];
     let mut data = [0u8; 512];
     let mut buffer = [0u8; 512];
-    let c = parse(line, &mut path, &mut data);
-    if !c.known {
-        return with_known(s, false);
+    let call = call_asked(line);
+    let path = part_text(line, place(call, b'p'), &mut path);
+    let data = part_text(line, place(call, b'd'), &mut data);
+    match (request_in(line), path, data) {
+        (Some(c), Some(path), Some(data)) => {
+            serve(s, c, path, data, first(&mut buffer, buffer_size(c)));
+            true
+        }
+        _ => false,
     }
-    serve(
-        s,
-        c.request,
-        head(&path, c.path),
-        head(&data, c.data),
-        first(&mut buffer, c.buffer),
-    )
 }

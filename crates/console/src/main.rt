@@ -10,47 +10,62 @@ mod texts;
 mod words;
 
 ghost use Rattle.std.specs.Prelude.{◌≡◌};
-ghost use Rattle.console.specs.Lines.{is_silent, kind_taken, line_taken};
+ghost use Rattle.console.specs.Lines.{is_silent, kind_of, kind_taken, kind_known, line_taken, line_known};
 
 use borrows::asked_line;
-use settings::{Console, empty, fresh, set_line, show_line, with_known};
-use texts::is_at;
-use words::{index_of, line_at, next_line, word};
+use settings::{Console, empty, fresh, set_line, show_line};
+use tables::words::get_or;
+use words::{index_of, word};
+
+// What a line begins with that is no call and no borrowing read.
+#[derive(Clone, Copy)]
+enum Kind {
+    Fresh,
+    Set,
+    Show,
+}
+
+const KINDS: [Kind; 3] = [Kind::Fresh, Kind::Set, Kind::Show];
 
 // Empty lines and comments.
+#[tactic(auto, unfolding(crate::specs::Lines::is_silent, rules::specs::Choice::some))]
 fn is_silent(line: &[u8]) -> bool
     ensures { result ≡ is_silent line.now }
 {
-    if is_at(line, 0, 0) {
-        return true;
-    }
-    is_at(line, 0, b'#')
+    get_or(line, 0, 0) == 0 || get_or(line, 0, 0) == b'#'
 }
 
-// A line that says something: fresh, set, show, or a call or a borrowing read.
-fn take_kind(s: Console, kind: usize, script: &[u8], line: &[u8]) -> Console
-    ensures { result ≡ kind_taken kind script.now line.now s }
+fn kind_of(line: &[u8]) -> Option<Kind>
+    ensures { result ≡ kind_of line.now }
+{
+    let k = index_of(b"fresh set show", word(line, 0))?;
+    KINDS.get(k).copied()
+}
+
+// A line that says something; none of the kinds is a call or a borrowing read.
+#[tactic(auto, unfolding(crate::specs::Lines::kind_taken, crate::specs::Lines::kind_known))]
+fn take_kind(s: &mut Console, kind: Option<Kind>, script: &[u8], line: &[u8]) -> bool
+    ensures known { result ≡ kind_known kind line.now }
+    ensures tables { s.new ≡ kind_taken kind script.now line.now s.old }
 {
     match kind {
-        0 => fresh(script),
-        1 => set_line(s, line),
-        2 => show_line(s, line),
-        _ => asked_line(s, line),
+        Some(Kind::Fresh) => {
+            *s = fresh(script);
+            true
+        }
+        Some(Kind::Set) => set_line(s, line),
+        Some(Kind::Show) => show_line(s, line),
+        None => asked_line(s, line),
     }
 }
 
-fn take(s: Console, script: &[u8], line: &[u8]) -> Console
-    ensures { result ≡ line_taken script.now line.now s }
+// Whether the line is understood.
+#[tactic(auto, unfolding(crate::specs::Lines::line_taken, crate::specs::Lines::line_known))]
+fn take(s: &mut Console, script: &[u8], line: &[u8]) -> bool
+    ensures known { result ≡ line_known line.now }
+    ensures tables { s.new ≡ line_taken script.now line.now s.old }
 {
-    if is_silent(line) {
-        return with_known(s, true);
-    }
-    take_kind(
-        s,
-        index_of(b"fresh set show", 3, word(line, 0)),
-        script,
-        line,
-    )
+    is_silent(line) || take_kind(s, kind_of(line), script, line)
 }
 
 fn end_line(known: bool, n: usize) {
@@ -61,21 +76,13 @@ fn end_line(known: bool, n: usize) {
     io::write_all(1, b"\n");
 }
 
-// A script has at most as many lines as bytes.
 fn run(script: &[u8]) {
     let mut s = empty();
-    let mut at = 0;
-    let mut n = 0;
-    while n < script.len() {
-        if script.len() <= at {
-            return;
-        }
-        n += 1;
-        let line = line_at(script, at);
+    for (n, whole) in script.split_inclusive(|b| *b == b'\n').enumerate() {
+        let line = whole.strip_suffix(b"\n").unwrap_or(whole);
         io::write_all(1, line);
-        s = take(s, script, line);
-        end_line(s.known, n);
-        at = next_line(script, at);
+        let known = take(&mut s, script, line);
+        end_line(known, n + 1);
     }
 }
 

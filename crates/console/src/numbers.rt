@@ -1,70 +1,42 @@
-// Numbers in decimal.
-ghost use Rattle.std.specs.Prelude.{◌≡◌, min, ◌≤◌, length};
-ghost use Rattle.rules.specs.Scan.{all};
+// Numbers in decimal, of 32 bits.
+ghost use Rattle.std.specs.Prelude.{◌≡◌};
 ghost use Rattle.script_rules.specs.Text.{number_of};
-ghost use Rattle.console.specs.Numbers.{NO_NUMBER, digit_at, is_decimal, number_in};
+ghost use Rattle.console.specs.Numbers.{is_decimal, narrow, number_in, number_at};
 
+use crate::words::word;
 use script_text::lines::is_digit;
 use script_text::numbers::digit_value;
-use tables::words::byte;
 
-// What is no number: all numbers of a script are below it.
-pub(crate) const NO_NUMBER: u64 = 4294967296;
-
-fn digit_at(text: &[u8], i: usize) -> bool
-    ensures { result ≡ digit_at text.now i }
-{
-    is_digit(byte(text, i))
-}
-
-fn has_digits(text: &[u8]) -> bool
-    ensures { result ≡ all (digit_at text.now) 0 (length text.now) }
-{
-    let mut i = 0;
-    while i < text.len() {
-        if digit_at(text, i) {
-            i += 1;
-        } else {
-            return false;
-        }
-    }
-    true
-}
-
+// Digits, one at least.
+#[tactic(auto, unfolding(crate::specs::Numbers::is_decimal, rules::specs::Choice::every))]
 fn is_decimal(text: &[u8]) -> bool
     ensures { result ≡ is_decimal text.now }
 {
-    let none = text.len() == 0;
-    if none {
-        return false;
-    }
-    has_digits(text)
+    !text.is_empty() && text.iter().all(|b| is_digit(*b))
 }
 
-// The number that digits write, `NO_NUMBER` for all that are larger.
-fn value(text: &[u8]) -> u64
-    ensures { result ≡ min (number_of text.now) NO_NUMBER }
+// The number that digits write, none of more than 32 bits.
+fn value(text: &[u8]) -> Option<u32>
+    ensures { result ≡ narrow (number_of text.now) }
 {
-    let mut n: u64 = 0;
-    let mut i = 0;
-    while i < text.len() {
-        let next = n * 10 + (digit_value(text[i]) as u64);
-        if NO_NUMBER <= next {
-            return NO_NUMBER;
-        }
-        n = next;
-        i += 1;
+    let mut n: u32 = 0;
+    for b in text {
+        n = n.checked_mul(10)?.checked_add(digit_value(*b))?;
     }
-    n
+    Some(n)
 }
 
-// The number that a word writes in decimal, below 4,294,967,296; else `NO_NUMBER`.
-pub(crate) fn number(text: &[u8]) -> u64
-    ensures is { result ≡ number_in text.now }
-    ensures small { result ≤ NO_NUMBER }
+// The number that a word writes in decimal.
+#[tactic(auto, unfolding(crate::specs::Numbers::number_in))]
+pub(crate) fn number(text: &[u8]) -> Option<u32>
+    ensures { result ≡ number_in text.now }
 {
-    if !is_decimal(text) {
-        return NO_NUMBER;
-    }
-    value(text)
+    if is_decimal(text) { value(text) } else { None }
+}
+
+// Word k as a number.
+pub(crate) fn number_at(line: &[u8], k: usize) -> Option<u32>
+    ensures { result ≡ number_at line.now k }
+{
+    number(word(line, k))
 }

@@ -3,18 +3,11 @@ ghost use Rattle.std.specs.Prelude.{◌≡◌};
 ghost use Rattle.console.specs.Texts.{is_plain};
 
 // Bytes that stand for themselves in a text.
+#[tactic(auto, unfolding(crate::specs::Texts::is_plain, rules::specs::Choice::every))]
 fn is_plain(b: u8) -> bool
     ensures { result ≡ is_plain b }
 {
-    let other = b != b'\\';
-    if !other {
-        return false;
-    }
-    let low = b'!' <= b;
-    if !low {
-        return false;
-    }
-    b <= b'~'
+    b != b'\\' && b'!' <= b && b <= b'~'
 }
 
 fn print_byte(b: u8) {
@@ -28,10 +21,8 @@ fn print_byte(b: u8) {
 
 // Bytes, as a script writes them.
 pub(crate) fn print_text(text: &[u8]) {
-    let mut i = 0;
-    while i < text.len() {
-        print_byte(text[i]);
-        i += 1;
+    for b in text {
+        print_byte(*b);
     }
 }
 
@@ -40,21 +31,10 @@ fn print_word(n: u32) {
     io::print_decimal(1, n as u64);
 }
 
-// n words of a table, from `at` on.
-fn print_words(table: &[u32], at: usize, n: usize) {
-    let mut a = at;
-    let mut left = n;
-    while 0 < left {
-        if table.len() <= a {
-            return;
-        }
-        print_word(table[a]);
-        a += 1;
-        left -= 1;
-    }
-}
-
+// `width` words of a table, from `at` on.
 pub(crate) fn print_record(table: &[u32], at: usize, width: usize) {
     io::write_all(1, b":");
-    print_words(table, at, width);
+    for n in table.iter().skip(at).take(width) {
+        print_word(*n);
+    }
 }

@@ -1,25 +1,44 @@
 // The console's tables, and the lines that set or show them.
-ghost use Rattle.std.specs.Prelude.{◌≡◌, ◌+◌, ◌≤◌, min, ltb};
+ghost use Rattle.std.specs.Prelude.{◌≡◌, ◌+◌, ◌≤◌, ◌<◌, min};
 ghost use Rattle.std.proofs.lemmas.List.Edits.{sets};
-ghost use Rattle.console.specs.Settings.{empty_tables, with_known, number_at, is_number_at, numbers_of, no_number_at, numbers_end, ends_well, text_fits, words_set, bytes_set, ROM_ROOM, rom_put, files_set, open_files_set, processes_set, contents_set, policy_set, rom_set, table_of, table_set, line_set, fresh_tables};
+ghost use Rattle.console.specs.Settings.{empty_tables, place_in, numbers_of, numbers_end, ends_well, text_fits, words_set, bytes_set, ROM_ROOM, rom_put, rom_set, table_of, is_shown, line_shown, table_set, table_known, line_set, set_known, fresh_tables};
 
-use crate::numbers::{NO_NUMBER, number};
+use crate::numbers::number_at;
 use crate::printing::print_record;
-use crate::texts::{head, unescape};
-use crate::words::{index_of, line_at, next_line, word};
+use crate::texts::text_of;
+use crate::words::{index_of, word};
 use tables::layout::{
     BLOCK, CONTENTS_SIZE, FILE_WIDTH, FILES_SIZE, LABELS, OPEN_FILE_WIDTH, OPEN_FILES_SIZE,
     POLICY_SIZE, PROCESS_WIDTH, PROCESSES_SIZE, RIGHTS_SIZE,
 };
-use tables::words::{copy_bytes, zero_bytes};
+use tables::words::{copy, fill};
 
 // Room for the factory part: more than 16 prompts of 512 bytes take, so that parts of too many can be set too.
 const ROM_ROOM: usize = 9216;
 
-// The tables, and whether the last line was understood. The factory part is the first `rom_size` bytes of its room.
+// The tables that a line may name.
+#[derive(Clone, Copy)]
+enum Table {
+    Files,
+    Opens,
+    Processes,
+    Contents,
+    Policy,
+    Rom,
+}
+
+const TABLES: [Table; 6] = [
+    Table::Files,
+    Table::Opens,
+    Table::Processes,
+    Table::Contents,
+    Table::Policy,
+    Table::Rom,
+];
+
+// The tables. The factory part is the first `rom_size` bytes of its room.
 #[derive(Clone, Copy)]
 pub(crate) struct Console {
-    pub(crate) known: bool,
     pub(crate) files: [u32; FILES_SIZE],
     pub(crate) contents: [u8; CONTENTS_SIZE],
     pub(crate) open_files: [u32; OPEN_FILES_SIZE],
@@ -34,66 +53,33 @@ pub(crate) fn empty() -> Console
     ensures { result ≡ empty_tables }
 {
     let mut policy = [255u8; POLICY_SIZE];
-    zero_bytes(&mut policy, 0, RIGHTS_SIZE);
+    fill(&mut policy, 0, RIGHTS_SIZE, 0);
     Console {
-        known: true,
         files: [0u32; FILES_SIZE],
         contents: [0u8; CONTENTS_SIZE],
         open_files: [0u32; OPEN_FILES_SIZE],
         processes: [0u32; PROCESSES_SIZE],
-        policy: policy,
+        policy,
         rom: [0u8; ROM_ROOM],
         rom_size: 0,
     }
-}
-
-pub(crate) fn with_known(s: Console, known: bool) -> Console
-    ensures { result ≡ with_known known s }
-{
-    let mut t = s;
-    t.known = known;
-    t
-}
-
-// Word k as a number.
-fn number_at(line: &[u8], k: usize) -> usize
-    ensures is { result ≡ number_at line.now k }
-    ensures small { result ≤ 4294967296 }
-{
-    number(word(line, k)) as usize
-}
-
-fn is_number_at(line: &[u8], k: usize) -> bool
-    ensures { result ≡ is_number_at line.now k }
-{
-    number(word(line, k)) < NO_NUMBER
-}
-
-fn no_number_at(line: &[u8], k: usize) -> bool
-    ensures { result ≡ no_number_at line.now k }
-{
-    !is_number_at(line, k)
 }
 
 // The first word from word 4 on that is no number.
 fn numbers_end(line: &[u8]) -> usize
     ensures { result ≡ numbers_end line.now }
 {
-    let mut k = 4;
-    while k < line.len() {
-        if no_number_at(line, k) {
-            return k;
-        }
-        k += 1;
-    }
-    line.len()
+    (4..line.len())
+        .find(|k| number_at(line, *k).is_none())
+        .unwrap_or(line.len())
 }
 
 // The values of a line, from word 4 on, are numbers.
+#[tactic(auto, unfolding(crate::specs::Settings::ends_well))]
 fn ends_well(line: &[u8]) -> bool
     ensures { result ≡ ends_well line.now }
 {
-    word(line, numbers_end(line)).len() == 0
+    word(line, numbers_end(line)).is_empty()
 }
 
 // The words of a table from `at` on become the line's numbers.
@@ -101,231 +87,161 @@ fn put_numbers(words: &mut [u32], at: usize, line: &[u8])
     ensures { words.new ≡ sets words.old at (numbers_of line.now) }
 {
     let mut a = at;
-    let mut k = 4;
-    while k < line.len() {
+    for k in 4..line.len() {
         if words.len() <= a {
             return;
         }
-        let n = number(word(line, k));
-        if NO_NUMBER <= n {
+        let Some(n) = number_at(line, k) else {
             return;
-        }
-        words[a] = n as u32;
+        };
+        words[a] = n;
         a += 1;
-        k += 1;
     }
 }
 
+// Where field k of record i is in a table of records of `width` words or bytes.
+fn place(width: usize, i: u32, k: u32) -> usize
+    requires { width ≤ 512 }
+    ensures { result ≡ place_in width i k }
+{
+    width * i as usize + k as usize
+}
+
+// Words of a table become the line's numbers.
 fn set_words(words: &mut [u32], at: usize, line: &[u8]) -> bool
     ensures known { result ≡ ends_well line.now }
     ensures words { words.new ≡ words_set line.now at words.old }
 {
-    let known = ends_well(line);
-    if known {
+    if ends_well(line) {
         put_numbers(words, at, line);
+        true
+    } else {
+        false
     }
-    known
 }
 
-// The bytes of a table from `at` on become the line's text.
+// Bytes of a table become the line's text.
+#[tactic(auto, unfolding(crate::specs::Settings::text_put))]
 fn set_bytes(bytes: &mut [u8], at: usize, line: &[u8]) -> bool
     ensures known { result ≡ text_fits line.now }
     ensures bytes { bytes.new ≡ bytes_set line.now at bytes.old }
 {
-    let mut text = [0u8; 512];
-    let n = unescape(word(line, 4), &mut text);
-    let known = n <= 512;
-    if known {
-        copy_bytes(bytes, at, head(&text, n));
+    let mut room = [0u8; 512];
+    match text_of(word(line, 4), &mut room) {
+        Some(text) => {
+            copy(bytes, at, text);
+            true
+        }
+        None => false,
     }
-    known
-}
-
-fn set_files(s: Console, line: &[u8]) -> Console
-    ensures { result ≡ files_set line.now s }
-{
-    let mut words = s.files;
-    let known = set_words(
-        &mut words,
-        FILE_WIDTH * number_at(line, 2) + number_at(line, 3),
-        line,
-    );
-    let mut t = with_known(s, known);
-    t.files = words;
-    t
-}
-
-fn set_open_files(s: Console, line: &[u8]) -> Console
-    ensures { result ≡ open_files_set line.now s }
-{
-    let mut words = s.open_files;
-    let known = set_words(
-        &mut words,
-        OPEN_FILE_WIDTH * number_at(line, 2) + number_at(line, 3),
-        line,
-    );
-    let mut t = with_known(s, known);
-    t.open_files = words;
-    t
-}
-
-fn set_processes(s: Console, line: &[u8]) -> Console
-    ensures { result ≡ processes_set line.now s }
-{
-    let mut words = s.processes;
-    let known = set_words(
-        &mut words,
-        PROCESS_WIDTH * number_at(line, 2) + number_at(line, 3),
-        line,
-    );
-    let mut t = with_known(s, known);
-    t.processes = words;
-    t
-}
-
-fn set_contents(s: Console, line: &[u8]) -> Console
-    ensures { result ≡ contents_set line.now s }
-{
-    let mut bytes = s.contents;
-    let known = set_bytes(
-        &mut bytes,
-        BLOCK * number_at(line, 2) + number_at(line, 3),
-        line,
-    );
-    let mut t = with_known(s, known);
-    t.contents = bytes;
-    t
-}
-
-fn set_policy(s: Console, line: &[u8]) -> Console
-    ensures { result ≡ policy_set line.now s }
-{
-    let mut bytes = s.policy;
-    let known = set_bytes(
-        &mut bytes,
-        LABELS * number_at(line, 2) + number_at(line, 3),
-        line,
-    );
-    let mut t = with_known(s, known);
-    t.policy = bytes;
-    t
-}
-
-fn least(a: usize, b: usize) -> usize
-    ensures { result ≡ min a b }
-{
-    if a < b { a } else { b }
 }
 
 // Where n bytes end that are stored from `at` on in the factory part's room.
 fn rom_end(at: usize, n: usize) -> usize
     ensures { result ≡ min (at + n) ROM_ROOM }
 {
-    let from = least(at, ROM_ROOM);
-    from + least(n, ROM_ROOM - from)
+    let from = at.min(ROM_ROOM);
+    from + n.min(ROM_ROOM - from)
 }
 
 // The factory part from `at` on becomes the text, and ends with it. What stood past its end, or past `at`, is made 0
 // first, so that a part that was shorter has 0 before the text.
-fn put_rom(s: Console, at: usize, text: &[u8]) -> Console
-    ensures { result ≡ rom_put at text.now s }
+#[tactic(auto, unfolding(crate::specs::Settings::rom_put))]
+fn put_rom(s: &mut Console, at: usize, text: &[u8])
+    ensures { s.new ≡ rom_put at text.now s.old }
 {
-    let mut bytes = s.rom;
-    zero_bytes(&mut bytes, least(s.rom_size, at), ROM_ROOM);
-    copy_bytes(&mut bytes, at, text);
-    let mut t = with_known(s, true);
-    t.rom = bytes;
-    t.rom_size = rom_end(at, text.len());
-    t
+    let end = s.rom_size.min(at);
+    fill(&mut s.rom, end, ROM_ROOM, 0);
+    copy(&mut s.rom, at, text);
+    s.rom_size = rom_end(at, text.len());
 }
 
-fn set_rom(s: Console, line: &[u8]) -> Console
-    ensures { result ≡ rom_set line.now s }
+#[tactic(auto, unfolding(crate::specs::Settings::rom_written))]
+fn set_rom(s: &mut Console, at: usize, line: &[u8]) -> bool
+    ensures known { result ≡ text_fits line.now }
+    ensures tables { s.new ≡ rom_set line.now at s.old }
 {
-    let mut text = [0u8; 512];
-    let n = unescape(word(line, 4), &mut text);
-    let known = n <= 512;
-    if known {
-        return put_rom(
-            s,
-            BLOCK * number_at(line, 2) + number_at(line, 3),
-            head(&text, n),
-        );
+    let mut room = [0u8; 512];
+    match text_of(word(line, 4), &mut room) {
+        Some(text) => {
+            put_rom(s, at, text);
+            true
+        }
+        None => false,
     }
-    with_known(s, false)
 }
 
-// The table that the line names, if it names a record too; 6 for none.
-fn table_of(line: &[u8]) -> usize
+// The table that the line names.
+fn table_of(line: &[u8]) -> Option<Table>
     ensures { result ≡ table_of line.now }
 {
-    if is_number_at(line, 2) {
-        return index_of(
-            b"files opens processes contents policy rom",
-            6,
-            word(line, 1),
-        );
-    }
-    6
+    let k = index_of(b"files opens processes contents policy rom", word(line, 1))?;
+    TABLES.get(k).copied()
 }
 
-fn set_table(s: Console, table: usize, line: &[u8]) -> Console
-    ensures { result ≡ table_set table line.now s }
+#[tactic(auto, unfolding(crate::specs::Settings::table_set, crate::specs::Settings::table_known))]
+fn set_table(s: &mut Console, table: Option<Table>, i: u32, k: u32, line: &[u8]) -> bool
+    ensures known { result ≡ table_known table line.now }
+    ensures tables { s.new ≡ table_set table i k line.now s.old }
 {
     match table {
-        0 => set_files(s, line),
-        1 => set_open_files(s, line),
-        2 => set_processes(s, line),
-        3 => set_contents(s, line),
-        4 => set_policy(s, line),
-        5 => set_rom(s, line),
-        _ => with_known(s, false),
+        Some(Table::Files) => set_words(&mut s.files, place(FILE_WIDTH, i, k), line),
+        Some(Table::Opens) => set_words(&mut s.open_files, place(OPEN_FILE_WIDTH, i, k), line),
+        Some(Table::Processes) => set_words(&mut s.processes, place(PROCESS_WIDTH, i, k), line),
+        Some(Table::Contents) => set_bytes(&mut s.contents, place(BLOCK, i, k), line),
+        Some(Table::Policy) => set_bytes(&mut s.policy, place(LABELS, i, k), line),
+        Some(Table::Rom) => set_rom(s, place(BLOCK, i, k), line),
+        None => false,
     }
 }
 
-// set TABLE RECORD FIELD, then numbers or a text.
-pub(crate) fn set_line(s: Console, line: &[u8]) -> Console
-    ensures { result ≡ line_set line.now s }
+// set TABLE RECORD FIELD, then numbers or a text: whether it is understood, and the tables after it.
+#[tactic(auto, unfolding(crate::specs::Settings::line_set, crate::specs::Settings::record_set, crate::specs::Settings::record_known))]
+pub(crate) fn set_line(s: &mut Console, line: &[u8]) -> bool
+    ensures known { result ≡ set_known line.now }
+    ensures tables { s.new ≡ line_set line.now s.old }
 {
-    if is_number_at(line, 3) {
-        return set_table(s, table_of(line), line);
+    match (number_at(line, 2), number_at(line, 3)) {
+        (Some(i), Some(k)) => set_table(s, table_of(line), i, k, line),
+        _ => false,
     }
-    with_known(s, false)
 }
 
-// show TABLE RECORD, of a table of words.
-pub(crate) fn show_line(s: Console, line: &[u8]) -> Console
-    ensures { result ≡ with_known (ltb (table_of line.now) 3) s }
+// Writes record i of a table of words; of no other.
+#[tactic(auto, unfolding(crate::specs::Settings::is_shown))]
+fn show_record(s: &Console, table: Option<Table>, i: usize) -> bool
+    requires { i < 4294967296 }
+    ensures { result ≡ is_shown table }
 {
-    let files = s.files;
-    let open_files = s.open_files;
-    let processes = s.processes;
-    let i = number_at(line, 2);
-    let table = table_of(line);
     match table {
-        0 => print_record(&files, FILE_WIDTH * i, FILE_WIDTH),
-        1 => print_record(&open_files, OPEN_FILE_WIDTH * i, OPEN_FILE_WIDTH),
-        2 => print_record(&processes, PROCESS_WIDTH * i, PROCESS_WIDTH),
-        _ => {}
+        Some(Table::Files) => print_record(&s.files, FILE_WIDTH * i, FILE_WIDTH),
+        Some(Table::Opens) => print_record(&s.open_files, OPEN_FILE_WIDTH * i, OPEN_FILE_WIDTH),
+        Some(Table::Processes) => print_record(&s.processes, PROCESS_WIDTH * i, PROCESS_WIDTH),
+        Some(Table::Contents | Table::Policy | Table::Rom) | None => return false,
     }
-    with_known(s, table < 3)
+    true
+}
+
+// show TABLE RECORD, of a table of words: whether it is understood.
+#[tactic(auto, unfolding(crate::specs::Settings::record_shown))]
+pub(crate) fn show_line(s: &Console, line: &[u8]) -> bool
+    ensures { result ≡ line_shown line.now }
+{
+    match number_at(line, 2) {
+        Some(i) => show_record(s, table_of(line), i as usize),
+        None => false,
+    }
 }
 
 // The tables that the set lines of the script's head give. An empty line ends the head.
 pub(crate) fn fresh(script: &[u8]) -> Console
     ensures { result ≡ fresh_tables script.now }
 {
-    let mut s = empty();
-    let mut at = 0;
-    let mut n = 0;
-    while n < script.len() {
-        let line = line_at(script, at);
-        if line.len() == 0 {
-            return with_known(s, true);
-        }
-        s = set_line(s, line);
-        at = next_line(script, at);
-        n += 1;
-    }
-    with_known(s, true)
+    script
+        .split(|b| *b == b'\n')
+        .take_while(|line| !line.is_empty())
+        .fold(empty(), |mut s, line| {
+            set_line(&mut s, line);
+            s
+        })
 }

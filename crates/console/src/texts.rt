@@ -1,123 +1,88 @@
 // Texts, in which \xNN is byte NN.
-ghost use Rattle.std.specs.Prelude.{◌≡◌, eqb, get_or, take};
+ghost use Rattle.std.specs.Prelude.{◌≡◌, ◌<◌, IfSome};
+ghost use Rattle.std.specs.Option.{option_copied};
 ghost use Rattle.std.proofs.lemmas.List.Edits.{sets};
-ghost use Rattle.console.specs.Texts.{hex_digit, hex_at, escapes, is_escape, hex_pair, escaped, first_byte, first_width, text_bytes, text_length};
+ghost use Rattle.console.specs.Texts.{hex_digit, escapes, escaped, first_byte, first_width, text_bytes, text_length, text_of};
 
-use tables::parts::{after, upto};
-use tables::words::{byte, put_byte};
+use tables::parts::after;
+use tables::words::{get_or, put};
 
-// What is no byte: all bytes are below it.
-const NO_BYTE: u32 = 256;
-
-// What is no text: all texts of a script are shorter.
-const NO_TEXT: usize = 65536;
-
-pub(crate) fn is_at(text: &[u8], i: usize, b: u8) -> bool
-    ensures { result ≡ eqb (get_or text.now i 0) b }
-{
-    byte(text, i) == b
-}
-
-// 16 for a byte that is no digit.
-fn hex_digit(b: u8) -> u8
-    ensures { result ≡ hex_digit b }
+fn hex_digit(b: u8) -> Option<u8>
+    ensures is { result ≡ hex_digit b }
+    ensures small { IfSome result (λ d. d < 16) }
 {
     match b {
-        b'0'..=b'9' => b - b'0',
-        b'a'..=b'f' => b - b'a' + 10,
-        _ => 16,
+        b'0'..=b'9' => Some(b - b'0'),
+        b'a'..=b'f' => Some(b - b'a' + 10),
+        _ => None,
     }
 }
 
-fn hex_at(text: &[u8], i: usize) -> bool
-    ensures { result ≡ hex_at text.now i }
-{
-    hex_digit(byte(text, i)) < 16
-}
-
+#[tactic(auto, unfolding(crate::specs::Texts::escapes))]
 fn escapes(text: &[u8]) -> bool
     ensures { result ≡ escapes text.now }
 {
-    is_at(text, 0, b'\\')
+    get_or(text, 0, 0) == b'\\'
 }
 
-fn is_escape(text: &[u8]) -> bool
-    ensures { result ≡ is_escape text.now }
-{
-    if !is_at(text, 1, b'x') {
-        return false;
-    }
-    if !hex_at(text, 2) {
-        return false;
-    }
-    hex_at(text, 3)
-}
-
-fn hex_pair(text: &[u8]) -> u32
-    ensures { result ≡ hex_pair text.now }
-{
-    16 * (hex_digit(byte(text, 2)) as u32) + (hex_digit(byte(text, 3)) as u32)
-}
-
-fn escaped(text: &[u8]) -> u32
+// The byte of a text that begins with a backslash.
+#[tactic(auto, unfolding(crate::specs::Texts::escaped, crate::specs::Texts::hex_pair))]
+fn escaped(text: &[u8]) -> Option<u8>
     ensures { result ≡ escaped text.now }
 {
-    if !is_escape(text) {
-        return NO_BYTE;
+    if get_or(text, 1, 0) != b'x' {
+        return None;
     }
-    hex_pair(text)
+    let high = hex_digit(get_or(text, 2, 0))?;
+    let low = hex_digit(get_or(text, 3, 0))?;
+    Some(16 * high + low)
 }
 
-// The first byte that a text writes; `NO_BYTE` where it writes none.
-fn first_byte(text: &[u8]) -> u32
+// The first byte that a text writes.
+#[tactic(auto, unfolding(crate::specs::Texts::first_byte))]
+fn first_byte(text: &[u8]) -> Option<u8>
     ensures { result ≡ first_byte text.now }
 {
     if escapes(text) {
         return escaped(text);
     }
-    byte(text, 0) as u32
+    Some(get_or(text, 0, 0))
 }
 
 // How many bytes of the text write it.
+#[tactic(auto, unfolding(crate::specs::Texts::first_width))]
 fn first_width(text: &[u8]) -> usize
     ensures { result ≡ first_width text.now }
 {
-    if escapes(text) {
-        return 4;
-    }
-    1
+    if escapes(text) { 4 } else { 1 }
 }
 
-// The bytes that a text writes, and how many they are; `NO_TEXT` where it is broken.
-pub(crate) fn unescape(text: &[u8], out: &mut [u8]) -> usize
+// The bytes that a text writes, and how many they are; none where it is broken.
+fn unescape(text: &[u8], out: &mut [u8]) -> Option<usize>
     ensures count { result ≡ text_length text.now }
     ensures bytes { out.new ≡ sets out.old 0 (text_bytes text.now) }
 {
     let mut i = 0;
-    let mut n = 0;
-    while n < text.len() {
+    for n in 0..text.len() {
         if text.len() <= i {
-            return n;
+            return Some(n);
         }
         let rest = after(text, i);
-        let b = first_byte(rest);
         let w = first_width(rest);
-        if 255 < b {
-            return NO_TEXT;
-        }
+        let b = first_byte(rest)?;
         if text.len() - i < w {
-            return NO_TEXT;
+            return None;
         }
-        put_byte(out, n, b as u8);
+        put(out, n, b);
         i += w;
-        n += 1;
     }
-    n
+    Some(text.len())
 }
 
-// The first n bytes of a text that was unescaped.
-pub(crate) fn head(text: &[u8; 512], n: usize) -> &[u8]
-    ensures { result.now ≡ take n text.now }
+// The bytes that a text writes, in the room that is lent for them; none where it is broken or they are more.
+pub(crate) fn text_of<'a>(text: &[u8], room: &'a mut [u8; 512]) -> Option<&'a [u8]>
+    ensures { option_copied result ≡ text_of text.now }
 {
-    upto(text, n)
+    let n = unescape(text, room)?;
+    room.get(..n)
 }

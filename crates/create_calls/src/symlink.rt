@@ -1,35 +1,24 @@
 // 18. Make link.
 ghost use Rattle.std.specs.Prelude.{◌≡◌};
-ghost use Rattle.rules.specs.Rom.{tree_in};
-ghost use Rattle.rules.specs.DecidePaths.{new_link, decide_symlink};
+ghost use Rattle.rules.specs.DecidePaths.{decide_symlink};
+ghost use Rattle.tables.specs.Tables.{tree_seen};
 
 use crate::create::create_new;
 use rules::decision::{Decision, NewFile};
 use rules::request::Subject;
 use rules::rights::Bits;
 use tables::layout::LINK;
+use tables::lent::Tables;
 
 // A link with a text of n bytes.
-fn new_link(n: u32) -> NewFile
-    ensures { result ≡ new_link n }
+#[tactic(auto, unfolding(rules::specs::DecidePaths::decide_symlink))]
+pub fn decide_symlink(t: &Tables, who: Subject, n: u32, path: &[u8]) -> Decision
+    ensures { result ≡ decide_symlink t.now.policy.now (tree_seen t.now) who n path.now }
 {
-    NewFile {
+    let new = NewFile {
         kind: LINK,
         bits: Bits(0),
         length: n,
-    }
-}
-
-pub fn decide_symlink(
-    files: &[u32],
-    contents: &[u8],
-    policy: &[u8],
-    rom: &[u8],
-    who: Subject,
-    n: u32,
-    path: &[u8],
-) -> Decision
-    ensures { result ≡ decide_symlink policy.now (tree_in rom.now files.now contents.now) who n path.now }
-{
-    create_new(files, contents, policy, rom, who, new_link(n), path)
+    };
+    create_new(t, who, new, path)
 }

@@ -3,7 +3,7 @@
 
 mod test_console;
 
-ghost use Rattle.std.specs.Prelude.{◌≡◌, take};
+ghost use Rattle.std.specs.Prelude.{◌≡◌};
 ghost use Rattle.day.specs.Day.{day};
 
 use script_rules::replayed::Replayed;
@@ -36,29 +36,22 @@ fn replayed(script: &[u8], output: &mut [u8]) -> Replayed
     )
 }
 
-fn head(bytes: &[u8; 65536], n: usize) -> &[u8]
-    ensures { result.now ≡ take n bytes.now }
-{
-    upto(bytes, n)
-}
-
 fn print_named(name: &[u8], n: u64) {
     io::write_all(1, name);
     io::print_decimal(1, n);
 }
 
 fn print_end(r: Replayed) {
-    let reason = r.reason;
-    print_named(b"calls=", r.calls as u64);
+    print_named(b"calls=", u64::from(r.calls));
     print_named(b" next=", r.next as u64);
-    print_named(b" reason=", reason.number() as u64);
+    print_named(b" reason=", u64::from(r.reason.number()));
     io::write_all(1, b"\n");
 }
 
 fn run(script: &[u8]) {
     let mut output = io::large_buffer();
     let r = replayed(script, &mut output);
-    io::write_all(1, head(&output, r.written));
+    io::write_all(1, upto(&output, r.written));
     print_end(r);
 }
 

@@ -12,25 +12,26 @@ use tables::layout::{
     BLOCK, CONTENTS_SIZE, DIRECTORY, FILES_SIZE, LABELS, PLAIN, POLICY_SIZE, PROCESS_GROUP,
     PROCESS_LABEL, PROCESS_USED, PROCESS_USER, PROCESS_WIDTH, PROCESSES_SIZE, RIGHTS_SIZE,
 };
-use tables::words::{copy_bytes, put, put_byte, zero_bytes};
+use tables::words::{copy, fill, put};
 
 // A record of group 1 with version 0.
 fn file_record(kind: u32, owner: u32, bits: Bits, label: u32, length: u32, links: u32) -> Record
     ensures { result ≡ record { kind = kind; owner = owner; group = 1; bits = bits; label = label; length = length; links = links; version = 0 } }
 {
     Record {
-        kind: kind,
-        owner: owner,
+        kind,
+        owner,
         group: 1,
-        bits: bits,
-        label: label,
-        length: length,
-        links: links,
+        bits,
+        label,
+        length,
+        links,
         version: 0,
     }
 }
 
 // The root, /fares, /fares/now and /key.
+#[tactic(auto, unfolding(rules::specs::Computing::computing))]
 pub(crate) fn files() -> [u32; FILES_SIZE]
     ensures { result ≡ console_files }
 {
@@ -65,8 +66,8 @@ pub(crate) fn contents() -> [u8; CONTENTS_SIZE]
     put_dirent(&mut contents, Slot(0), Dirent(0), b"fares", Slot(1));
     put_dirent(&mut contents, Slot(0), Dirent(1), b"key", Slot(3));
     put_dirent(&mut contents, Slot(1), Dirent(0), b"now", Slot(2));
-    copy_bytes(&mut contents, BLOCK * 2, b"2.40\n");
-    copy_bytes(&mut contents, BLOCK * 3, b"\x01\x02\x03\x04");
+    copy(&mut contents, BLOCK * 2, b"2.40\n");
+    copy(&mut contents, BLOCK * 3, b"\x01\x02\x03\x04");
     contents
 }
 
@@ -81,6 +82,7 @@ fn put_process(processes: &mut [u32], p: Pid, user: u32, label: u32)
     put(processes, at + PROCESS_LABEL, label);
 }
 
+#[tactic(auto, unfolding(rules::specs::Computing::computing))]
 pub(crate) fn processes() -> [u32; PROCESSES_SIZE]
     ensures { result ≡ console_processes }
 {
@@ -92,14 +94,15 @@ pub(crate) fn processes() -> [u32; PROCESSES_SIZE]
 }
 
 // Rights of process labels 0, 1 and 2 over file labels 0 and 3. No transitions: 255 stays there.
+#[tactic(auto, unfolding(rules::specs::Computing::computing))]
 pub(crate) fn policy() -> [u8; POLICY_SIZE]
     ensures { result ≡ console_policy }
 {
     let mut policy = [255u8; POLICY_SIZE];
-    zero_bytes(&mut policy, 0, RIGHTS_SIZE);
-    put_byte(&mut policy, 0, 7);
-    put_byte(&mut policy, LABELS, 7);
-    put_byte(&mut policy, LABELS + 3, 2);
-    put_byte(&mut policy, LABELS * 2, 5);
+    fill(&mut policy, 0, RIGHTS_SIZE, 0);
+    put(&mut policy, 0, 7);
+    put(&mut policy, LABELS, 7);
+    put(&mut policy, LABELS + 3, 2);
+    put(&mut policy, LABELS * 2, 5);
     policy
 }

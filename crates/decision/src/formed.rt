@@ -2,9 +2,9 @@
 // once: every match on the operation is a jump that the processor cannot foresee.
 ghost use Rattle.std.specs.Prelude.{◌≡◌, [], ◌∷◌, leb, length};
 ghost use Rattle.rules.specs.Choice.{every};
-ghost use Rattle.rules.specs.Layout.{BLOCK, OPEN_FILE_WIDTH, PLAIN, DIRECTORY};
-ghost use Rattle.rules.specs.Store.{tab, desc_of};
-ghost use Rattle.rules.specs.Rom.{tree_in};
+ghost use Rattle.rules.specs.Layout.{BLOCK, PLAIN, DIRECTORY};
+ghost use Rattle.rules.specs.Store.{desc_of};
+ghost use Rattle.tables.specs.Tables.{open_in, desc_in, tree_seen};
 ghost use Rattle.rules.specs.Rights.{bits_known, bits_of, mode_of, mode_known};
 ghost use Rattle.rules.specs.Paths.{path_ok};
 ghost use Rattle.rules.specs.Calls.{path_below_root, new_file_ok};
@@ -35,249 +35,148 @@ use rules::refusal::Refusal;
 use rules::request::Subject;
 use rules::rights::Bits;
 use tables::layout::{DIRECTORY, PLAIN};
+use tables::lent::Tables;
 use tables::numbers::word_of;
 use transfer_calls::seek::decide_seek;
 
-pub fn formed_open(
-    files: &[u32],
-    contents: &[u8],
-    open_files: &[u32],
-    processes: &[u32],
-    policy: &[u8],
-    rom: &[u8],
-    p: Pid,
-    who: Subject,
-    n: u32,
-    path: &[u8],
-) -> Decision
-    ensures { result ≡ need (every (mode_known (mode_of n) ∷ path_ok path.now ∷ [])) Malformed (decide_open policy.now (tree_in rom.now files.now contents.now) (tab OPEN_FILE_WIDTH open_files.now) (desc_of processes.now) p who n path.now) }
+#[tactic(auto, using(rules::proofs::Choices::steps))]
+pub fn formed_open(t: &Tables, p: Pid, who: Subject, n: u32, path: &[u8]) -> Decision
+    ensures { result ≡ need (every (mode_known (mode_of n) ∷ path_ok path.now ∷ [])) Malformed (decide_open t.now.policy.now (tree_seen t.now) (open_in t.now) (desc_in t.now) p who n path.now) }
 {
     if !open_ok(n, path) {
-        return Decision::Refused(Refusal::Malformed, 0);
+        return Err(Refusal::Malformed.into());
     }
-    decide_open(
-        files, contents, open_files, processes, policy, rom, p, who, n, path,
-    )
+    decide_open(t, p, who, n, path)
 }
 
 // Create and make directory are two, for `decide_create` then has two callers and stays one function; as one with it this one would be called twice and be handed
 // everything in memory.
-pub fn formed_create(
-    files: &[u32],
-    contents: &[u8],
-    policy: &[u8],
-    rom: &[u8],
-    who: Subject,
-    n: u32,
-    path: &[u8],
-) -> Decision
-    ensures { result ≡ need (new_file_ok n path.now) Malformed (decide_create policy.now (tree_in rom.now files.now contents.now) who PLAIN (bits_of n) path.now) }
+#[tactic(auto, using(rules::proofs::Choices::steps))]
+pub fn formed_create(t: &Tables, who: Subject, n: u32, path: &[u8]) -> Decision
+    ensures { result ≡ need (new_file_ok n path.now) Malformed (decide_create t.now.policy.now (tree_seen t.now) who PLAIN (bits_of n) path.now) }
 {
     if !new_file_ok(n, path) {
-        return Decision::Refused(Refusal::Malformed, 0);
+        return Err(Refusal::Malformed.into());
     }
-    decide_create(files, contents, policy, rom, who, PLAIN, Bits::new(n), path)
+    decide_create(t, who, PLAIN, Bits::new(n), path)
 }
 
-pub fn formed_make_directory(
-    files: &[u32],
-    contents: &[u8],
-    policy: &[u8],
-    rom: &[u8],
-    who: Subject,
-    n: u32,
-    path: &[u8],
-) -> Decision
-    ensures { result ≡ need (new_file_ok n path.now) Malformed (decide_create policy.now (tree_in rom.now files.now contents.now) who DIRECTORY (bits_of n) path.now) }
+#[tactic(auto, using(rules::proofs::Choices::steps))]
+pub fn formed_make_directory(t: &Tables, who: Subject, n: u32, path: &[u8]) -> Decision
+    ensures { result ≡ need (new_file_ok n path.now) Malformed (decide_create t.now.policy.now (tree_seen t.now) who DIRECTORY (bits_of n) path.now) }
 {
     if !new_file_ok(n, path) {
-        return Decision::Refused(Refusal::Malformed, 0);
+        return Err(Refusal::Malformed.into());
     }
-    decide_create(
-        files,
-        contents,
-        policy,
-        rom,
-        who,
-        DIRECTORY,
-        Bits::new(n),
-        path,
-    )
+    decide_create(t, who, DIRECTORY, Bits::new(n), path)
 }
 
-pub fn formed_unlink(
-    files: &[u32],
-    contents: &[u8],
-    open_files: &[u32],
-    policy: &[u8],
-    rom: &[u8],
-    who: Subject,
-    path: &[u8],
-) -> Decision
-    ensures { result ≡ need (path_below_root path.now) Malformed (decide_unlink policy.now (tree_in rom.now files.now contents.now) (tab OPEN_FILE_WIDTH open_files.now) who path.now) }
+#[tactic(auto, using(rules::proofs::Choices::steps))]
+pub fn formed_unlink(t: &Tables, who: Subject, path: &[u8]) -> Decision
+    ensures { result ≡ need (path_below_root path.now) Malformed (decide_unlink t.now.policy.now (tree_seen t.now) (open_in t.now) who path.now) }
 {
     if !path_below_root(path) {
-        return Decision::Refused(Refusal::Malformed, 0);
+        return Err(Refusal::Malformed.into());
     }
-    decide_unlink(files, contents, open_files, policy, rom, who, path)
+    decide_unlink(t, who, path)
 }
 
-pub fn formed_remove(
-    files: &[u32],
-    contents: &[u8],
-    policy: &[u8],
-    rom: &[u8],
-    who: Subject,
-    path: &[u8],
-) -> Decision
-    ensures { result ≡ need (path_below_root path.now) Malformed (decide_remove policy.now (tree_in rom.now files.now contents.now) who path.now) }
+#[tactic(auto, using(rules::proofs::Choices::steps))]
+pub fn formed_remove(t: &Tables, who: Subject, path: &[u8]) -> Decision
+    ensures { result ≡ need (path_below_root path.now) Malformed (decide_remove t.now.policy.now (tree_seen t.now) who path.now) }
 {
     if !path_below_root(path) {
-        return Decision::Refused(Refusal::Malformed, 0);
+        return Err(Refusal::Malformed.into());
     }
-    decide_remove(files, contents, policy, rom, who, path)
+    decide_remove(t, who, path)
 }
 
-pub fn formed_link(
-    files: &[u32],
-    contents: &[u8],
-    policy: &[u8],
-    rom: &[u8],
-    who: Subject,
-    path: &[u8],
-    data: &[u8],
-) -> Decision
-    ensures { result ≡ need (every (path_ok path.now ∷ path_below_root «data».now ∷ [])) Malformed (decide_link policy.now (tree_in rom.now files.now contents.now) who path.now «data».now) }
+#[tactic(auto, using(rules::proofs::Choices::steps))]
+pub fn formed_link(t: &Tables, who: Subject, path: &[u8], data: &[u8]) -> Decision
+    ensures { result ≡ need (every (path_ok path.now ∷ path_below_root «data».now ∷ [])) Malformed (decide_link t.now.policy.now (tree_seen t.now) who path.now «data».now) }
 {
     if !both_paths_ok(path, data) {
-        return Decision::Refused(Refusal::Malformed, 0);
+        return Err(Refusal::Malformed.into());
     }
-    decide_link(files, contents, policy, rom, who, path, data)
+    decide_link(t, who, path, data)
 }
 
-pub fn formed_list(
-    files: &[u32],
-    contents: &[u8],
-    policy: &[u8],
-    rom: &[u8],
-    who: Subject,
-    n: u32,
-    path: &[u8],
-) -> Decision
-    ensures { result ≡ need (path_ok path.now) Malformed (decide_list policy.now (tree_in rom.now files.now contents.now) who n path.now) }
+#[tactic(auto, using(rules::proofs::Choices::steps))]
+pub fn formed_list(t: &Tables, who: Subject, n: u32, path: &[u8]) -> Decision
+    ensures { result ≡ need (path_ok path.now) Malformed (decide_list t.now.policy.now (tree_seen t.now) who n path.now) }
 {
     if !path_ok(path) {
-        return Decision::Refused(Refusal::Malformed, 0);
+        return Err(Refusal::Malformed.into());
     }
-    decide_list(files, contents, policy, rom, who, n, path)
+    decide_list(t, who, n, path)
 }
 
-pub fn formed_change_bits(
-    files: &[u32],
-    contents: &[u8],
-    policy: &[u8],
-    rom: &[u8],
-    who: Subject,
-    n: u32,
-    path: &[u8],
-) -> Decision
-    ensures { result ≡ need (every (bits_known n ∷ path_ok path.now ∷ [])) Malformed (decide_change_bits policy.now (tree_in rom.now files.now contents.now) who (bits_of n) path.now) }
+#[tactic(auto, using(rules::proofs::Choices::steps))]
+pub fn formed_change_bits(t: &Tables, who: Subject, n: u32, path: &[u8]) -> Decision
+    ensures { result ≡ need (every (bits_known n ∷ path_ok path.now ∷ [])) Malformed (decide_change_bits t.now.policy.now (tree_seen t.now) who (bits_of n) path.now) }
 {
     if !bits_and_path_ok(n, path) {
-        return Decision::Refused(Refusal::Malformed, 0);
+        return Err(Refusal::Malformed.into());
     }
-    decide_change_bits(files, contents, policy, rom, who, Bits::new(n), path)
+    decide_change_bits(t, who, Bits::new(n), path)
 }
 
-pub fn formed_stat(
-    files: &[u32],
-    contents: &[u8],
-    policy: &[u8],
-    rom: &[u8],
-    who: Subject,
-    path: &[u8],
-) -> Decision
-    ensures { result ≡ need (path_ok path.now) Malformed (decide_stat policy.now rom.now (tree_in rom.now files.now contents.now) who path.now) }
+#[tactic(auto, using(rules::proofs::Choices::steps))]
+pub fn formed_stat(t: &Tables, who: Subject, path: &[u8]) -> Decision
+    ensures { result ≡ need (path_ok path.now) Malformed (decide_stat t.now.policy.now t.now.rom.now (tree_seen t.now) who path.now) }
 {
     if !path_ok(path) {
-        return Decision::Refused(Refusal::Malformed, 0);
+        return Err(Refusal::Malformed.into());
     }
-    decide_stat(files, contents, policy, rom, who, path)
+    decide_stat(t, who, path)
 }
 
+#[tactic(auto, using(rules::proofs::Choices::steps))]
 pub fn formed_seek(processes: &[u32], p: Pid, i: Fd, n: u32) -> Decision
     ensures { result ≡ need (leb n BLOCK) Malformed (decide_seek (desc_of processes.now) p i n) }
 {
     if !offset_ok(n) {
-        return Decision::Refused(Refusal::Malformed, 0);
+        return Err(Refusal::Malformed.into());
     }
     decide_seek(processes, p, i, n)
 }
 
-pub fn formed_execute(
-    files: &[u32],
-    contents: &[u8],
-    policy: &[u8],
-    rom: &[u8],
-    who: Subject,
-    path: &[u8],
-) -> Decision
-    ensures { result ≡ need (path_ok path.now) Malformed (decide_execute policy.now (tree_in rom.now files.now contents.now) who path.now) }
+#[tactic(auto, using(rules::proofs::Choices::steps))]
+pub fn formed_execute(t: &Tables, who: Subject, path: &[u8]) -> Decision
+    ensures { result ≡ need (path_ok path.now) Malformed (decide_execute t.now.policy.now (tree_seen t.now) who path.now) }
 {
     if !path_ok(path) {
-        return Decision::Refused(Refusal::Malformed, 0);
+        return Err(Refusal::Malformed.into());
     }
-    decide_execute(files, contents, policy, rom, who, path)
+    decide_execute(t, who, path)
 }
 
-pub fn formed_symlink(
-    files: &[u32],
-    contents: &[u8],
-    policy: &[u8],
-    rom: &[u8],
-    who: Subject,
-    path: &[u8],
-    data: &[u8],
-) -> Decision
-    ensures { result ≡ need (every (path_below_root path.now ∷ path_ok «data».now ∷ [])) Malformed (decide_symlink policy.now (tree_in rom.now files.now contents.now) who (length «data».now) path.now) }
+#[tactic(auto, using(rules::proofs::Choices::steps))]
+pub fn formed_symlink(t: &Tables, who: Subject, path: &[u8], data: &[u8]) -> Decision
+    ensures { result ≡ need (every (path_below_root path.now ∷ path_ok «data».now ∷ [])) Malformed (decide_symlink t.now.policy.now (tree_seen t.now) who (length «data».now) path.now) }
 {
     if !symlink_ok(path, data) {
-        return Decision::Refused(Refusal::Malformed, 0);
+        return Err(Refusal::Malformed.into());
     }
-    let n = word_of(data.len());
-    decide_symlink(files, contents, policy, rom, who, n, path)
+    decide_symlink(t, who, word_of(data.len()), path)
 }
 
-pub fn formed_read_link(
-    files: &[u32],
-    contents: &[u8],
-    policy: &[u8],
-    rom: &[u8],
-    who: Subject,
-    size: usize,
-    path: &[u8],
-) -> Decision
-    ensures { result ≡ need (path_ok path.now) Malformed (decide_read_link policy.now (tree_in rom.now files.now contents.now) who size path.now) }
+#[tactic(auto, using(rules::proofs::Choices::steps))]
+pub fn formed_read_link(t: &Tables, who: Subject, size: usize, path: &[u8]) -> Decision
+    ensures { result ≡ need (path_ok path.now) Malformed (decide_read_link t.now.policy.now (tree_seen t.now) who size path.now) }
 {
     if !path_ok(path) {
-        return Decision::Refused(Refusal::Malformed, 0);
+        return Err(Refusal::Malformed.into());
     }
-    decide_read_link(files, contents, policy, rom, who, size, path)
+    decide_read_link(t, who, size, path)
 }
 
-pub fn formed_rename(
-    files: &[u32],
-    contents: &[u8],
-    policy: &[u8],
-    rom: &[u8],
-    who: Subject,
-    path: &[u8],
-    data: &[u8],
-) -> Decision
-    ensures { result ≡ need (every (path_below_root path.now ∷ path_below_root «data».now ∷ [])) Malformed (decide_rename policy.now (tree_in rom.now files.now contents.now) who path.now «data».now) }
+#[tactic(auto, using(rules::proofs::Choices::steps))]
+pub fn formed_rename(t: &Tables, who: Subject, path: &[u8], data: &[u8]) -> Decision
+    ensures { result ≡ need (every (path_below_root path.now ∷ path_below_root «data».now ∷ [])) Malformed (decide_rename t.now.policy.now (tree_seen t.now) who path.now «data».now) }
 {
     if !rename_ok(path, data) {
-        return Decision::Refused(Refusal::Malformed, 0);
+        return Err(Refusal::Malformed.into());
     }
-    decide_rename(files, contents, policy, rom, who, path, data)
+    decide_rename(t, who, path, data)
 }

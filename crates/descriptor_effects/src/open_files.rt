@@ -5,10 +5,10 @@ ghost use Rattle.rules.specs.Store.{store, open_word, apply_all};
 ghost use Rattle.rules.specs.Effects.{open_changes, truncate_changes, release_changes, close_changes, duplicate_changes, share_changes};
 
 use rows::rows::{clear_slot, put_empty, put_held, put_open};
-use rules::decision::{NewOpen, Record, Release, Share};
+use rules::decision::{NewOpen, Record, Release, Shared};
 use rules::ids::{Fd, Ofd, Pid};
 use tables::layout::{OPEN_FILE_WIDTH, OPEN_OFFSET, OPEN_REFERENCES};
-use tables::words::{put, zero_words};
+use tables::words::{fill, put};
 
 pub fn open_file(open_files: &mut [u32], processes: &mut [u32], p: Pid, n: NewOpen)
     ensures { (F C : List ℕ) → store F C open_files.new processes.new ≡ apply_all (open_changes p n) (store F C open_files.old processes.old) }
@@ -52,17 +52,19 @@ fn release_open(files: &mut [u32], contents: &mut [u8], open_files: &mut [u32], 
             );
         }
         Release::Gone(e) => {
-            zero_words(
+            fill(
                 open_files,
                 OPEN_FILE_WIDTH * (e.0 as usize) + 0,
                 OPEN_FILE_WIDTH,
+                0,
             );
         }
         Release::Freed(e, s, record) => {
-            zero_words(
+            fill(
                 open_files,
                 OPEN_FILE_WIDTH * (e.0 as usize) + 0,
                 OPEN_FILE_WIDTH,
+                0,
             );
             clear_slot(files, contents, s, record);
         }
@@ -109,17 +111,13 @@ pub fn share_descriptor(
     processes: &mut [u32],
     child: Pid,
     i: Fd,
-    given: Share,
+    given: Option<Shared>,
 )
     ensures { (F C : List ℕ) → store F C open_files.new processes.new ≡ apply_all (share_changes child i given) (store F C open_files.old processes.old) }
 {
     match given {
-        Share::Nothing => {
-            put_empty(processes, child, i);
-        }
-        Share::Held(e, references) => {
-            duplicate_descriptor(open_files, processes, child, i, e, references);
-        }
+        None => put_empty(processes, child, i),
+        Some(s) => duplicate_descriptor(open_files, processes, child, i, s.ofd, s.references),
     }
 }
 

@@ -7,7 +7,7 @@ ghost use Rattle.rules.specs.Effects.{fork_changes};
 use rules::ids::Pid;
 use rules::request::Subject;
 use tables::layout::{PROCESS_GROUP, PROCESS_LABEL, PROCESS_USED, PROCESS_USER, PROCESS_WIDTH};
-use tables::words::{put, zero_words};
+use tables::words::{fill, put};
 
 pub fn make_process(processes: &mut [u32], child: Pid, who: Subject)
     ensures { (F C E : List ℕ) → store F C E processes.new ≡ apply_all (fork_changes child who) (store F C E processes.old) }
@@ -22,7 +22,12 @@ pub fn make_process(processes: &mut [u32], child: Pid, who: Subject)
 pub fn free_process(processes: &mut [u32], p: Pid)
     ensures { (F C E : List ℕ) → store F C E processes.new ≡ apply_all (proc_zero p.0 ∷ []) (store F C E processes.old) }
 {
-    zero_words(processes, PROCESS_WIDTH * (p.0 as usize) + 0, PROCESS_WIDTH);
+    fill(
+        processes,
+        PROCESS_WIDTH * (p.0 as usize) + 0,
+        PROCESS_WIDTH,
+        0,
+    );
 }
 
 pub fn relabel_process(processes: &mut [u32], p: Pid, label: u32)

@@ -15,23 +15,6 @@ use Rattle.tables.specs.NameWords.{low_word, high_word}
 use Rattle.tables.proofs.SameWords.{low-apart, high-apart, words-there}
 use Rattle.directories.specs.ByWords.{has_words, dirent_by}
 
-module _ (D : List ℕ) (low high i : ℕ) where
-  pub both_words : (r q : Bool) → r ≡ eqb (low_word (dirent_at D i)) low → r ≡ true → q ≡ eqb (high_word (dirent_at D i)) high → q ≡ true → true ≡ has_words D low high i
-  unfolding has_words every
-  both_words r q a e b f = rw (← a, e, ← b, f)
-
-  pub not_low : (r : Bool) → r ≡ eqb (low_word (dirent_at D i)) low → r ≡ false → false ≡ has_words D low high i
-  unfolding has_words every
-  not_low r a e = rw (← a, e)
-
-  pub not-high : (q : Bool) → q ≡ eqb (high_word (dirent_at D i)) high → q ≡ false → false ≡ has_words D low high i
-  unfolding has_words every
-  not-high q b f = rw (← b, f) (by (eqb (low_word (dirent_at D i)) low))
-    where
-      by : (x : Bool) → false ≡ every (x ∷ false ∷ [])
-      by true = refl
-      by false = refl
-
 abbrev pub Bytes : List ℕ → Type 0
 Bytes xs = (k : ℕ) → get_or xs k 0 < 256
 

@@ -24,12 +24,6 @@ use Rattle.directories.specs.ByWords.{has_words, stored_by, dirent_by}
 use Rattle.directories.specs.Seen.{ROM_LOW, found_in, root_slot, store_dirents}
 use Rattle.directories.specs.declared.seen.Found.{Found}
 
-pub is_last : (b : Bool) → b ≡ true → entry DIRENTS ≡ entry (cond b DIRENTS ENTRIES)
-is_last b e = rw e
-
-pub is-past : (b : Bool) → b ≡ false → entry ENTRIES ≡ entry (cond b DIRENTS ENTRIES)
-is-past b e = rw e
-
 -- ---- the code finds among 16, and then asks the seventeenth; D is seen, S is scanned
 
 module _ (D S : List ℕ) (low high : ℕ) (same : (j : ℕ) → j < DIRENTS → has_words S low high j ≡ has_words D low high j) where
@@ -56,8 +50,8 @@ module _ (D S : List ℕ) (low high : ℕ) (same : (j : ℕ) → j < DIRENTS →
 
 -- of a directory of the store
 module _ (D : List ℕ) (low high : ℕ) where
-  pub by-there : (i : Dirent) (r : Bool) → i ≡ stored_by D low high → r ≡ is_dirent i → r ≡ true → i ≡ dirent_by D low high
-  by-there = there D D low high (λ j _. refl)
+  pub by_there : (i : Dirent) (r : Bool) → i ≡ stored_by D low high → r ≡ is_dirent i → r ≡ true → i ≡ dirent_by D low high
+  by_there = there D D low high (λ j _. refl)
 
   pub by_last : (i z : Dirent) (r b : Bool) → i ≡ stored_by D low high → r ≡ is_dirent i → r ≡ false → b ≡ has_words D low high DIRENTS → z ≡ entry (cond b DIRENTS ENTRIES) → z ≡ dirent_by D low high
   by_last = after-all D D low high (λ j _. refl)
@@ -65,11 +59,11 @@ module _ (D : List ℕ) (low high : ℕ) where
   pub found-is : (i : Dirent) (s : Slot) → i ≡ dirent_by D low high → s ≡ slot (dirent_slot D i.0) → record { dirent = i; slot = s } ≡ found_in D low high
   found-is i s e q = rw (q, e)
 
-  pub none-own : (i : Dirent) (r : Bool) → i ≡ stored_by D low high → r ≡ is_dirent i → r ≡ false → is_dirent (stored_by D low high) ≡ false
-  none-own i r e q t = sym (ap (λ (x : Dirent). is_dirent x) e) ∙ sym q ∙ t
+  pub none_own : (i : Dirent) (r : Bool) → i ≡ stored_by D low high → r ≡ is_dirent i → r ≡ false → is_dirent (stored_by D low high) ≡ false
+  none_own i r e q t = sym (ap (λ (x : Dirent). is_dirent x) e) ∙ sym q ∙ t
 
-  pub own-last : (z : Dirent) (b : Bool) (s : Slot) → is_dirent (stored_by D low high) ≡ false → b ≡ has_words D low high DIRENTS → z ≡ entry (cond b DIRENTS ENTRIES) → s ≡ slot (dirent_slot D z.0) → record { dirent = z; slot = s } ≡ found_in D low high
-  own-last z b s t w p q = found-is z s (by_last (stored_by D low high) z (is_dirent (stored_by D low high)) b refl refl t w p) q
+  pub own_last : (z : Dirent) (b : Bool) (s : Slot) → is_dirent (stored_by D low high) ≡ false → b ≡ has_words D low high DIRENTS → z ≡ entry (cond b DIRENTS ENTRIES) → s ≡ slot (dirent_slot D z.0) → record { dirent = z; slot = s } ≡ found_in D low high
+  own_last z b s t w p q = found-is z s (by_last (stored_by D low high) z (is_dirent (stored_by D low high)) b refl refl t w p) q
 
 -- ---- the root: its own entries, then that of /rom
 
@@ -130,8 +124,8 @@ module _ (D : List ℕ) where
   root-found : (low high : ℕ) (i : Dirent) (s : Slot) → i ≡ dirent_by (with_rom D) low high → s ≡ root_slot D i → record { dirent = i; slot = s } ≡ found_in (with_rom D) low high
   root-found low high i s e q = rw (q, root-slot i, e)
 
-  pub root-past : (low high : ℕ) (z : Dirent) (b : Bool) (s : Slot) → is_dirent (stored_by D low high) ≡ false → b ≡ every (eqb ROM_LOW low ∷ eqb 0 high ∷ []) → z ≡ entry (cond b DIRENTS ENTRIES) → s ≡ root_slot D z → record { dirent = z; slot = s } ≡ found_in (with_rom D) low high
-  root-past low high z b s t w p q = root-found low high z s (root-last low high (stored_by D low high) z (is_dirent (stored_by D low high)) b refl refl t w p) q
+  pub root_past : (low high : ℕ) (z : Dirent) (b : Bool) (s : Slot) → is_dirent (stored_by D low high) ≡ false → b ≡ every (eqb ROM_LOW low ∷ eqb 0 high ∷ []) → z ≡ entry (cond b DIRENTS ENTRIES) → s ≡ root_slot D z → record { dirent = z; slot = s } ≡ found_in (with_rom D) low high
+  root_past low high z b s t w p q = root-found low high z s (root-last low high (stored_by D low high) z (is_dirent (stored_by D low high)) b refl refl t w p) q
 
   own-slot : (i : Dirent) → is_dirent i ≡ true → root_slot D i ≡ slot (dirent_slot D i.0)
   unfolding root_slot
@@ -140,19 +134,19 @@ module _ (D : List ℕ) where
 -- ---- any directory of the store
 
 module _ (D : List ℕ) (low high d : ℕ) where
-  pub in-store : (i : Dirent) (r : Bool) (s : Slot) → i ≡ stored_by D low high → r ≡ is_dirent i → r ≡ true → s ≡ slot (dirent_slot D i.0) → record { dirent = i; slot = s } ≡ found_in (store_dirents D d) low high
-  in-store i r s e q t p = by (eqb d 0)
+  pub in_store : (i : Dirent) (r : Bool) (s : Slot) → i ≡ stored_by D low high → r ≡ is_dirent i → r ≡ true → s ≡ slot (dirent_slot D i.0) → record { dirent = i; slot = s } ≡ found_in (store_dirents D d) low high
+  in_store i r s e q t p = by (eqb d 0)
     where
       by : (x : Bool) → record { dirent = i; slot = s } ≡ found_in (cond x (with_rom D) D) low high
       by true = root-found D low high i s (root-there D low high i r e q t) (p ∙ sym (own-slot D i (sym q ∙ t)))
-      by false = found-is D low high i s (by-there D low high i r e q t) p
+      by false = found-is D low high i s (by_there D low high i r e q t) p
 
   module _ (z : Found) where
-    pub last-root : eqb d 0 ≡ true → z ≡ found_in (with_rom D) low high → z ≡ found_in (store_dirents D d) low high
-    last-root a e = rw a e
+    pub last_root : eqb d 0 ≡ true → z ≡ found_in (with_rom D) low high → z ≡ found_in (store_dirents D d) low high
+    last_root a e = rw a e
 
-    pub last-own : eqb d 0 ≡ false → z ≡ found_in D low high → z ≡ found_in (store_dirents D d) low high
-    last-own a e = rw a e
+    pub last_own : eqb d 0 ≡ false → z ≡ found_in D low high → z ≡ found_in (store_dirents D d) low high
+    last_own a e = rw a e
 
 -- ---- written out
 
@@ -217,18 +211,18 @@ module _ (R : List ℕ) (dirents : ℕ → List ℕ) (s : ℕ) where
   rom-is-not-root b = rw (eqb-true s ROM b) refl
 
   module _ (low high : ℕ) (z : Found) where
-    pub found-rom : eqb s ROM ≡ true → z ≡ found_in (rom_dirents R) low high → z ≡ found_in (seen_dirents R dirents s) low high
-    found-rom b e = rw (seen-rom (rom-is-not-root b) b) e
+    pub found_rom : eqb s ROM ≡ true → z ≡ found_in (rom_dirents R) low high → z ≡ found_in (seen_dirents R dirents s) low high
+    found_rom b e = rw (seen-rom (rom-is-not-root b) b) e
 
-    pub found-store : (D : List ℕ) → D ≡ dirents s → eqb s ROM ≡ false → z ≡ found_in (store_dirents D s) low high → z ≡ found_in (seen_dirents R dirents s) low high
-    found-store D p b e = e ∙ ap (λ (B : List ℕ). found_in (store_dirents B s) low high) p ∙ ap (λ (B : List ℕ). found_in B low high) (seen-store b)
+    pub found_store : (D : List ℕ) → D ≡ dirents s → eqb s ROM ≡ false → z ≡ found_in (store_dirents D s) low high → z ≡ found_in (seen_dirents R dirents s) low high
+    found_store D p b e = e ∙ ap (λ (B : List ℕ). found_in (store_dirents B s) low high) p ∙ ap (λ (B : List ℕ). found_in B low high) (seen-store b)
 
   module _ (k : ℕ) (z : Dirent) where
-    pub ranked-root : eqb s 0 ≡ true → z ≡ dirent_ranked (with_rom (dirents 0)) k → z ≡ dirent_ranked (seen_dirents R dirents s) k
-    ranked-root a e = rw (seen-root a) e
+    pub ranked_root : eqb s 0 ≡ true → z ≡ dirent_ranked (with_rom (dirents 0)) k → z ≡ dirent_ranked (seen_dirents R dirents s) k
+    ranked_root a e = rw (seen-root a) e
 
-    pub ranked-rom : eqb s 0 ≡ false → eqb s ROM ≡ true → z ≡ dirent_ranked (rom_dirents R) k → z ≡ dirent_ranked (seen_dirents R dirents s) k
-    ranked-rom a b e = rw (seen-rom a b) e
+    pub ranked_rom : eqb s 0 ≡ false → eqb s ROM ≡ true → z ≡ dirent_ranked (rom_dirents R) k → z ≡ dirent_ranked (seen_dirents R dirents s) k
+    ranked_rom a b e = rw (seen-rom a b) e
 
-    pub ranked-own : eqb s 0 ≡ false → eqb s ROM ≡ false → z ≡ dirent_ranked (dirents s) k → z ≡ dirent_ranked (seen_dirents R dirents s) k
-    ranked-own a b e = rw (seen-own a b) e
+    pub ranked_own : eqb s 0 ≡ false → eqb s ROM ≡ false → z ≡ dirent_ranked (dirents s) k → z ≡ dirent_ranked (seen_dirents R dirents s) k
+    ranked_own a b e = rw (seen-own a b) e

@@ -1,6 +1,5 @@
 // The entries of a directory. `dir` is what is seen of it.
-ghost use Rattle.std.specs.Prelude.{◌≡◌, cond, not, [], ◌∷◌, eqb, ltb, get_or, length, ◌*◌, ◌<◌, ◌≤◌};
-ghost use Rattle.rules.specs.Choice.{every};
+ghost use Rattle.std.specs.Prelude.{◌≡◌, cond, length, ◌*◌, ◌<◌, ◌≤◌};
 ghost use Rattle.rules.specs.Scan.{count, first};
 ghost use Rattle.rules.specs.Layout.{NAME, DIRENTS, ENTRIES, DIRENT_WIDTH};
 ghost use Rattle.rules.specs.Store.{entry};
@@ -14,13 +13,13 @@ use tables::ids::is_dirent;
 use tables::layout::{DIRENT_WIDTH, DIRENTS, ENTRIES, NAME};
 use tables::name_words::{eight_of, six_of};
 use tables::parts::upto;
-use tables::words::byte;
+use tables::words::get_or;
 
-// The first eight bytes of entry i are those of the word.
-fn has_low(dir: &[u8], i: Dirent, low: u64) -> bool
+// The words of the name of entry i, of a directory that is whole.
+fn low_in(dir: &[u8], i: Dirent) -> u64
     requires i_bound { i.0 < DIRENTS }
     requires in_bounds { DIRENTS * DIRENT_WIDTH ≤ length dir.now }
-    ensures { result ≡ eqb (low_word (dirent_at dir.now i.0)) low }
+    ensures { result ≡ low_word (dirent_at dir.now i.0) }
 {
     let at = DIRENT_WIDTH * (i.0 as usize);
     eight_of(
@@ -32,14 +31,13 @@ fn has_low(dir: &[u8], i: Dirent, low: u64) -> bool
         dir[at + 5],
         dir[at + 6],
         dir[at + 7],
-    ) == low
+    )
 }
 
-// The six after them.
-fn has_high(dir: &[u8], i: Dirent, high: u64) -> bool
+fn high_in(dir: &[u8], i: Dirent) -> u64
     requires i_bound { i.0 < DIRENTS }
     requires in_bounds { DIRENTS * DIRENT_WIDTH ≤ length dir.now }
-    ensures { result ≡ eqb (high_word (dirent_at dir.now i.0)) high }
+    ensures { result ≡ high_word (dirent_at dir.now i.0) }
 {
     let at = DIRENT_WIDTH * (i.0 as usize);
     six_of(
@@ -49,7 +47,16 @@ fn has_high(dir: &[u8], i: Dirent, high: u64) -> bool
         dir[at + 11],
         dir[at + 12],
         dir[at + 13],
-    ) == high
+    )
+}
+
+#[tactic(auto, unfolding(crate::specs::ByWords::has_words, rules::specs::Choice::every))]
+fn has_words_in(dir: &[u8], low: u64, high: u64, i: Dirent) -> bool
+    requires i_bound { i.0 < DIRENTS }
+    requires in_bounds { DIRENTS * DIRENT_WIDTH ≤ length dir.now }
+    ensures { result ≡ has_words dir.now low high i.0 }
+{
+    low_in(dir, i) == low && high_in(dir, i) == high
 }
 
 // The entries of a directory that is whole: no byte is tested against its end.
@@ -57,51 +64,30 @@ fn dirent_in_whole(dir: &[u8], low: u64, high: u64) -> Dirent
     requires { DIRENTS * DIRENT_WIDTH ≤ length dir.now }
     ensures { result ≡ stored_by dir.now low high }
 {
-    let mut i: u32 = 0;
-    while i < DIRENTS {
-        if has_low(dir, Dirent(i), low) {
-            if has_high(dir, Dirent(i), high) {
-                return Dirent(i);
-            }
+    for i in 0..DIRENTS {
+        if has_words_in(dir, low, high, Dirent(i)) {
+            return Dirent(i);
         }
-        i += 1;
     }
     Dirent(DIRENTS)
 }
 
-fn low_is(dir: &[u8], low: u64, i: Dirent) -> bool
-    ensures { result ≡ eqb (low_word (dirent_at dir.now i.0)) low }
-{
-    low_at(dir, i) == low
-}
-
-fn high_is(dir: &[u8], high: u64, i: Dirent) -> bool
-    ensures { result ≡ eqb (high_word (dirent_at dir.now i.0)) high }
-{
-    high_at(dir, i) == high
-}
-
 // Entry i has the name of these words.
+#[tactic(auto, unfolding(crate::specs::ByWords::has_words, rules::specs::Choice::every))]
 pub(crate) fn has_words(dir: &[u8], low: u64, high: u64, i: Dirent) -> bool
     ensures { result ≡ has_words dir.now low high i.0 }
 {
-    if !low_is(dir, low, i) {
-        return false;
-    }
-    high_is(dir, high, i)
+    low_at(dir, i) == low && high_at(dir, i) == high
 }
 
 fn dirent_in_part(dir: &[u8], low: u64, high: u64) -> Dirent
     ensures { result ≡ stored_by dir.now low high }
 {
-    let mut i: u32 = 0;
-    while i < DIRENTS {
-        if has_words(dir, low, high, Dirent(i)) {
-            return Dirent(i);
-        }
-        i += 1;
-    }
-    Dirent(DIRENTS)
+    Dirent(
+        (0..DIRENTS)
+            .find(|i| has_words(dir, low, high, Dirent(*i)))
+            .unwrap_or(DIRENTS),
+    )
 }
 
 // Of a directory's own entries the one that has the name of these words, 16 where none has.
@@ -125,6 +111,7 @@ pub(crate) fn seventeenth(has: bool) -> Dirent
 }
 
 // The entry that has the name of these words, 17 where none has, in bytes that need be no whole directory.
+#[tactic(auto, using(crate::proofs::Seventeenth::by_there, crate::proofs::Seventeenth::by_last))]
 pub fn dirent_by(dir: &[u8], low: u64, high: u64) -> Dirent
     ensures { result ≡ dirent_by dir.now low high }
 {
@@ -139,139 +126,79 @@ pub fn dirent_by(dir: &[u8], low: u64, high: u64) -> Dirent
 pub fn free_dirent(dir: &[u8]) -> Dirent
     ensures { result ≡ free_dirent dir.now }
 {
-    let mut i: u32 = 0;
-    while i < DIRENTS {
-        if is_empty(dir, Dirent(i)) {
-            return Dirent(i);
-        }
-        i += 1;
-    }
-    Dirent(DIRENTS)
+    Dirent(
+        (0..DIRENTS)
+            .find(|i| is_empty(dir, Dirent(*i)))
+            .unwrap_or(DIRENTS),
+    )
 }
 
+#[tactic(auto, unfolding(rules::specs::Directories::differs_at))]
 fn differs_at(a: &[u8], b: &[u8], k: usize) -> bool
     ensures { result ≡ differs_at a.now b.now k }
 {
-    byte(a, k) != byte(b, k)
+    get_or(a, k, 0) != get_or(b, k, 0)
 }
 
 // Where two names first differ, 14 where they do not.
 fn difference_of(a: &[u8], b: &[u8]) -> usize
     ensures { result ≡ difference a.now b.now }
 {
-    let mut k = 0;
-    while k < NAME {
-        if differs_at(a, b, k) {
-            return k;
-        }
-        k += 1;
-    }
-    NAME
-}
-
-fn byte_less(a: &[u8], b: &[u8], k: usize) -> bool
-    ensures { result ≡ ltb (get_or a.now k 0) (get_or b.now k 0) }
-{
-    byte(a, k) < byte(b, k)
-}
-
-fn precedes_at(a: &[u8], b: &[u8], k: usize) -> bool
-    ensures { result ≡ every (ltb k NAME ∷ ltb (get_or a.now k 0) (get_or b.now k 0) ∷ []) }
-{
-    let differ = k < NAME;
-    if !differ {
-        return false;
-    }
-    byte_less(a, b, k)
+    (0..NAME).find(|k| differs_at(a, b, *k)).unwrap_or(NAME)
 }
 
 // Name a comes before name b.
-fn precedes_name(a: &[u8], b: &[u8]) -> bool
+#[tactic(auto, unfolding(rules::specs::Directories::precedes, rules::specs::Choice::every))]
+fn precedes(a: &[u8], b: &[u8]) -> bool
     ensures { result ≡ precedes a.now b.now }
 {
-    precedes_at(a, b, difference_of(a, b))
-}
-
-fn is_used(dir: &[u8], i: Dirent) -> bool
-    ensures { result ≡ not (is_empty dir.now i.0) }
-{
-    !is_empty(dir, i)
-}
-
-fn precedes_dirent(dir: &[u8], j: Dirent, i: Dirent) -> bool
-    ensures { result ≡ precedes (dirent_at dir.now j.0) (dirent_at dir.now i.0) }
-{
-    precedes_name(dirent_at(dir, j), dirent_at(dir, i))
+    let k = difference_of(a, b);
+    k < NAME && get_or(a, k, 0) < get_or(b, k, 0)
 }
 
 // Entry j has a name that comes before that of entry i.
+#[tactic(auto, unfolding(rules::specs::Directories::is_before, rules::specs::Choice::every))]
 fn is_before(dir: &[u8], i: Dirent, j: Dirent) -> bool
     ensures { result ≡ is_before dir.now i.0 j.0 }
 {
-    if !is_used(dir, j) {
-        return false;
-    }
-    precedes_dirent(dir, j, i)
+    !is_empty(dir, j) && precedes(dirent_at(dir, j), dirent_at(dir, i))
 }
 
 // How many names come before that of entry i.
-fn rank_of(dir: &[u8], i: Dirent) -> u32
+fn rank_of(dir: &[u8], i: Dirent) -> usize
     ensures { result ≡ count (is_before dir.now i.0) 0 ENTRIES }
 {
-    let mut n: u32 = 0;
-    let mut j: u32 = 0;
-    while j < ENTRIES {
-        if is_before(dir, i, Dirent(j)) {
-            n += 1;
-        }
-        j += 1;
-    }
-    n
+    (0..ENTRIES)
+        .filter(|j| is_before(dir, i, Dirent(*j)))
+        .count()
 }
 
-fn has_rank(dir: &[u8], k: u32, i: Dirent) -> bool
-    ensures { result ≡ eqb (count (is_before dir.now i.0) 0 ENTRIES) k }
-{
-    rank_of(dir, i) == k
-}
-
+#[tactic(auto, unfolding(rules::specs::Directories::is_ranked, rules::specs::Choice::every))]
 fn is_ranked(dir: &[u8], k: u32, i: Dirent) -> bool
     ensures { result ≡ is_ranked dir.now k i.0 }
 {
-    if !is_used(dir, i) {
-        return false;
-    }
-    has_rank(dir, k, i)
+    !is_empty(dir, i) && rank_of(dir, i) == k as usize
 }
 
 // The entry of the k-th name in byte order, 17 where there are not so many.
 pub fn dirent_ranked(dir: &[u8], k: u32) -> Dirent
     ensures { result ≡ dirent_ranked dir.now k }
 {
-    let mut i: u32 = 0;
-    while i < ENTRIES {
-        if is_ranked(dir, k, Dirent(i)) {
-            return Dirent(i);
-        }
-        i += 1;
-    }
-    Dirent(ENTRIES)
+    Dirent(
+        (0..ENTRIES)
+            .find(|i| is_ranked(dir, k, Dirent(*i)))
+            .unwrap_or(ENTRIES),
+    )
 }
 
 fn name_length(name: &[u8]) -> usize
     ensures { result ≡ first (is_padding name.now) 0 NAME }
 {
-    let mut k = 0;
-    while k < NAME {
-        if is_padding(name, k) {
-            return k;
-        }
-        k += 1;
-    }
-    NAME
+    (0..NAME).find(|k| is_padding(name, *k)).unwrap_or(NAME)
 }
 
 // The name of entry i, without its padding.
+#[tactic(auto, unfolding(rules::specs::Directories::dirent_name))]
 pub fn dirent_name(dir: &[u8], i: Dirent) -> &[u8]
     ensures { result.now ≡ dirent_name dir.now i }
 {

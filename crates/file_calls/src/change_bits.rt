@@ -1,79 +1,48 @@
 // 8. Change bits.
 ghost use Rattle.std.specs.Prelude.{◌≡◌};
-ghost use Rattle.rules.specs.Layout.{FILE_OWNER};
-ghost use Rattle.rules.specs.Rom.{files_in, tree_in};
-ghost use Rattle.rules.specs.Rights.{owns};
 ghost use Rattle.rules.specs.DecidePaths.{may_change, change_bits_at, decide_change_bits};
-ghost use Rattle.rules.specs.declared.rights.BitsNumber.TheVariants.{Valid};
+ghost use Rattle.rules.specs.Rom.{files_in};
+ghost use Rattle.tables.specs.Tables.{file_in, tree_seen};
 
 use resolution::walk::follow_path;
-use rights::rights::label_allows;
+use rights::rights::{is_owner, label_allows};
 use rom::seen::owner;
-use rules::decision::{Decision, Effect, Output, Walk};
+use rules::decision::{Decision, Effect, granted};
 use rules::ids::Slot;
 use rules::refusal::Refusal;
 use rules::request::Subject;
-use rules::rights::{Bits, BitsNumber, Rights};
+use rules::rights::{Bits, Rights};
 use tables::ids::is_slot;
+use tables::lent::Tables;
 
-fn owns_file(files: &[u32], who: Subject, s: Slot) -> bool
-    ensures { result ≡ owns who (files_in files.now s.0 FILE_OWNER) }
-{
-    rights::rights::is_owner(who, owner(files, s))
-}
-
-// And of the store.
+// The owner's, and of the store.
+#[tactic(auto, unfolding(rules::specs::DecidePaths::may_change, rules::specs::Choice::every))]
 fn may_change(files: &[u32], who: Subject, s: Slot) -> bool
     ensures { result ≡ may_change (files_in files.now) who s }
 {
-    if !owns_file(files, who, s) {
-        return false;
-    }
-    is_slot(s)
+    is_owner(who, owner(files, s)) && is_slot(s)
 }
 
-fn change_bits_at(files: &[u32], policy: &[u8], who: Subject, bits: Bits, s: Slot) -> Decision
-    ensures { result ≡ change_bits_at policy.now (files_in files.now) who bits s }
+#[tactic(auto, using(rules::proofs::Choices::steps), unfolding(rules::specs::DecidePaths::change_bits_at))]
+fn change_bits_at(t: &Tables, who: Subject, bits: Bits, s: Slot) -> Decision
+    ensures { result ≡ change_bits_at t.now.policy.now (file_in t.now) who bits s }
 {
-    if !may_change(files, who, s) {
-        return Decision::Refused(Refusal::BitsForbid, 0);
+    if !may_change(t.files, who, s) {
+        return Err(Refusal::BitsForbid.into());
     }
-    if !label_allows(files, policy, who, s, Rights::WRITE) {
-        return Decision::Refused(Refusal::LabelForbids, 0);
+    if !label_allows(t, who, s, Rights::WRITE) {
+        return Err(Refusal::LabelForbids.into());
     }
-    Decision::Granted(0, Output::Nothing, Effect::BitsChanged(s, bits))
+    granted(0, Effect::BitsChanged(s, bits))
 }
 
-fn change_bits_to(
-    files: &[u32],
-    contents: &[u8],
-    policy: &[u8],
-    rom: &[u8],
-    who: Subject,
-    bits: Bits,
-    path: &[u8],
-) -> Decision
-    ensures { result ≡ decide_change_bits policy.now (tree_in rom.now files.now contents.now) who (Valid bits) path.now }
+#[tactic(auto, using(rules::proofs::Choices::steps), unfolding(rules::specs::DecidePaths::decide_change_bits, rules::specs::Checks::after))]
+pub fn decide_change_bits(t: &Tables, who: Subject, bits: Option<Bits>, path: &[u8]) -> Decision
+    ensures { result ≡ decide_change_bits t.now.policy.now (tree_seen t.now) who bits path.now }
 {
-    match follow_path(files, contents, policy, rom, who, path) {
-        Walk::Reached(at) => change_bits_at(files, policy, who, bits, at.slot),
-        Walk::Stopped(r, k) => Decision::Refused(r, k),
-    }
-}
-
-pub fn decide_change_bits(
-    files: &[u32],
-    contents: &[u8],
-    policy: &[u8],
-    rom: &[u8],
-    who: Subject,
-    bits: BitsNumber,
-    path: &[u8],
-) -> Decision
-    ensures { result ≡ decide_change_bits policy.now (tree_in rom.now files.now contents.now) who bits path.now }
-{
-    match bits {
-        BitsNumber::Valid(b) => change_bits_to(files, contents, policy, rom, who, b, path),
-        BitsNumber::OutOfRange => Decision::Refused(Refusal::Malformed, 0),
-    }
+    let Some(bits) = bits else {
+        return Err(Refusal::Malformed.into());
+    };
+    let at = follow_path(t, who, path)?;
+    change_bits_at(t, who, bits, at.slot)
 }

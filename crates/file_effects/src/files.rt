@@ -11,7 +11,7 @@ use rules::rights::Bits;
 use tables::layout::{
     BLOCK, FILE_BITS, FILE_LENGTH, FILE_VERSION, FILE_WIDTH, OPEN_FILE_WIDTH, OPEN_OFFSET,
 };
-use tables::words::{copy_bytes, put, zero_bytes};
+use tables::words::{copy, fill, put};
 
 // The gap past the file's end is filled with 0, then the bytes are written.
 fn put_bytes(contents: &mut [u8], data: &[u8], w: Placement)
@@ -19,8 +19,8 @@ fn put_bytes(contents: &mut [u8], data: &[u8], w: Placement)
 {
     let s = w.slot;
     let block = BLOCK * (s.0 as usize);
-    zero_bytes(contents, block + (w.end as usize), w.gap as usize);
-    copy_bytes(contents, block + (w.at as usize), data);
+    fill(contents, block + (w.end as usize), w.gap as usize, 0);
+    copy(contents, block + (w.at as usize), data);
 }
 
 pub fn write_bytes(

@@ -9,7 +9,7 @@ use rows::rows::{clear_slot, put_directory, put_dirent, put_record};
 use rules::decision::{DirChange, Record, Unnamed};
 use rules::ids::Slot;
 use tables::layout::{BLOCK, DIRENT_WIDTH, FILE_LINKS, FILE_WIDTH};
-use tables::words::{copy_bytes, put, zero_bytes};
+use tables::words::{copy, fill, put};
 
 // A directory gains a name.
 fn add_name(files: &mut [u32], contents: &mut [u8], name: &[u8], s: Slot, d: DirChange)
@@ -27,10 +27,11 @@ fn remove_name(files: &mut [u32], contents: &mut [u8], d: DirChange)
 {
     let dir = d.dir;
     let i = d.dirent;
-    zero_bytes(
+    fill(
         contents,
         BLOCK * (dir.0 as usize) + DIRENT_WIDTH * (i.0 as usize),
         DIRENT_WIDTH,
+        0,
     );
     put_directory(files, d);
 }
@@ -55,7 +56,7 @@ fn put_text(files: &mut [u32], contents: &mut [u8], text: &[u8], s: Slot, link: 
     ensures { (E P : List ℕ) → store files.new contents.new E P ≡ apply_all (file_to s.0 (words link) ∷ bytes_to s.0 0 text.now ∷ []) (store files.old contents.old E P) }
 {
     put_record(files, s, link);
-    copy_bytes(contents, BLOCK * (s.0 as usize) + 0, text);
+    copy(contents, BLOCK * (s.0 as usize) + 0, text);
 }
 
 // A link and its text, under the last name of the path.

@@ -1,40 +1,36 @@
 // 1. Open.
-ghost use Rattle.std.specs.Prelude.{◌≡◌, [], ◌∷◌, ltb};
-ghost use Rattle.rules.specs.Choice.{every};
-ghost use Rattle.rules.specs.Layout.{OPEN_FILE_WIDTH, FILE_LENGTH};
-ghost use Rattle.rules.specs.Store.{tab, desc_of};
-ghost use Rattle.rules.specs.Rom.{files_in, tree_in};
-ghost use Rattle.rules.specs.Rights.{mode_of, mode_rights};
-ghost use Rattle.rules.specs.Checks.{free_fd, free_ofd};
-ghost use Rattle.rules.specs.DecidePaths.{truncated, new_open, opening, opened, open_room, open_file, open_mode, decide_open};
-ghost use Rattle.rules.specs.declared.decision.Effect.TheVariants as effect;
+ghost use Rattle.std.specs.Prelude.{◌≡◌};
+ghost use Rattle.rules.specs.Rom.{files_in};
+ghost use Rattle.rules.specs.Rights.{mode_rights};
+ghost use Rattle.rules.specs.DecidePaths.{truncated, opening, open_room, open_file, open_mode, decide_open};
+ghost use Rattle.tables.specs.Tables.{file_in, open_in, desc_in, tree_seen};
 
 use allocation::free::{free_fd, free_ofd};
 use resolution::walk::follow_path;
-use rights::rights::{Permission, permission_over};
+use rights::rights::permission_over;
 use rom::seen::is_plain;
-use rules::decision::{Decision, Effect, NewOpen, Output, Record, Walk};
+use rules::decision::{Decision, Effect, NewOpen, Record, granted};
 use rules::ids::{Fd, Ofd, Pid, Slot};
 use rules::refusal::Refusal;
 use rules::request::Subject;
-use rules::rights::{ModeNumber, OpenMode, Rights};
+use rules::rights::{OpenFlags, OpenMode, Rights};
 use tables::ids::{is_fd, is_ofd};
 use tables::layout::PLAIN;
+use tables::lent::Tables;
 use tables::numbers::up_one;
 
 // The rights that an open asks.
+#[tactic(auto, unfolding(rules::specs::Rights::mode_rights))]
 fn rights_of(m: OpenMode) -> Rights
     ensures { result ≡ mode_rights m }
 {
-    let reads = m.0 == OpenMode::READ.0;
-    if reads {
-        return Rights::READ;
+    if m.0 == OpenMode::READ.0 {
+        Rights::READ
+    } else if m.0 == OpenMode::BOTH.0 {
+        Rights::READ_WRITE
+    } else {
+        Rights::WRITE
     }
-    let both = m.0 == OpenMode::BOTH.0;
-    if both {
-        return Rights::READ_WRITE;
-    }
-    Rights::WRITE
 }
 
 // The record of a file that is truncated.
@@ -53,166 +49,68 @@ fn truncate(files: &[u32], s: Slot) -> Record
     }
 }
 
-fn new_open(s: Slot, m: OpenMode, i: Fd, e: Ofd) -> NewOpen
-    ensures { result ≡ new_open s m i e }
+// An empty file is not truncated.
+#[tactic(auto, unfolding(rules::specs::DecidePaths::opening, rules::specs::Choice::every))]
+fn open_effect(files: &[u32], s: Slot, flags: OpenFlags, i: Fd, e: Ofd) -> Effect
+    ensures { result ≡ opening (files_in files.now) s flags.mode flags.truncates i e }
 {
-    NewOpen {
+    let new = NewOpen {
         fd: i,
         ofd: e,
         slot: s,
-        mode: m,
+        mode: flags.mode,
+    };
+    if flags.truncates && 0 < rom::seen::length(files, s) {
+        Effect::Truncated(new, truncate(files, s))
+    } else {
+        Effect::Opened(new)
     }
 }
 
-fn has_bytes(files: &[u32], s: Slot) -> bool
-    ensures { result ≡ ltb 0 (files_in files.now s.0 FILE_LENGTH) }
-{
-    0 < rom::seen::length(files, s)
-}
-
-// An empty file is not truncated.
-fn is_truncated(files: &[u32], s: Slot, truncating: bool) -> bool
-    ensures { result ≡ every (truncating ∷ ltb 0 (files_in files.now s.0 FILE_LENGTH) ∷ []) }
-{
-    if !truncating {
-        return false;
-    }
-    has_bytes(files, s)
-}
-
-fn truncated_open(files: &[u32], s: Slot, m: OpenMode, i: Fd, e: Ofd) -> Effect
-    ensures { result ≡ effect.Truncated (new_open s m i e) (truncated (files_in files.now) s) }
-{
-    Effect::Truncated(new_open(s, m, i, e), truncate(files, s))
-}
-
-fn plain_open(s: Slot, m: OpenMode, i: Fd, e: Ofd) -> Effect
-    ensures { result ≡ effect.Opened (new_open s m i e) }
-{
-    Effect::Opened(new_open(s, m, i, e))
-}
-
-fn open_effect(files: &[u32], s: Slot, m: OpenMode, truncating: bool, i: Fd, e: Ofd) -> Effect
-    ensures { result ≡ opening (files_in files.now) s m truncating i e }
-{
-    if is_truncated(files, s, truncating) {
-        return truncated_open(files, s, m, i, e);
-    }
-    plain_open(s, m, i, e)
-}
-
-fn opened_at(files: &[u32], s: Slot, m: OpenMode, truncating: bool, i: Fd, e: Ofd) -> Decision
-    ensures { result ≡ opened (files_in files.now) s m truncating i e }
-{
-    Decision::Granted(
-        i.0 as u32,
-        Output::Nothing,
-        open_effect(files, s, m, truncating, i, e),
-    )
-}
-
-fn open_room(files: &[u32], s: Slot, m: OpenMode, truncating: bool, i: Fd, e: Ofd) -> Decision
-    ensures { result ≡ open_room (files_in files.now) s m truncating i e }
+#[tactic(auto, using(rules::proofs::Choices::steps), unfolding(rules::specs::DecidePaths::open_room))]
+fn open_room(files: &[u32], s: Slot, flags: OpenFlags, i: Fd, e: Ofd) -> Decision
+    ensures { result ≡ open_room (files_in files.now) s flags.mode flags.truncates i e }
 {
     if !is_fd(i) {
-        return Decision::Refused(Refusal::TableFull, 0);
+        return Err(Refusal::TableFull.into());
     }
     if !is_ofd(e) {
-        return Decision::Refused(Refusal::TableFull, 0);
+        return Err(Refusal::TableFull.into());
     }
-    opened_at(files, s, m, truncating, i, e)
+    granted(i.0 as u32, open_effect(files, s, flags, i, e))
 }
 
-fn open_free(
-    files: &[u32],
-    open_files: &[u32],
-    processes: &[u32],
-    p: Pid,
-    m: OpenMode,
-    truncating: bool,
-    s: Slot,
-) -> Decision
-    ensures { result ≡ open_room (files_in files.now) s m truncating (free_fd (desc_of processes.now) p) (free_ofd (tab OPEN_FILE_WIDTH open_files.now)) }
+#[tactic(auto, using(rights::proofs::Permissions::asked), unfolding(rules::specs::DecidePaths::open_file))]
+fn open_file(t: &Tables, p: Pid, who: Subject, flags: OpenFlags, s: Slot) -> Decision
+    ensures { result ≡ open_file t.now.policy.now (file_in t.now) (open_in t.now) (desc_in t.now) p who flags.mode flags.truncates s }
 {
+    if !is_plain(t.files, s) {
+        return Err(Refusal::WrongKind.into());
+    }
+    permission_over(t, who, s, rights_of(flags.mode))?;
     open_room(
-        files,
+        t.files,
         s,
-        m,
-        truncating,
-        free_fd(processes, p),
-        free_ofd(open_files),
+        flags,
+        free_fd(t.processes, p),
+        free_ofd(t.open_files),
     )
 }
 
-fn open_file(
-    files: &[u32],
-    open_files: &[u32],
-    processes: &[u32],
-    policy: &[u8],
-    p: Pid,
-    who: Subject,
-    m: OpenMode,
-    truncating: bool,
-    s: Slot,
-) -> Decision
-    ensures { result ≡ open_file policy.now (files_in files.now) (tab OPEN_FILE_WIDTH open_files.now) (desc_of processes.now) p who m truncating s }
+#[tactic(auto, using(rules::proofs::Choices::steps), unfolding(rules::specs::DecidePaths::open_mode))]
+fn open_mode(t: &Tables, p: Pid, who: Subject, flags: Option<OpenFlags>, s: Slot) -> Decision
+    ensures { result ≡ open_mode t.now.policy.now (file_in t.now) (open_in t.now) (desc_in t.now) p who flags s }
 {
-    if !is_plain(files, s) {
-        return Decision::Refused(Refusal::WrongKind, 0);
-    }
-    let want = rights_of(m);
-    match permission_over(files, policy, who, s, want) {
-        Permission::Allowed => open_free(files, open_files, processes, p, m, truncating, s),
-        Permission::Forbidden(r) => Decision::Refused(r, 0),
+    match flags {
+        Some(flags) => open_file(t, p, who, flags, s),
+        None => Err(Refusal::Malformed.into()),
     }
 }
 
-fn open_mode(
-    files: &[u32],
-    open_files: &[u32],
-    processes: &[u32],
-    policy: &[u8],
-    p: Pid,
-    who: Subject,
-    m: ModeNumber,
-    s: Slot,
-) -> Decision
-    ensures { result ≡ open_mode policy.now (files_in files.now) (tab OPEN_FILE_WIDTH open_files.now) (desc_of processes.now) p who m s }
+#[tactic(auto, using(rules::proofs::Choices::steps), unfolding(rules::specs::DecidePaths::decide_open, rules::specs::Checks::after))]
+pub fn decide_open(t: &Tables, p: Pid, who: Subject, n: u32, path: &[u8]) -> Decision
+    ensures { result ≡ decide_open t.now.policy.now (tree_seen t.now) (open_in t.now) (desc_in t.now) p who n path.now }
 {
-    match m {
-        ModeNumber::Keep(k) => open_file(files, open_files, processes, policy, p, who, k, false, s),
-        ModeNumber::Truncate(k) => open_file(
-            files, open_files, processes, policy, p, who, k, true, s,
-        ),
-        ModeNumber::OutOfRange => Decision::Refused(Refusal::Malformed, 0),
-    }
-}
-
-pub fn decide_open(
-    files: &[u32],
-    contents: &[u8],
-    open_files: &[u32],
-    processes: &[u32],
-    policy: &[u8],
-    rom: &[u8],
-    p: Pid,
-    who: Subject,
-    n: u32,
-    path: &[u8],
-) -> Decision
-    ensures { result ≡ decide_open policy.now (tree_in rom.now files.now contents.now) (tab OPEN_FILE_WIDTH open_files.now) (desc_of processes.now) p who n path.now }
-{
-    match follow_path(files, contents, policy, rom, who, path) {
-        Walk::Reached(at) => open_mode(
-            files,
-            open_files,
-            processes,
-            policy,
-            p,
-            who,
-            OpenMode::new(n),
-            at.slot,
-        ),
-        Walk::Stopped(r, k) => Decision::Refused(r, k),
-    }
+    let at = follow_path(t, who, path)?;
+    open_mode(t, p, who, OpenMode::new(n), at.slot)
 }

@@ -26,7 +26,7 @@ use Rattle.rules.specs.declared.decision.Unnamed.TheVariants as unnamed
 use Rattle.rules.specs.declared.decision.Output.{Output}
 use Rattle.rules.specs.declared.decision.Effect.{Effect}
 use Rattle.rules.specs.declared.decision.Effect.TheVariants as effect
-use Rattle.rules.specs.declared.decision.Decision.{Decision}
+use Rattle.rules.specs.Decisions.{Decision}
 use Rattle.rules.proofs.Passed.{Fit, granting, refusing, Permit}
 use Rattle.preservation.proofs.Tests.{split, upd, upd_same, upd_other, upd_row, means-every, means-and, means-last, means-not, means-eq}
 use Rattle.preservation.proofs.Tables.{Tables}

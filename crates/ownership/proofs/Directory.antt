@@ -22,7 +22,7 @@ use Rattle.rules.specs.declared.request.Operation.TheVariants as op
 use Rattle.rules.specs.declared.refusal.Refusal.TheVariants.{Unsound}
 use Rattle.rules.specs.declared.decision.Output.{Output}
 use Rattle.rules.specs.declared.decision.Effect.{Effect}
-use Rattle.rules.specs.declared.decision.Decision.{Decision}
+use Rattle.rules.specs.Decisions.{Decision}
 use Rattle.rules.proofs.Lists.{length-padded}
 use Rattle.rules.proofs.Passed.{Fit, granting, refusing, Makes, Passed, Permit, permitted}
 use Rattle.rules.proofs.Passed as passed

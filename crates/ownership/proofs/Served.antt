@@ -5,7 +5,7 @@ use Prim.Native.Nat.{ℕ}
 use Rattle.rules.specs.Store.{Store, Fixed, view}
 use Rattle.rules.specs.Rom.{seen}
 use Rattle.rules.specs.Step.{Outcome, outcome_of, into, handed, act, act_borrow, Action, Calls, Borrows, serve}
-use Rattle.rules.specs.declared.decision.Decision.{Decision}
+use Rattle.rules.specs.Decisions.{Decision}
 use Rattle.rules.proofs.Passed.{Fit, fit-map, Permit, permitted, borrow-permitted}
 use Rattle.preservation.proofs.SoundStore.{AllSound, means-sound}
 use Rattle.preservation.proofs.TestedOnce.{untaken, step_by, borrow-by}

@@ -21,7 +21,7 @@ use Rattle.rules.specs.declared.decision.NewOpen.{NewOpen}
 use Rattle.rules.specs.declared.decision.Placement.{Placement}
 use Rattle.rules.specs.declared.decision.Output.{Output}
 use Rattle.rules.specs.declared.decision.Effect.{Effect}
-use Rattle.rules.specs.declared.decision.Decision.{Decision}
+use Rattle.rules.specs.Decisions.{Decision}
 use Rattle.rules.proofs.Passed.{Fit, granting, refusing}
 use Rattle.preservation.specs.Claims.{word, caller_user}
 use Rattle.preservation.proofs.Tests.{split, means-or, means-eq}

@@ -24,7 +24,7 @@ use Rattle.rules.specs.declared.decision.Output.{Output}
 use Rattle.rules.specs.declared.decision.Output.TheVariants as output
 use Rattle.rules.specs.declared.decision.Effect.{Effect}
 use Rattle.rules.specs.declared.decision.Effect.TheVariants as effect
-use Rattle.rules.specs.declared.decision.Decision.{Decision}
+use Rattle.rules.specs.Decisions.{Decision}
 use Rattle.rules.proofs.Passed.{Fit, granting, refusing, need-fit}
 use Rattle.preservation.specs.Claims.{SameFile, put_into}
 use Rattle.preservation.proofs.OneWord.{Held}

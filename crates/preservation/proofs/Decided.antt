@@ -1,5 +1,5 @@
 -- What every granted call has passed gives, on a sound store, the facts that its effect needs.
-use mathlib.Core.Path.{◌≡◌, refl, sym, ap}
+use mathlib.Core.Path.{◌≡◌, refl, sym, subst, ap}
 use mathlib.Core.Bool.{Bool, true, false≢true}
 use mathlib.Core.List.{List, [], ◌∷◌}
 use Prim.Native.Nat.{ℕ, ◌+◌, ◌≤◌, ◌<◌}
@@ -8,6 +8,7 @@ use native.Mathlib.Decide.{dec_lt}
 use lib.Dec.{eqb}
 use lib.ListN.{length}
 use borrow.Author.Tests.{eqb-true, eqb-false, eq-eqb, ltb-true, leb-true}
+use Rattle.std.specs.Prelude.{Option}
 use Rattle.rules.specs.Layout.{SLOTS, BLOCK, DIRENTS, OPEN_FILES, PROCESSES, DESCRIPTORS, KIND_MAX, USER_MAX, BITS_MAX, LABEL_MAX, PROCESS_GROUP, GROUP_MAX}
 use Rattle.rules.specs.Layout.{FILE_KIND, FILE_LABEL, FILE_LENGTH, FILE_LINKS, FILE_VERSION, OPEN_SLOT, OPEN_MODE, OPEN_OFFSET, PROCESS_USER, PROCESS_LABEL, FREE, PLAIN, DIRECTORY, LINK, NAMES}
 use Rattle.rules.specs.Choice.{some}
@@ -26,7 +27,7 @@ use Rattle.rules.specs.declared.ids.Pid.{Pid}
 use Rattle.rules.specs.declared.ids.Fd.{Fd}
 use Rattle.rules.specs.declared.rights.Bits.{Bits}
 use Rattle.rules.specs.declared.rights.OpenMode.{OpenMode}
-use Rattle.rules.specs.declared.rights.ModeNumber.{ModeNumber}
+use Rattle.rules.specs.declared.rights.OpenFlags.{OpenFlags}
 use Rattle.rules.specs.declared.request.Subject.{Subject}
 use Rattle.rules.specs.declared.request.Operation.{Operation}
 use Rattle.rules.specs.declared.decision.Location.{Location}
@@ -107,10 +108,9 @@ module _ (K : Fixed) (s : Store) (a : AllSound K s) (c : Call) (u : Caller (tabl
 
   -- ---- open
 
-  mode-good : {m : OpenMode} {n : ModeNumber} {t : Bool} → ModeSays c.number n → Mode K v c m n t → GoodMode c.number m t
+  mode-good : {m : OpenMode} {n : Option OpenFlags} {t : Bool} → ModeSays c.number n → Mode K v c m n t → GoodMode c.number m t
   unfolding ModeSays
-  mode-good g passed.keeps = g
-  mode-good g passed.truncates = g
+  mode-good g e = subst (ModeSays c.number) e g
 
   reading : (at : Location) (m : OpenMode) → Opening K v c at m → (at.slot.0 < SLOTS → ⊥) → m.0 ≡ MODE_READ.0
   reading at m o = opens-reading v.tree.file who at.slot m o.allows.bits

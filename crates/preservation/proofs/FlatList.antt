@@ -122,5 +122,5 @@ pub get_or-zeros : (n k : ℕ) → get_or (zeros n) k 0 ≡ 0
 get_or-zeros n k = go (dec_lt k n)
   where
     go : Dec (k < n) → get_or (zeros n) k 0 ≡ 0
-    go (yes h) = unfold zeros in get_or-replicate n k 0 0 h
+    go (yes h) = get_or-replicate n k 0 0 h
     go (no h) = get_or-eq_default (zeros n) 0 (omega (arith, length-zeros n))

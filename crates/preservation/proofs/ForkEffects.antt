@@ -8,6 +8,7 @@ use native.Mathlib.Omega.{arith}
 use native.Mathlib.Decide.{dec_lt, ℕ_discrete}
 use lib.Dec.{eqb}
 use borrow.Author.Tests.{eq-eqb, ne_eqb}
+use Rattle.std.specs.Prelude.{None}
 use Rattle.rules.specs.Layout.{SLOTS, PROCESSES, DESCRIPTORS, OPEN_REFERENCES, PROCESS_USED}
 use Rattle.rules.specs.Scan.{repeat}
 use Rattle.rules.specs.Store.{Store, view, ofd_of, up, apply_all, change, desc_to, fd_of}
@@ -17,7 +18,7 @@ use Rattle.rules.specs.Effects.{share_changes, shared_all, fork_changes}
 use Rattle.rules.specs.Effects as effects
 use Rattle.rules.specs.declared.ids.Pid.{Pid}
 use Rattle.rules.specs.declared.request.Subject.{Subject}
-use Rattle.rules.specs.declared.decision.Share.TheVariants as share
+use Rattle.rules.specs.Decisions as decisions
 use Rattle.rules.proofs.Scans.{repeat-step, repeat-done}
 use Rattle.preservation.proofs.Tests.{split, upd, upd_other, upd_row}
 use Rattle.preservation.proofs.Tables.{Tables, proc_row_to}
@@ -55,7 +56,7 @@ module _ (p q : Pid) (who : Subject) (hp : p.0 < PROCESSES) (hq : q.0 < PROCESSE
     its = record { sized = c.sized; is = refl }
 
     -- the parent's descriptor i is empty
-    share-none : (tables_of t).desc p.0 i ≡ 0 → Sharing s (i + 1) (apply_all (share_changes q (fd_of i) share.Nothing) t)
+    share-none : (tables_of t).desc p.0 i ≡ 0 → Sharing s (i + 1) (apply_all (share_changes q (fd_of i) None) t)
     unfolding share_changes apply_all
     share-none z =
         let w = has-desc_to its q.0 i 0 hq hi in
@@ -83,7 +84,7 @@ module _ (p q : Pid) (who : Subject) (hp : p.0 < PROCESSES) (hq : q.0 < PROCESSE
       pub shared-up : up ((tables_of t).open_files e OPEN_REFERENCES) ≡ (tables_of t).open_files e OPEN_REFERENCES + 1
       shared-up = up_is ((tables_of t).open_files e OPEN_REFERENCES) (omega (arith, references-most SLOTS (spawned (tables_of t)) c.sound e shared-held.small))
 
-      share-one : Sharing s (i + 1) (apply_all (share_changes q (fd_of i) (share.Held (ofd_of e) (up ((tables_of t).open_files e OPEN_REFERENCES)))) t)
+      share-one : Sharing s (i + 1) (apply_all (share_changes q (fd_of i) (decisions.Held (ofd_of e) (up ((tables_of t).open_files e OPEN_REFERENCES)))) t)
       unfolding share_changes apply_all
       share-one = record {
         sized = w.sized;
@@ -109,7 +110,7 @@ module _ (p q : Pid) (who : Subject) (hp : p.0 < PROCESSES) (hq : q.0 < PROCESSE
     unfolding effects.shared share_of held
     sharing-one = by (ℕ_discrete ((view t).desc p.0 i) 0)
       where
-        by : Dec ((view t).desc p.0 i ≡ 0) → Sharing s (i + 1) (apply_all (share_changes q (fd_of i) (cond (not (eqb ((view t).desc p.0 i) 0)) (sharing (view t).open_files (ofd_held (view t).desc p (fd_of i))) share.Nothing)) t)
+        by : Dec ((view t).desc p.0 i ≡ 0) → Sharing s (i + 1) (apply_all (share_changes q (fd_of i) (cond (not (eqb ((view t).desc p.0 i) 0)) (sharing (view t).open_files (ofd_held (view t).desc p (fd_of i))) None)) t)
         by (yes e) = rw (eq-eqb ((view t).desc p.0 i) 0 e) (share-none (unfold tables_of in e))
         by (no n) = rw (ne_eqb ((view t).desc p.0 i) 0 n) (unfold tables_of in (share-one ((view t).desc p.0 i - 1) (omega (arith, n))))
 

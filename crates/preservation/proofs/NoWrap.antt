@@ -6,6 +6,7 @@ use native.Mathlib.Omega.{arith}
 use native.Mathlib.Decide.{ℕ_discrete}
 use lib.Dec.{eqb}
 use borrow.Author.Tests.{eq-eqb, ne_eqb}
+use Rattle.std.specs.Prelude.{None}
 use Rattle.rules.specs.Layout.{SLOTS, BLOCK, DIRENTS, OPEN_FILES, PROCESSES, DESCRIPTORS, FILE_LENGTH, FILE_LINKS, OPEN_OFFSET, OPEN_REFERENCES}
 use Rattle.rules.specs.Scan.{repeat}
 use Rattle.rules.specs.Store.{Store, Fixed, view, subject_of, up, plus, fd_of}
@@ -18,10 +19,9 @@ use Rattle.rules.specs.Effects as effects
 use Rattle.rules.specs.declared.request.Subject.{Subject}
 use Rattle.rules.specs.declared.ids.Slot.{Slot}
 use Rattle.rules.specs.declared.ids.Pid.{Pid}
-use Rattle.rules.specs.declared.decision.Share.TheVariants as share
+use Rattle.rules.specs.Decisions.{Granted}
 use Rattle.rules.specs.declared.decision.Output.{Output}
 use Rattle.rules.specs.declared.decision.Effect.{Effect}
-use Rattle.rules.specs.declared.decision.Decision.TheVariants.{Granted}
 use Rattle.rules.proofs.Passed.{Of, fit_of}
 use Rattle.preservation.specs.Claims.{word, PlainShare, PlainRead, PlainSums}
 use Rattle.preservation.proofs.Words.{up_is, plus-is, length_most, link-most, references-most, offsets-most}
@@ -60,7 +60,7 @@ module _ (s : Store) (h : SoundStore s) where
   unfolding share_of held
   share-sums p q who hp hq i hi t c = by (ℕ_discrete ((view t).desc p.0 i) 0)
     where
-      by : Dec ((view t).desc p.0 i ≡ 0) → PlainShare (view t) (cond (not (eqb ((view t).desc p.0 i) 0)) (sharing (view t).open_files (ofd_held (view t).desc p (fd_of i))) share.Nothing)
+      by : Dec ((view t).desc p.0 i ≡ 0) → PlainShare (view t) (cond (not (eqb ((view t).desc p.0 i) 0)) (sharing (view t).open_files (ofd_held (view t).desc p (fd_of i))) None)
       by (yes e) = rw (eq-eqb ((view t).desc p.0 i) 0 e) (unfold PlainShare in tt)
       by (no n) = rw (ne_eqb ((view t).desc p.0 i) 0 n) (unfold PlainShare tables_of in
           (up_is ((view t).desc p.0 i - 1) (omega (arith, (shared-held p q who hp hq s i t hi c ((view t).desc p.0 i - 1) (omega (arith, n))).small)), shared-up p q who hp hq s i t hi c ((view t).desc p.0 i - 1) (omega (arith, n))))

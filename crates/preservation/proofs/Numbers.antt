@@ -6,16 +6,15 @@ use Prim.Native.Nat.{ℕ, ◌+◌, ◌-◌, ◌≤◌, ◌<◌}
 use native.Mathlib.Omega.{arith}
 use lib.Dec.{eqb, leb}
 use borrow.Author.Tests.{eqb-true, leb-true}
+use Rattle.std.specs.Prelude.{Some, None, Option}
 use Rattle.rules.specs.Layout.{BITS_MAX, MODE_MAX}
 use Rattle.rules.specs.Choice.{every}
 use Rattle.rules.specs.Rights.{bits_of, mode_of, TRUNCATE}
 use Rattle.rules.specs.Calls.{operation_of}
 use Rattle.rules.specs.declared.rights.Bits.{Bits}
-use Rattle.rules.specs.declared.rights.BitsNumber.{BitsNumber}
-use Rattle.rules.specs.declared.rights.BitsNumber.TheVariants as bits_number
 use Rattle.rules.specs.declared.rights.OpenMode.{OpenMode}
-use Rattle.rules.specs.declared.rights.ModeNumber.{ModeNumber}
-use Rattle.rules.specs.declared.rights.ModeNumber.TheVariants.{Keep, Truncate, OutOfRange}
+use Rattle.rules.specs.declared.rights.OpenFlags.{OpenFlags}
+use Rattle.rules.specs.Decisions.{Keep, Truncate}
 use Rattle.rules.specs.declared.request.Operation.{Operation}
 use Rattle.rules.specs.declared.request.Operation.TheVariants as op
 use Rattle.preservation.proofs.Tests.{means-every, means-and, means-last, means-le}
@@ -70,35 +69,34 @@ pub record GoodMode (n : ℕ) (m : OpenMode) (truncating : Bool) : Type 0 where
   pub over : truncating ≡ true → TRUNCATE < n
   pub writing : truncating ≡ true → 1 < m.0
 
-unfoldable pub ModeSays : ℕ → ModeNumber → Type 0
-ModeSays n (Keep m) = GoodMode n m false
-ModeSays n (Truncate m) = GoodMode n m true
-ModeSays n OutOfRange = Unit {0}
+unfoldable pub ModeSays : ℕ → Option OpenFlags → Type 0
+ModeSays n (Some flags) = GoodMode n flags.mode flags.truncates
+ModeSays n None = Unit {0}
 
 pub mode-says : (n : ℕ) → ModeSays n (mode_of n)
 unfolding mode_of ModeSays
 mode-says n = by (every (leb 1 n ∷ leb n MODE_MAX ∷ [])) refl (every (leb (TRUNCATE + 2) n ∷ leb n (TRUNCATE + MODE_MAX) ∷ [])) refl
   where
     by : (a : Bool) → every (leb 1 n ∷ leb n MODE_MAX ∷ []) ≡ a → (b : Bool) → every (leb (TRUNCATE + 2) n ∷ leb n (TRUNCATE + MODE_MAX) ∷ []) ≡ b →
-        ModeSays n (cond a (Keep (record { 0 = n })) (cond b (Truncate (record { 0 = n - TRUNCATE })) OutOfRange))
+        ModeSays n (cond a (Keep (record { 0 = n })) (cond b (Truncate (record { 0 = n - TRUNCATE })) None))
     by true e b f = let w = (means-every (means-and (means-le 1 n) (means-last (means-le n MODE_MAX)))).holds e in record { least = w.0; most = w.1; over = λ z. absurd (false≢true z); writing = λ z. absurd (false≢true z) }
     by false e true f =
         let w = (means-every (means-and (means-le (TRUNCATE + 2) n) (means-last (means-le n (TRUNCATE + MODE_MAX))))).holds f in
         record { least = omega (arith, w.0); most = omega (arith, w.1); over = λ _. omega (arith, w.0); writing = λ _. omega (arith, w.0) }
     by false e false f = tt
 
-unfoldable BitsSay : BitsNumber → Type 0
-BitsSay (bits_number.Valid b) = b.0 ≤ BITS_MAX
-BitsSay bits_number.OutOfRange = Unit {0}
+unfoldable BitsSay : Option Bits → Type 0
+BitsSay (Some b) = b.0 ≤ BITS_MAX
+BitsSay None = Unit {0}
 
 bits-say : (n : ℕ) → BitsSay (bits_of n)
 unfolding bits_of BitsSay
 bits-say n = by (leb n BITS_MAX) refl
   where
-    by : (b : Bool) → leb n BITS_MAX ≡ b → BitsSay (cond b (bits_number.Valid (record { 0 = n })) bits_number.OutOfRange)
+    by : (b : Bool) → leb n BITS_MAX ≡ b → BitsSay (cond b (Some (record { 0 = n })) None)
     by true e = leb-true n BITS_MAX e
     by false e = tt
 
-pub bits_most : (n : ℕ) (b : Bits) → bits_of n ≡ bits_number.Valid b → b.0 ≤ BITS_MAX
+pub bits_most : (n : ℕ) (b : Bits) → bits_of n ≡ Some b → b.0 ≤ BITS_MAX
 unfolding BitsSay
 bits_most n b e = subst BitsSay e (bits-say n)

@@ -23,7 +23,7 @@ use Rattle.rules.specs.declared.decision.Unnamed.{Unnamed}
 use Rattle.rules.specs.declared.decision.Output.{Output}
 use Rattle.rules.specs.declared.decision.Effect.{Effect}
 use Rattle.rules.specs.declared.decision.Effect.TheVariants as effect
-use Rattle.rules.specs.declared.decision.Decision.{Decision}
+use Rattle.rules.specs.Decisions.{Decision}
 use Rattle.rules.proofs.Passed.{Fit, granting, refusing, fit-map, Makes, Passed, Permit, permitted}
 use Rattle.rules.proofs.Passed as passed
 use Rattle.preservation.specs.Claims.{word, IsOpen, OpenAfterEach, GivesOut, PlainAfterEach}

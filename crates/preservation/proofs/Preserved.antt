@@ -16,7 +16,7 @@ use Rattle.rules.specs.declared.ids.Pid.{Pid}
 use Rattle.rules.specs.declared.ids.Fd.{Fd}
 use Rattle.rules.specs.declared.decision.Output.{Output}
 use Rattle.rules.specs.declared.decision.Effect.{Effect}
-use Rattle.rules.specs.declared.decision.Decision.{Decision}
+use Rattle.rules.specs.Decisions.{Decision}
 use Rattle.rules.proofs.Passed.{Fit, granting, refusing, fit-map}
 use Rattle.rules.proofs.Runs.{final-keeps}
 use Rattle.preservation.proofs.OneWord.{Held}

@@ -2,6 +2,7 @@
 use mathlib.Core.Path.{◌≡◌, refl}
 use mathlib.Core.List.{List, []}
 use Prim.Native.Nat.{ℕ}
+use Rattle.std.specs.Prelude.{Ok, Err}
 use Rattle.rules.specs.Store.{Store, Fixed, view}
 use Rattle.rules.specs.Refusals.{GRANTED}
 use Rattle.rules.specs.Rom.{seen}
@@ -10,8 +11,7 @@ use Rattle.rules.specs.Decide.{decide, decide_borrow}
 use Rattle.rules.specs.Step.{Outcome, reply_to, store_after, outcome_of, into, act, step, handed, read_of, act_borrow, step_borrow}
 use Rattle.rules.specs.declared.ids.Pid.{Pid}
 use Rattle.rules.specs.declared.ids.Fd.{Fd}
-use Rattle.rules.specs.declared.decision.Decision.{Decision}
-use Rattle.rules.specs.declared.decision.Decision.TheVariants.{Refused, Granted}
+use Rattle.rules.specs.Decisions.{Decision}
 use Rattle.preservation.specs.Claims.{IsGranted, IsLent}
 use Rattle.preservation.proofs.TestedOnce.{step_by, borrow-by}
 
@@ -21,8 +21,8 @@ Leaves s buffer x = (x.reply.refusal ≡ GRANTED → ⊥) → (x.store ≡ s) ×
 
 decided : (R : List ℕ) (s : Store) (c : Call) (put : List ℕ → List ℕ) (d : Decision) → Leaves s (put []) (outcome_of R s c put d)
 unfolding outcome_of reply_to store_after
-decided R s c put (Refused r k) f = (refl, refl)
-decided R s c put (Granted n o e) f = absurd (f refl)
+decided R s c put (Err stop) f = (refl, refl)
+decided R s c put (Ok grant) f = absurd (f refl)
 
 module _ (K : Fixed) (s : Store) where
   pub refused-call : (c : Call) → (IsGranted K s c → ⊥) → ((step K s c).store ≡ s) × ((step K s c).reply.buffer ≡ c.buffer)

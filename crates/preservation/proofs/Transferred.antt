@@ -15,7 +15,7 @@ use Rattle.rules.specs.declared.ids.Slot.{Slot}
 use Rattle.rules.specs.declared.decision.DirChange.{DirChange}
 use Rattle.rules.specs.declared.decision.Output.{Output}
 use Rattle.rules.specs.declared.decision.Effect.TheVariants as effect
-use Rattle.rules.specs.declared.decision.Decision.TheVariants.{Granted}
+use Rattle.rules.specs.Decisions.{Granted}
 use Rattle.rules.proofs.Passed.{Of, fit_of}
 use Rattle.preservation.specs.Claims.{word}
 use Rattle.preservation.proofs.StoreChanges.{tables_of}

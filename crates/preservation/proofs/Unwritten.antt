@@ -25,8 +25,7 @@ use Rattle.rules.specs.declared.decision.NewOpen.{NewOpen}
 use Rattle.rules.specs.declared.decision.Placement.{Placement}
 use Rattle.rules.specs.declared.decision.Output.{Output}
 use Rattle.rules.specs.declared.decision.Effect.{Effect}
-use Rattle.rules.specs.declared.decision.Decision.{Decision}
-use Rattle.rules.specs.declared.decision.Decision.TheVariants.{Granted}
+use Rattle.rules.specs.Decisions.{Decision, Granted}
 use Rattle.rules.proofs.Passed.{Fit, granting, refusing}
 use Rattle.preservation.specs.Claims.{word, IsOpen, OpenAfterEach, WritesTo, Truncates, Rewrites, Unwritten, SameFile}
 use Rattle.preservation.proofs.Tests.{split}

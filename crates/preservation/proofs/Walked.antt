@@ -19,8 +19,7 @@ use Rattle.rules.specs.declared.ids.Slot.{Slot}
 use Rattle.rules.specs.declared.request.Subject.{Subject}
 use Rattle.rules.specs.declared.decision.Location.{Location}
 use Rattle.rules.specs.declared.decision.Intent.TheVariants.{Find, Follow, Create}
-use Rattle.rules.specs.declared.decision.Walk.{Walk}
-use Rattle.rules.specs.declared.decision.Walk.TheVariants.{Reached}
+use Rattle.rules.specs.Decisions.{Walk, Reached}
 use Rattle.rules.proofs.Scans.{first_passes}
 use Rattle.rules.proofs.Seen.{seen_stored}
 use Rattle.rules.proofs.Walks.{WalkFit, reached, need_at-fit, fit_at, Each, Kept, follow-fit, walk-fit}

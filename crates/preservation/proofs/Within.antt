@@ -6,9 +6,10 @@ use native.Mathlib.Omega.{arith}
 use native.Mathlib.Decide.{dec_lt, ℕ_discrete}
 use lib.ListN.{length, get_or, set, replicate, length-set, get_or-eq_default}
 use lib.Seq.{sets, get_or-set_same, get_or-set_other}
+use Rattle.std.specs.Prelude.{Some, None}
 use Rattle.rules.specs.Scan.{iterate, repeat}
 use Rattle.rules.specs.Layout.{OPEN_FILES, DESCRIPTORS, OPEN_FILE_WIDTH, OPEN_SLOT}
-use Rattle.rules.specs.Store.{Store, Fixed, fd_of, Change, file_word, file_to, clear_to, bytes_to, open_word, open_to, open_zero, desc_to, proc_word, proc_to, proc_zero, tab, puts, zeros, change, apply_all}
+use Rattle.rules.specs.Store.{Store, Fixed, fd_of, Change, file_word, file_to, clear_to, bytes_to, open_word, open_to, open_zero, desc_to, proc_word, proc_to, proc_zero, tab, puts, change, apply_all}
 use Rattle.rules.specs.Calls.{Call}
 use Rattle.rules.specs.Effects.{name_changes, unname_changes, create_changes, symlink_changes, link_changes, unnamed_changes, unlink_changes, remove_changes, transfer_changes, open_changes, truncate_changes, release_changes, close_changes, store_changes, duplicate_changes}
 use Rattle.rules.specs.Effects.{share_changes, shared, shared_all, released, released_all, fork_changes, carry_out}
@@ -19,8 +20,7 @@ use Rattle.rules.specs.declared.decision.Unnamed.{Unnamed}
 use Rattle.rules.specs.declared.decision.Unnamed.TheVariants as unnamed
 use Rattle.rules.specs.declared.decision.Release.{Release}
 use Rattle.rules.specs.declared.decision.Release.TheVariants as release
-use Rattle.rules.specs.declared.decision.Share.{Share}
-use Rattle.rules.specs.declared.decision.Share.TheVariants as share
+use Rattle.rules.specs.Decisions.{Share}
 use Rattle.rules.specs.declared.decision.Output.{Output}
 use Rattle.rules.specs.declared.decision.Effect.{Effect}
 use Rattle.preservation.proofs.SoundStore.{SoundStore, Within, past}
@@ -82,7 +82,7 @@ module _ (n : ℕ) where
   Keeps (proc_zero p) = Unit {0}
 
   change-keeps : (c : Change) (t : Store) → Keeps c → Below n t.open_files → Below n (change c t).open_files
-  unfolding Keeps zeros
+  unfolding Keeps
   change-keeps (file_word s k x) t h b = b
   change-keeps (file_to s ws) t h b = b
   change-keeps (clear_to s ws) t h b = b
@@ -132,8 +132,8 @@ module _ (n : ℕ) where
 
   share-keep : (q : Pid) (i : Fd) (x : Share) → KeepsAll (share_changes q i x)
   unfolding share_changes KeepsAll Keeps
-  share-keep q i share.Nothing = (tt, tt)
-  share-keep q i (share.Held e refs) = (tt, ((omega arith, omega arith), tt))
+  share-keep q i None = (tt, tt)
+  share-keep q i (Some s) = (tt, ((omega arith, omega arith), tt))
 
   open-keep : (p : Pid) (w : NewOpen) → w.slot.0 < n → KeepsAll (open_changes p w)
   unfolding open_changes KeepsAll Keeps

@@ -2,7 +2,7 @@
 -- which proofs/Proved.antt proves.
 -- `step K s c` is the call: its reply, and the store after it. `step_borrow K s p i n` is a borrowing read (paper 02, R-6), and `serve K s a` is either.
 -- `A → ⊥` says that A does not hold.
-use Rattle.std.specs.Prelude.{ℕ, ◌+◌, ◌*◌, ◌≤◌, ◌<◌, max, ◌≡◌, true, ◌⊎◌, List, [], ◌∷◌, length}
+use Rattle.std.specs.Prelude.{ℕ, ◌+◌, ◌*◌, ◌≤◌, ◌<◌, max, ◌≡◌, true, ◌⊎◌, List, [], ◌∷◌, length, Some, None, Ok, Err}
 use Rattle.rules.specs.Layout.{SLOTS, FILE_WIDTH, BLOCK, OPEN_FILES, OPEN_FILE_WIDTH, PROCESSES, PROCESS_WIDTH, RIGHTS_SIZE, DESCRIPTORS, FILE_KIND, FILE_OWNER, FILE_BITS, FILE_LABEL, FILE_LENGTH, FILE_LINKS, FILE_VERSION, OPEN_SLOT, OPEN_OFFSET, OPEN_REFERENCES, PROCESS_USER, FREE, PLAIN, LINK, FILE_GROUP}
 use Rattle.rules.specs.Scan.{repeat}
 use Rattle.rules.specs.Store.{Store, Fixed, View, view, block, up, plus, slot, fd_of, is_open}
@@ -20,16 +20,12 @@ use Rattle.rules.specs.Step.{Reply, Outcome, Session, into, act, step, act_borro
 use Rattle.rules.specs.declared.ids.Slot.{Slot}
 use Rattle.rules.specs.declared.ids.Pid.{Pid}
 use Rattle.rules.specs.declared.ids.Fd.{Fd}
-use Rattle.rules.specs.declared.decision.Walk.{Walk}
-use Rattle.rules.specs.declared.decision.Walk.TheVariants.{Reached, Stopped}
+use Rattle.rules.specs.Decisions.{Walk, Share, Granted}
 use Rattle.rules.specs.declared.decision.DirChange.{DirChange}
-use Rattle.rules.specs.declared.decision.Share.{Share}
-use Rattle.rules.specs.declared.decision.Share.TheVariants as share
 use Rattle.rules.specs.declared.decision.Output.{Output}
 use Rattle.rules.specs.declared.decision.Output.TheVariants as output
 use Rattle.rules.specs.declared.decision.Effect.{Effect}
 use Rattle.rules.specs.declared.decision.Effect.TheVariants as effect
-use Rattle.rules.specs.declared.decision.Decision.TheVariants.{Granted}
 
 -- ---- the words of the claims
 
@@ -102,8 +98,8 @@ WritesTo K s c f = IsGranted K s c × ((c.call ≡ 12) × ((0 < length c.«data�
 
 -- walk w ends at slot f
 unfoldable pub EndsAt : Walk → ℕ → Type 0
-EndsAt (Reached at) f = at.slot.0 ≡ f
-EndsAt (Stopped r k) f = ⊥
+EndsAt (Ok at) f = at.slot.0 ≡ f
+EndsAt (Err stop) f = ⊥
 
 -- call c truncates slot f: a granted open (call 1) with a mode number over 8, along a path that leads its caller to f, links followed. The walk sees /rom too
 abbrev pub Truncates : Fixed → Store → Call → ℕ → Type 0
@@ -141,8 +137,8 @@ pub record GoodLink (s : Store) (f : ℕ) : Type 0 where
 
 -- a share of open file e: the descriptor's word is e + 1, and there is one reference more
 unfoldable pub PlainShare : View → Share → Type 0
-PlainShare v share.Nothing = Unit {0}
-PlainShare v (share.Held e references) = (desc_word e ≡ e.0 + 1) × (references ≡ v.open_files e.0 OPEN_REFERENCES + 1)
+PlainShare v None = Unit {0}
+PlainShare v (Some s) = (desc_word s.ofd ≡ s.ofd.0 + 1) × (s.references ≡ v.open_files s.ofd.0 OPEN_REFERENCES + 1)
 
 -- a read's new offset is where it began and what it read
 unfoldable pub PlainRead : Output → (offset : ℕ) → Type 0

@@ -9,10 +9,8 @@ use Rattle.rules.specs.declared.ids.Pid.{Pid}
 use Rattle.rules.specs.declared.ids.Fd.{Fd}
 use Rattle.borrow.specs.Lent.{LentBack, lent_back, of_outcome}
 use Rattle.recorded.specs.declared.records.Sizes.{Sizes}
-use Rattle.recorded.specs.declared.records.Tables.{Tables}
-use Rattle.recorded.specs.Records.{tables, rom_of}
-use Rattle.recorded.specs.Called.{put_back, store_of}
-use Rattle.recorded.specs.Borrowed.{borrowed_on, lent_back_of, borrowed_tables}
+use Rattle.recorded.specs.Called.{put_back}
+use Rattle.recorded.specs.Borrowed.{borrowed_on}
 use Rattle.recorded.proofs.CallLaws.{take-least, drop-least}
 
 module _ (n : Sizes) (F C E P Q R : List ℕ) (p : Pid) (i : Fd) (count : ℕ) {f e q : ℕ} (hf : f ≡ min n.files (length F)) (he : e ≡ min n.open_files (length E)) (hq : q ≡ min n.processes (length P))
@@ -28,11 +26,3 @@ module _ (n : Sizes) (F C E P Q R : List ℕ) (p : Pid) (i : Fd) (count : ℕ) {
   -- what is only read comes back as it was
   pub borrowed : lent_back r b (store F C (E' ++ drop e E) P) ≡ borrowed_on n Q R (store F C E P) p i count
   borrowed = rw (drop-least n.open_files E he) (rw (take-append-drop n.files F, take-append-drop n.contents C, take-append-drop n.processes P) at whole)
-
-pub tables_after : (t : Tables) (p : Pid) (i : Fd) (count : ℕ) {R : List ℕ} → R ≡ rom_of t → {r : ℕ} {b E : List ℕ}
-    → lent_back r b (store t.files t.contents E t.processes) ≡ borrowed_on t.sizes t.policy R (store_of t) p i count
-    → tables t.broken t.ended t.sizes t.files t.contents E t.processes t.policy t.rom t.rom_size ≡ borrowed_tables t p i count
-unfolding borrowed_tables
-tables_after t p i count {R} q {r} {b} {E} h =
-    let k : lent_back r b (store t.files t.contents E t.processes) ≡ lent_back_of t p i count = rw q at h in
-    ap (λ (l : LentBack). tables t.broken t.ended t.sizes l.store.files l.store.contents l.store.open_files l.store.processes t.policy t.rom t.rom_size) k

@@ -14,9 +14,7 @@ use Rattle.rules.specs.declared.answer.Answer.{Answer}
 use Rattle.rules.proofs.Lists.{take_all}
 use Rattle.store.specs.Lent.{Lent, lent, lent_of}
 use Rattle.recorded.specs.declared.records.Sizes.{Sizes}
-use Rattle.recorded.specs.declared.records.Tables.{Tables}
-use Rattle.recorded.specs.Records.{tables, rom_of}
-use Rattle.recorded.specs.Called.{put_back, called_on, store_of, left_of, called_tables}
+use Rattle.recorded.specs.Called.{put_back, called_on}
 
 -- a part of a table is no longer than the table
 module _ (m : ℕ) (X : List ℕ) {n : ℕ} (e : n ≡ min m (length X)) where
@@ -47,15 +45,3 @@ module _ (n : Sizes) (F C E P Q R : List ℕ) (c : Call) {f k e p : ℕ} (hf : f
       rw (drop-least n.files F hf, drop-least n.contents C hk, drop-least n.open_files E he, drop-least n.processes P hp)
       (ap (λ (l : Lent). lent l.answer l.buffer (put_back n l.store (store F C E P)))
       (rw (take-least n.files F hf, take-least n.contents C hk, take-least n.open_files E he, take-least n.processes P hp, hq) at h))
-
-pub tables_after : (t : Tables) (c : Call) {R : List ℕ} → R ≡ rom_of t → {a : Answer} {b F C E P : List ℕ} → lent a b (store F C E P) ≡ called_on t.sizes t.policy R (store_of t) c
-    → (a ≡ (left_of t c).answer) × ((tables false false t.sizes F C E P t.policy t.rom t.rom_size ≡ called_tables t c) × (b ≡ (left_of t c).buffer))
-unfolding called_tables
-tables_after t c {R} q {a} {b} {F} {C} {E} {P} h =
-    let k : lent a b (store F C E P) ≡ left_of t c = rw q at h in (
-      ap (λ (l : Lent). l.answer) k,
-      (
-        ap (λ (l : Lent). tables false false t.sizes l.store.files l.store.contents l.store.open_files l.store.processes t.policy t.rom t.rom_size) k,
-        ap (λ (l : Lent). l.buffer) k,
-      ),
-    )

@@ -1,12 +1,10 @@
--- Laws of words of 4 bytes: i are stored, the last at a - 1.
+-- Laws of words of 4 bytes: i are stored, from a on.
 use Prim.Native.Nat.{ℕ, suc, ◌+◌, ◌*◌, ◌/◌, ◌≤◌, ◌<◌}
-use mathlib.Core.Path.{◌≡◌, refl, sym, ◌∙◌}
+use mathlib.Core.Path.{◌≡◌, refl}
 use mathlib.Core.List.{List, [], ◌∷◌}
-use native.Mathlib.Numerals.{add-one}
 use native.Mathlib.Omega.{arith}
 use lib.ListN.{length, set, drop, length-drop}
 use lib.Seq.{sets, drop-drop}
-use Rattle.rules.proofs.Lists.{sets-out}
 use Rattle.recorded.specs.Records.{word_at, words_of}
 
 few : (l : List ℕ) → length l ≤ 3 → words_of l ≡ []
@@ -32,15 +30,13 @@ next : (t : List ℕ) (n : ℕ) → 4 ≤ length (drop n t) → words_of (drop n
 unfolding word_at
 next t n h = rw (← drop-drop 4 n t) (one (drop n t) h)
 
-module _ (t X : List ℕ) (a i : ℕ) {z : List ℕ} (inv : sets X a (words_of (drop (4 * i) t)) ≡ z) where
-  pub full : length X ≤ a → X ≡ z
-  full h = sym (sets-out (words_of (drop (4 * i) t)) X a h) ∙ inv
-
+module _ (t X : List ℕ) (a i : ℕ) {z : List ℕ} (inv : sets X (a + i) (words_of (drop (4 * i) t)) ≡ z) where
   pub done : length t / 4 ≤ i → X ≡ z
   done h = let e : length (drop (4 * i) t) ≤ 3 = omega (arith, length-drop (4 * i) t) in rw (few (drop (4 * i) t) e) at inv
 
-  pub more : i < length t / 4 → {v : ℕ} → v ≡ word_at t (4 * i) → sets (set X a v) (a + 1) (words_of (drop (4 * (i + 1)) t)) ≡ z
+  pub more : i < length t / 4 → {v : ℕ} → v ≡ word_at t (4 * i) → sets (set X (a + i) v) (a + (i + 1)) (words_of (drop (4 * (i + 1)) t)) ≡ z
   more h {v} q =
       let l : 4 ≤ length (drop (4 * i) t) = omega (arith, length-drop (4 * i) t) in
       let e : 4 * (i + 1) ≡ 4 * i + 4 = omega arith in
-      rw (q, e, add-one) (rw (next t (4 * i) l) at inv)
+      let k : a + (i + 1) ≡ suc (a + i) = omega arith in
+      rw (q, e, k) (rw (next t (4 * i) l) at inv)

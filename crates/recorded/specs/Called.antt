@@ -1,6 +1,5 @@
 -- A stored call, made on a part of each table: what is past the part stays.
-use Rattle.std.specs.Prelude.{ℕ, min, Bool, false, cond, List, [], ◌∷◌, ◌++◌, ltb, length, get_or, take, drop, replicate}
-use Rattle.rules.specs.Choice.{some}
+use Rattle.std.specs.Prelude.{ℕ, min, Bool, cond, ◌||◌, List, [], ◌++◌, ltb, length, get_or, take, drop, replicate, Result, Ok, Err}
 use Rattle.rules.specs.Store.{Store, fixed, store}
 use Rattle.rules.specs.Calls.{Call, call_of, operation_of, uses}
 use Rattle.rules.specs.declared.request.Request.{Request}
@@ -8,7 +7,9 @@ use Rattle.rules.specs.Step.{Outcome, step, answer_of}
 use Rattle.store.specs.Lent.{Lent, lent}
 use Rattle.recorded.specs.declared.records.Sizes.{Sizes}
 use Rattle.recorded.specs.declared.records.Tables.{Tables}
-use Rattle.recorded.specs.Records.{short_at, tables, rom_of, broken_tables}
+use Rattle.recorded.specs.declared.records.Stop.{Stop}
+use Rattle.recorded.specs.declared.records.Stop.TheVariants.{Broken}
+use Rattle.recorded.specs.Records.{short_at, rom_of}
 
 -- the parts that are lent
 abbrev pub part_of : Sizes → Store → Store
@@ -32,14 +33,13 @@ abbrev pub store_of : Tables → Store
 store_of t = store t.files t.contents t.open_files t.processes
 
 abbrev pub left_of : Tables → Call → Lent
-left_of t c = called_on t.sizes t.policy (rom_of t) (store_of t) c
+left_of t c = called_on t.sizes t.policy (rom_of t.rom) (store_of t) c
+
+abbrev pub with_store : Tables → Store → Tables
+with_store t s = record t { files = s.files; contents = s.contents; open_files = s.open_files; processes = s.processes }
 
 unfoldable pub called_tables : Tables → Call → Tables
-called_tables t c =
-    tables false false t.sizes (left_of t c).store.files (left_of t c).store.contents (left_of t c).store.open_files (left_of t c).store.processes
-    t.policy
-    t.rom
-    t.rom_size
+called_tables t c = with_store t (left_of t c).store
 
 -- what a read has read of the buffer after the call; other calls have read nothing
 unfoldable pub read_of : Request → List ℕ → List ℕ
@@ -67,7 +67,7 @@ call_in body =
     (take (min (short_at body 0) 1024) (replicate 1024 170))
 
 unfoldable pub is_cut : List ℕ → Bool
-is_cut body = some (ltb (length body) 8 ∷ ltb (length (texts body)) (path_length body) ∷ [])
+is_cut body = ltb (length body) 8 || ltb (length (texts body)) (path_length body)
 
-unfoldable pub record_called : List ℕ → Tables → Tables
-record_called body t = cond (is_cut body) (broken_tables t) (called_tables t (call_in body))
+unfoldable pub record_called : List ℕ → Tables → Result Tables Stop
+record_called body t = cond (is_cut body) (Err Broken) (Ok (called_tables t (call_in body)))

@@ -7,30 +7,25 @@ ghost use Rattle.recorded.specs.Called.{called_on, left_of, called_tables, read_
 
 use crate::digest::digest;
 use crate::printing::{print_answer, print_digest};
-use crate::records::{POLICY_ROOM, Sizes, Tables, broken, least, part_of, short_at};
+use crate::records::{POLICY_ROOM, Sizes, Stop, Tables, short_at};
 use rules::answer::Answer;
 use rules::ids::{Fd, Pid};
 use rules::request::Request;
 use tables::calls::{operation_of, uses};
+use tables::lent::Call;
 use tables::parts::{after, upto};
-use tables::words::byte;
+use tables::words::get_or;
 
+#[tactic(auto, unfolding(crate::specs::Called::request_in))]
 fn request(call: &[u8]) -> Request
     ensures { result ≡ request_in call.now }
 {
     Request {
-        process: Pid(byte(call, 0)),
-        call: byte(call, 1),
-        fd: Fd(byte(call, 2)),
-        number: short_at(call, 3) as u16,
+        process: Pid(get_or(call, 0, 0)),
+        call: get_or(call, 1, 0),
+        fd: Fd(get_or(call, 2, 0)),
+        number: short_at(call, 3),
     }
-}
-
-// The tables after the call, and its answer.
-#[derive(Clone, Copy)]
-struct Served {
-    answer: Answer,
-    tables: Tables,
 }
 
 // The call on tables of these sizes; what is past them stays.
@@ -49,10 +44,15 @@ fn call_part(
 ) -> Answer
     ensures { lent result buffer.new (store files.new contents.new open_files.new processes.new) ≡ called_on sizes policy.now rom.now (store files.old contents.old open_files.old processes.old) (call_of c path.now «data».now buffer.old) }
 {
-    let f = least(sizes.files, files.len());
-    let n = least(sizes.contents, contents.len());
-    let e = least(sizes.open_files, open_files.len());
-    let p = least(sizes.processes, processes.len());
+    let f = sizes.files.min(files.len());
+    let n = sizes.contents.min(contents.len());
+    let e = sizes.open_files.min(open_files.len());
+    let p = sizes.processes.min(processes.len());
+    let call = Call {
+        request: c,
+        path: path,
+        data: data,
+    };
     store::call::call(
         &mut files[..f],
         &mut contents[..n],
@@ -60,57 +60,13 @@ fn call_part(
         &mut processes[..p],
         upto(policy, sizes.policy),
         rom,
-        c,
-        path,
-        data,
+        &call,
         buffer,
     )
 }
 
-fn serve(s: Tables, c: Request, path: &[u8], data: &[u8], buffer: &mut [u8]) -> Served
-    ensures answer { result.answer ≡ (left_of s (call_of c path.now «data».now buffer.old)).answer }
-    ensures tables { result.tables ≡ called_tables s (call_of c path.now «data».now buffer.old) }
-    ensures buffer { buffer.new ≡ (left_of s (call_of c path.now «data».now buffer.old)).buffer }
-{
-    let mut files = s.files;
-    let mut contents = s.contents;
-    let mut open_files = s.open_files;
-    let mut processes = s.processes;
-    let policy = s.policy;
-    let rom = s.rom;
-    let size = s.rom_size;
-    let sizes = s.sizes;
-    let a = call_part(
-        &mut files,
-        &mut contents,
-        &mut open_files,
-        &mut processes,
-        &policy,
-        part_of(&rom, size),
-        sizes,
-        c,
-        path,
-        data,
-        buffer,
-    );
-    Served {
-        answer: a,
-        tables: Tables {
-            broken: false,
-            ended: false,
-            sizes: sizes,
-            files: files,
-            contents: contents,
-            open_files: open_files,
-            processes: processes,
-            policy: policy,
-            rom: rom,
-            rom_size: size,
-        },
-    }
-}
-
 // What a read has read; other calls have read nothing.
+#[tactic(auto, unfolding(crate::specs::Called::read_of))]
 fn read_of<'a>(c: Request, buffer: &'a [u8]) -> &'a [u8]
     ensures { result.now ≡ read_of c buffer.now }
 {
@@ -121,52 +77,62 @@ fn read_of<'a>(c: Request, buffer: &'a [u8]) -> &'a [u8]
     upto(buffer, 0)
 }
 
-fn make(s: Tables, c: Request, path: &[u8], data: &[u8], buffer: &mut [u8]) -> Tables
-    ensures tables { result ≡ called_tables s (call_of c path.now «data».now buffer.old) }
-    ensures buffer { buffer.new ≡ (left_of s (call_of c path.now «data».now buffer.old)).buffer }
+// The tables after it; its line is written.
+#[tactic(auto, unfolding(crate::specs::Called::called_tables))]
+fn make_call(mut t: Tables, c: Request, path: &[u8], data: &[u8], buffer: &mut [u8]) -> Tables
+    ensures tables { result ≡ called_tables t (call_of c path.now «data».now buffer.old) }
+    ensures buffer { buffer.new ≡ (left_of t (call_of c path.now «data».now buffer.old)).buffer }
 {
-    let t = serve(s, c, path, data, buffer);
-    print_answer(t.answer, read_of(c, buffer));
-    print_digest(digest(t.tables, buffer));
-    t.tables
+    let answer = call_part(
+        &mut t.files,
+        &mut t.contents,
+        &mut t.open_files,
+        &mut t.processes,
+        &t.policy,
+        t.rom.bytes(),
+        t.sizes,
+        c,
+        path,
+        data,
+        buffer,
+    );
+    print_answer(answer, read_of(c, buffer));
+    print_digest(digest(&t, buffer));
+    t
 }
 
 // The record ends before the call does.
+#[tactic(auto, unfolding(crate::specs::Called::is_cut))]
 fn is_cut(body: &[u8]) -> bool
     ensures { result ≡ is_cut body.now }
 {
-    let short = body.len() < 8;
-    if short {
-        return true;
-    }
-    is_path_cut(body)
+    body.len() < 8 || is_path_cut(body)
 }
 
 fn is_path_cut(body: &[u8]) -> bool
     ensures { result ≡ ltb (length (texts body.now)) (path_length body.now) }
 {
     let call = after(body, 2);
-    let length = byte(call, 5) as usize;
-    after(call, 6).len() < length
+    after(call, 6).len() < usize::from(get_or(call, 5, 0))
 }
 
-// A stored call: its line is written.
-pub(crate) fn call_record(s: Tables, body: &[u8]) -> Tables
+#[tactic(auto, unfolding(crate::specs::Called::record_called))]
+pub(crate) fn call_record(s: Tables, body: &[u8]) -> Result<Tables, Stop>
     ensures { result ≡ record_called body.now s }
 {
     if is_cut(body) {
-        return broken(s);
+        return Err(Stop::Broken);
     }
     let mut buffer = [170u8; 1024];
     let call = after(body, 2);
-    let length = byte(call, 5) as usize;
+    let length = usize::from(get_or(call, 5, 0));
     let rest = after(call, 6);
-    let n = least(short_at(body, 0), 1024);
-    make(
+    let n = usize::from(short_at(body, 0)).min(1024);
+    Ok(make_call(
         s,
         request(call),
         upto(rest, length),
         after(rest, length),
         &mut buffer[..n],
-    )
+    ))
 }

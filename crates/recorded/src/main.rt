@@ -5,81 +5,34 @@
 mod borrows;
 mod calls;
 mod digest;
+mod kinds;
 mod printing;
 mod records;
+mod taken;
 
-ghost use Rattle.std.specs.Prelude.{◌≡◌, ◌<◌, take};
-ghost use Rattle.recorded.specs.Records.{short_at};
-ghost use Rattle.recorded.specs.Taken.{kind_taken, record_taken};
-
-use borrows::borrow_record;
-use calls::call_record;
-use records::{Tables, broken, empty, ended, set_record, short_at};
+use records::{Stop, Tables, empty, short_at};
 use tables::parts::upto;
+use taken::take;
 
 // No input has more records.
 const MOST: u64 = 4294967296;
 
-fn take_kind(s: Tables, kind: u8, body: &[u8]) -> Tables
-    ensures { result ≡ kind_taken kind body.now s }
-{
-    let calls = kind == 6;
-    if calls {
-        return call_record(s, body);
-    }
-    let borrows = kind == 9;
-    if borrows {
-        return borrow_record(s, body);
-    }
-    set_record(s, kind, body)
-}
-
-// A record of which `size` bytes should have been read.
-fn take(s: Tables, kind: u8, size: usize, body: &[u8]) -> Tables
-    ensures { result ≡ record_taken kind size body.now s }
-{
-    let short = body.len() < size;
-    if short {
-        return broken(s);
-    }
-    take_kind(s, kind, body)
-}
-
-fn head(bytes: &[u8; 65536], n: usize) -> &[u8]
-    ensures { result.now ≡ take n bytes.now }
-{
-    upto(bytes, n)
-}
-
 // Reads and takes a record, whose size is known.
-fn take_rest(s: Tables, kind: u8, size: usize) -> Tables
-    requires { size < 65536 }
-{
+fn take_rest(s: Tables, kind: u8, size: u16) -> Result<Tables, Stop> {
+    let size = usize::from(size);
     let mut rest = io::large_buffer();
     let n = io::read_full(0, &mut rest[..size]);
-    take(s, kind, size, head(&rest, n))
+    take(s, kind, size, upto(&rest, n))
 }
 
 // A record is its kind, how many bytes follow (2 bytes, little end first), and these.
-fn turn(s: Tables) -> Tables {
+fn turn(s: Tables) -> Result<Tables, Stop> {
     let mut start = [0u8; 3];
-    let n = io::read_full(0, &mut start);
-    if n == 0 {
-        return ended(s);
+    match io::read_full(0, &mut start) {
+        0 => Err(Stop::Ended),
+        1 | 2 => Err(Stop::Broken),
+        _ => take_rest(s, start[0], short_at(&start, 1)),
     }
-    if n < 3 {
-        return broken(s);
-    }
-    let kind = start[0];
-    let size = size_of(&start);
-    take_rest(s, kind, size)
-}
-
-fn size_of(start: &[u8; 3]) -> usize
-    ensures is { result ≡ short_at start.now 1 }
-    ensures small { result < 65536 }
-{
-    short_at(start, 1)
 }
 
 fn say_broken(n: u64) {
@@ -88,22 +41,16 @@ fn say_broken(n: u64) {
     io::write_all(1, b"\n");
 }
 
-fn run() {
+fn main() {
     let mut s = empty();
-    let mut n: u64 = 0;
-    while n < MOST {
-        n += 1;
-        s = turn(s);
-        if s.broken {
-            say_broken(n);
-            return;
-        }
-        if s.ended {
-            return;
+    for n in 1..=MOST {
+        match turn(s) {
+            Ok(t) => s = t,
+            Err(Stop::Broken) => {
+                say_broken(n);
+                return;
+            }
+            Err(Stop::Ended) => return,
         }
     }
-}
-
-fn main() {
-    run();
 }

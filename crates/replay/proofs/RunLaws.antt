@@ -1,11 +1,13 @@
 -- Laws of a run's loop: a turn that stops it, and one that answers a call.
 use Prim.Native.Nat.{ℕ, zero, suc, ◌+◌, ◌-◌, ◌≤◌}
 use mathlib.Core.Path.{◌≡◌, refl, sym, ◌∙◌, ap}
-use mathlib.Core.Bool.{Bool, true, false}
+use mathlib.Core.Bool.{Bool, true, false, false≢true}
 use mathlib.Core.List.{List, []}
 use native.Mathlib.Nat.{add-zero, sub-zero}
 use native.Mathlib.Omega.{arith}
 use borrow.Author.Tests.{leb-true, leb-false, lt-ltb, le-ltb, ne_eqb}
+use Rattle.std.specs.Prelude.{Result, Ok, Err}
+use Rattle.std.specs.Result.{is_ok}
 use lib.Dec.{eqb, leb}
 use lib.ListN.{length, drop, length-append, length-drop, drop_of_length-le}
 use lib.Seq.{sets, length-sets, drop-drop, drop-length}
@@ -22,8 +24,7 @@ use Rattle.script_rules.specs.declared.replayed.Reason.TheVariants as reason
 use Rattle.script_turn.specs.Turns.{Turned, turned, text_if, turn_of}
 use Rattle.replay.specs.Runs.{Left, left, left_by}
 use Rattle.replay.specs.Once.{run_if}
-use Rattle.script_turn.specs.declared.turn.Turn.{Turn}
-use Rattle.script_turn.specs.declared.turn.Turn.TheVariants as turn
+use Rattle.script_turn.specs.declared.turn.Answered.{Answered as Block}
 
 -- ---- what is left of a script is a part of it
 
@@ -79,8 +80,8 @@ module _ (fit : Bool) (K : Fixed) (R out : List ℕ) (w at : ℕ) (s : Store) wh
 
   -- what a turn is, and what the run is then
   data Goes : ℕ → Turned → Run → Type 0 where
-    stops : (n : ℕ) (why : Reason) → Goes n (turned (turn.Stopped why) out s) (stopped why at s)
-    answers : (k : ℕ) → length text ≤ length out - w → Goes (suc k) (turned (turn.Answered size (length text)) (sets out w text) (act_if fit K s (next_call R)).store) (took (next_call R) text (next k))
+    stops : (n : ℕ) (why : Reason) → Goes n (turned (Err why) out s) (stopped why at s)
+    answers : (k : ℕ) → length text ≤ length out - w → Goes (suc k) (turned (Ok (record { size = size; length = length text })) (sets out w text) (act_if fit K s (next_call R)).store) (took (next_call R) text (next k))
 
   goes : (n : ℕ) → Goes n (turn_of fit n K R out w s) (run_if fit n K R at (length out - w) s)
   unfolding turn_of run_if
@@ -116,36 +117,31 @@ unfolding left_by
 stopped-left k w out why at s = rw (add-zero, add-zero)
 
 -- the parts of a turn
-abbrev reason_in : Turn → Reason
-reason_in (turn.Stopped why) = why
-reason_in (turn.Answered size n) = reason.End
+abbrev reason_in : Result Block Reason → Reason
+reason_in (Err why) = why
+reason_in (Ok b) = reason.End
 
-abbrev size_in : Turn → ℕ
-size_in (turn.Stopped why) = 0
-size_in (turn.Answered size n) = size
+abbrev size_in : Result Block Reason → ℕ
+size_in (Err why) = 0
+size_in (Ok b) = b.size
 
-abbrev length_in : Turn → ℕ
-length_in (turn.Stopped why) = 0
-length_in (turn.Answered size n) = n
-
--- which it is: 0 or 1
-abbrev kind_of : Turn → ℕ
-kind_of (turn.Stopped why) = 0
-kind_of (turn.Answered size n) = 1
+abbrev length_in : Result Block Reason → ℕ
+length_in (Err why) = 0
+length_in (Ok b) = b.length
 
 module _ (fit : Bool) (K : Fixed) (S : List ℕ) (allowance m w at : ℕ) (out : List ℕ) (s : Store) {z : Left} (inv : left_by (allowance - m) w out (run_if fit m K (drop at S) at (length out - w) s) ≡ z) where
-  pub stop : (why : Reason) (after : List ℕ) (t : Store) → turned (turn.Stopped why) after t ≡ turn_of fit m K (drop at S) out w s
+  pub stop : (why : Reason) (after : List ℕ) (t : Store) → turned (Err why) after t ≡ turn_of fit m K (drop at S) out w s
       → left (record { calls = allowance - m; next = at; written = w; reason = why }) after t ≡ z
   stop why after t e = by (goes fit K (drop at S) out w at s m) e inv
     where
-      by : {n : ℕ} {T : Turned} {r : Run} → Goes fit K (drop at S) out w at s n T r → turned (turn.Stopped why) after t ≡ T → left_by (allowance - m) w out r ≡ z
+      by : {n : ℕ} {T : Turned} {r : Run} → Goes fit K (drop at S) out w at s n T r → turned (Err why) after t ≡ T → left_by (allowance - m) w out r ≡ z
           → left (record { calls = allowance - m; next = at; written = w; reason = why }) after t ≡ z
       by (stops n because) e v =
           let a : why ≡ because = ap (λ (x : Turned). reason_in x.turn) e in
           let b : after ≡ out = ap (λ (x : Turned). x.output) e in
           let c : t ≡ s = ap (λ (x : Turned). x.store) e in
           rw (a, b, c) (sym (stopped-left (allowance - m) w out because at s) ∙ v)
-      by (answers k h) e v = let z : ◌≡◌ {A = ℕ} 0 1 = ap (λ (x : Turned). kind_of x.turn) e in absurd (omega arith)
+      by (answers k h) e v = absurd (false≢true (ap (λ (x : Turned). is_ok x.turn) e))
 
 -- after a call is answered
 pub record Answered (fit : Bool) (K : Fixed) (S : List ℕ) (allowance m w at : ℕ) (out : List ℕ) (z : Left) (size n : ℕ) (after : List ℕ) (t : Store) : Type 0 where
@@ -185,12 +181,12 @@ module _ (fit : Bool) (K : Fixed) (S : List ℕ) (allowance w at : ℕ) (out : L
       }
 
 module _ (fit : Bool) (K : Fixed) (S : List ℕ) (allowance m w at : ℕ) (out : List ℕ) (s : Store) {z : Left} (inv : left_by (allowance - m) w out (run_if fit m K (drop at S) at (length out - w) s) ≡ z) (some : m ≤ allowance) (in-script : at ≤ length S) (in-output : w ≤ length out) where
-  pub answer : (size n : ℕ) (after : List ℕ) (t : Store) → turned (turn.Answered size n) after t ≡ turn_of fit m K (drop at S) out w s → Answered fit K S allowance m w at out z size n after t
+  pub answer : (size n : ℕ) (after : List ℕ) (t : Store) → turned (Ok (record { size = size; length = n })) after t ≡ turn_of fit m K (drop at S) out w s → Answered fit K S allowance m w at out z size n after t
   answer size n after t e = by (goes fit K (drop at S) out w at s m) e inv some
     where
-      by : {m : ℕ} {T : Turned} {r : Run} → Goes fit K (drop at S) out w at s m T r → turned (turn.Answered size n) after t ≡ T → left_by (allowance - m) w out r ≡ z → m ≤ allowance
+      by : {m : ℕ} {T : Turned} {r : Run} → Goes fit K (drop at S) out w at s m T r → turned (Ok (record { size = size; length = n })) after t ≡ T → left_by (allowance - m) w out r ≡ z → m ≤ allowance
           → Answered fit K S allowance m w at out z size n after t
-      by (stops n because) e v l = let z : ◌≡◌ {A = ℕ} 1 0 = ap (λ (x : Turned). kind_of x.turn) e in absurd (omega arith)
+      by (stops n because) e v l = absurd (false≢true (sym (ap (λ (x : Turned). is_ok x.turn) e)))
       by (answers k h) e v l =
           rw (ap (λ (x : Turned). size_in x.turn) e, ap (λ (x : Turned). length_in x.turn) e, ap (λ (x : Turned). x.output) e, ap (λ (x : Turned). x.store) e)
           (after-answer fit K S allowance w at out s in-script in-output k v l h)
@@ -201,9 +197,9 @@ starts fit K S allowance out s = let a : allowance - allowance ≡ 0 = omega ari
 
 -- ---- the same, of what the code has in hand
 
-module _ (fit : Bool) (K : Fixed) (S : List ℕ) (allowance m w at : ℕ) (out : List ℕ) (s : Store) (left_over : List ℕ) (p : left_over ≡ drop at S) (x : Turn) (after : List ℕ) (t : Store) (e : turned x after t ≡ turn_of fit m K left_over out w s) {z : Left} (inv : left_by (allowance - m) w out (run_if fit m K (drop at S) at (length out - w) s) ≡ z) where
-  pub stop-turn : (why : Reason) → x ≡ turn.Stopped why → left (record { calls = allowance - m; next = at; written = w; reason = why }) after t ≡ z
+module _ (fit : Bool) (K : Fixed) (S : List ℕ) (allowance m w at : ℕ) (out : List ℕ) (s : Store) (left_over : List ℕ) (p : left_over ≡ drop at S) (x : Result Block Reason) (after : List ℕ) (t : Store) (e : turned x after t ≡ turn_of fit m K left_over out w s) {z : Left} (inv : left_by (allowance - m) w out (run_if fit m K (drop at S) at (length out - w) s) ≡ z) where
+  pub stop-turn : (why : Reason) → x ≡ Err why → left (record { calls = allowance - m; next = at; written = w; reason = why }) after t ≡ z
   stop-turn why q = stop fit K S allowance m w at out s inv why after t (rw (q, p) at e)
 
-  pub answer-turn : (size n : ℕ) → x ≡ turn.Answered size n → m ≤ allowance → at ≤ length S → w ≤ length out → Answered fit K S allowance m w at out z size n after t
+  pub answer-turn : (size n : ℕ) → x ≡ Ok (record { size = size; length = n }) → m ≤ allowance → at ≤ length S → w ≤ length out → Answered fit K S allowance m w at out z size n after t
   answer-turn size n q a b c = answer fit K S allowance m w at out s inv a b c size n after t (rw (q, p) at e)

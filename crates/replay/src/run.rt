@@ -6,18 +6,19 @@ ghost use Rattle.replay.specs.Once.{run_if};
 ghost use Rattle.replay.specs.Runs.{left, left_by};
 
 use script_rules::replayed::{Reason, Replayed};
-use script_turn::turn::{Turn, take_turn};
+use script_turn::turn::{Answered, take_turn};
 use soundness::store::sound;
+use tables::lent::Tables;
 use tables::parts::after;
 
 fn stopped(calls: u32, next: usize, written: usize, reason: Reason) -> Replayed
     ensures { result ≡ record { calls = calls; next = next; written = written; reason = reason } }
 {
     Replayed {
-        calls: calls,
-        next: next,
-        written: written,
-        reason: reason,
+        calls,
+        next,
+        written,
+        reason,
     }
 }
 
@@ -36,7 +37,15 @@ pub fn replay(
 ) -> Replayed
     ensures { left result output.new (store files.new contents.new open_files.new processes.new) ≡ left_by 0 0 output.old (replay allowance (fixed policy.now rom.now) script.now (length output.old) (store files.old contents.old open_files.old processes.old)) }
 {
-    let fit = sound(files, contents, open_files, processes, policy, rom);
+    let t = Tables {
+        files: files,
+        contents: contents,
+        open_files: open_files,
+        processes: processes,
+        policy: policy,
+        rom: rom,
+    };
+    let fit = sound(&t);
     run_by(
         fit, files, contents, open_files, processes, policy, rom, script, allowance, output,
     )
@@ -75,8 +84,8 @@ fn run_by(
             written,
         );
         match t {
-            Turn::Stopped(why) => return stopped(allowance - allowed, at, written, why),
-            Turn::Answered(size, length) => {
+            Err(why) => return stopped(allowance - allowed, at, written, why),
+            Ok(Answered { size, length }) => {
                 at += size;
                 written += length;
                 allowed -= 1;

@@ -22,14 +22,14 @@ name-short D i = let l : first (is_padding (dirent_at D i.0)) 0 14 ≤ 14 = firs
 -- ---- which entries a directory is seen with
 
 module _ (R : List ℕ) (dirents : ℕ → List ℕ) (s n : ℕ) (i : Dirent) (z : Answer) where
-  pub listed-root : eqb s 0 ≡ true → z ≡ with_name n (dirent_name (with_rom (dirents 0)) i) → z ≡ with_name n (dirent_name (seen_dirents R dirents s) i)
+  pub listed_root : eqb s 0 ≡ true → z ≡ with_name n (dirent_name (with_rom (dirents 0)) i) → z ≡ with_name n (dirent_name (seen_dirents R dirents s) i)
   unfolding seen_dirents
-  listed-root a e = rw a e
+  listed_root a e = rw a e
 
-  pub listed-rom : eqb s 0 ≡ false → eqb s ROM ≡ true → z ≡ with_name n (dirent_name (rom_dirents R) i) → z ≡ with_name n (dirent_name (seen_dirents R dirents s) i)
+  pub listed_rom : eqb s 0 ≡ false → eqb s ROM ≡ true → z ≡ with_name n (dirent_name (rom_dirents R) i) → z ≡ with_name n (dirent_name (seen_dirents R dirents s) i)
   unfolding seen_dirents
-  listed-rom a b e = rw (a, b) e
+  listed_rom a b e = rw (a, b) e
 
-  pub listed-own : eqb s 0 ≡ false → eqb s ROM ≡ false → z ≡ with_name n (dirent_name (dirents s) i) → z ≡ with_name n (dirent_name (seen_dirents R dirents s) i)
+  pub listed_own : eqb s 0 ≡ false → eqb s ROM ≡ false → z ≡ with_name n (dirent_name (dirents s) i) → z ≡ with_name n (dirent_name (seen_dirents R dirents s) i)
   unfolding seen_dirents
-  listed-own a b e = rw (a, b) e
+  listed_own a b e = rw (a, b) e

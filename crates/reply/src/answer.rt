@@ -1,5 +1,5 @@
 // The answer of a call, and the reader's buffer.
-ghost use Rattle.std.specs.Prelude.{◌≡◌, [], ◌∷◌, min, length, take, drop};
+ghost use Rattle.std.specs.Prelude.{◌≡◌, ℕ, List, min, length, take, drop};
 ghost use Rattle.rules.specs.Store.{store, shown_of, words};
 ghost use Rattle.rules.specs.Refusals.{refusal_number};
 ghost use Rattle.rules.specs.Directories.{padded, dirent_name};
@@ -11,35 +11,33 @@ use directories::entries::dirent_name;
 use directories::seen::{prompt_entries, rom_size, root_entries};
 use rom::seen::bytes_of;
 use rules::answer::Answer;
-use rules::decision::{Output, Record};
+use rules::decision::{Output, Record, Stop};
 use rules::ids::{Dirent, Slot};
-use rules::refusal::Refusal;
 use tables::files::shown;
 use tables::layout::ROM;
 use tables::numbers::smaller;
 use tables::parts::{after, upto};
-use tables::words::{byte, copy_bytes};
+use tables::words::{copy, get_or};
 
 // An answer of numbers alone.
+#[tactic(auto, unfolding(rules::specs::Directories::padded))]
 pub fn plain_answer(refusal: u32, stop: u32, value: u32) -> Answer
     ensures { result ≡ plain refusal stop value }
 {
-    let name = [0u8; 16];
-    let fields = [0u32; 8];
     Answer {
         refusal: refusal,
         stop: stop,
         value: value,
         name_length: 0,
-        name: name,
-        fields: fields,
+        name: [0; 16],
+        fields: [0; 8],
     }
 }
 
-pub fn refused_answer(why: Refusal, stop: u32) -> Answer
-    ensures { result ≡ plain (refusal_number why) stop 0 }
+pub fn refused_answer(stop: Stop) -> Answer
+    ensures { result ≡ plain (refusal_number stop.refusal) stop.name 0 }
 {
-    plain_answer(why.number(), stop, 0)
+    plain_answer(stop.refusal.number(), stop.name, 0)
 }
 
 // The name, then 0.
@@ -47,32 +45,25 @@ fn padded_name(name: &[u8]) -> [u8; 16]
     ensures { result ≡ padded 16 name.now }
 {
     let mut all = [0u8; 16];
-    let mut k = 0;
-    while k < 16 {
-        all[k] = byte(name, k);
-        k += 1;
+    for k in 0..16 {
+        all[k] = get_or(name, k, 0);
     }
     all
 }
 
-fn name_answer(value: u32, length: u32, name: [u8; 16]) -> Answer
-    ensures { result ≡ named value length name }
+// A listed name.
+#[tactic(auto, unfolding(rules::specs::Directories::padded))]
+fn answer_named(value: u32, name: &[u8]) -> Answer
+    ensures { result ≡ named value (min (length name.now) 16) (padded 16 name.now) }
 {
-    let fields = [0u32; 8];
     Answer {
         refusal: 0,
         stop: 0,
         value: value,
-        name_length: length,
-        name: name,
-        fields: fields,
+        name_length: smaller(name.len(), 16),
+        name: padded_name(name),
+        fields: [0; 8],
     }
-}
-
-fn answer_named(value: u32, name: &[u8]) -> Answer
-    ensures { result ≡ named value (min (length name.now) 16) (padded 16 name.now) }
-{
-    name_answer(value, smaller(name.len(), 16), padded_name(name))
 }
 
 fn answer_in_root(files: &[u32], contents: &[u8], value: u32, i: Dirent) -> Answer
@@ -118,21 +109,20 @@ fn answer_listed(
 }
 
 // A file's fields.
+#[tactic(auto, unfolding(rules::specs::Directories::padded))]
 fn answer_fields(value: u32, r: Record) -> Answer
     ensures { result ≡ with_fields value (words r) }
 {
-    let name = [0u8; 16];
     let bits = r.bits;
-    let fields = [
-        r.kind, r.owner, r.group, bits.0, r.label, r.length, r.links, r.version,
-    ];
     Answer {
         refusal: 0,
         stop: 0,
         value: value,
         name_length: 0,
-        name: name,
-        fields: fields,
+        name: [0; 16],
+        fields: [
+            r.kind, r.owner, r.group, bits.0, r.label, r.length, r.links, r.version,
+        ],
     }
 }
 
@@ -141,21 +131,19 @@ fn read_into<'a>(contents: &'a [u8], rom: &'a [u8], buffer: &mut [u8], s: Slot, 
     ensures { buffer.new ≡ into buffer.old (take n (drop from (bytes_of rom.now contents.now s))) }
 {
     let part = upto(after(bytes_of(contents, rom, s), from as usize), n as usize);
-    copy_bytes(buffer, 0, part);
+    copy(buffer, 0, part);
 }
 
 // The answer of a granted call, and the buffer. Contents and factory part are lent for as long as each other, since what is read is a part of one of them.
 pub fn say<'a>(
     files: &[u32],
     contents: &'a [u8],
-    open_files: &[u32],
-    processes: &[u32],
     rom: &'a [u8],
     buffer: &mut [u8],
     value: u32,
     o: Output,
 ) -> Answer
-    ensures { said result buffer.new ≡ said_of rom.now (store files.now contents.now open_files.now processes.now) value o buffer.old }
+    ensures { (E P : List ℕ) → said result buffer.new ≡ said_of rom.now (store files.now contents.now E P) value o buffer.old }
 {
     match o {
         Output::Nothing => plain_answer(0, 0, value),

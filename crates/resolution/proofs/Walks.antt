@@ -15,8 +15,8 @@ use Rattle.rules.specs.declared.request.Subject.{Subject}
 use Rattle.rules.specs.declared.decision.Location.{Location}
 use Rattle.rules.specs.declared.decision.Intent.{Intent}
 use Rattle.rules.specs.declared.decision.Intent.TheVariants.{Follow}
-use Rattle.rules.specs.declared.decision.Walk.{Walk}
-use Rattle.rules.specs.declared.decision.Walk.TheVariants.{Reached, Stopped}
+use Rattle.rules.specs.Decisions.{Walk}
+use Rattle.std.specs.Prelude.{Ok, Err}
 use Rattle.resolution.specs.declared.walk.Rest.{Rest}
 use Rattle.resolution.specs.PathNames.{name_at}
 use Rattle.resolution.specs.Walks.{rest_from, none_left, names_left, RestOf}
@@ -25,8 +25,8 @@ use Rattle.resolution.proofs.Names.{names-zero, no_names, more-names, no-slashes
 -- no name is left: the walk comes no further
 pub on-last : (intent : Intent) (t : Tree) (Q : List ℕ) (who : Subject) (w : Walk) (k : ℕ) (ns : List Name) → ns ≡ [] → on_reached w (λ (at : Location). walk intent t Q who at k ns) ≡ w
 unfolding on_reached walk_by
-on-last intent t Q who (Reached at) k ns e = rw e
-on-last intent t Q who (Stopped r n) k ns e = refl
+on-last intent t Q who (Ok at) k ns e = rw e
+on-last intent t Q who (Err stop) k ns e = refl
 
 pub deep_more : (d : ℕ) → d ≤ 8 → d + 1 ≡ deeper d
 unfolding deeper

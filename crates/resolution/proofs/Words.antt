@@ -8,12 +8,12 @@ use borrow.Author.Tests.{eq-eqb, ne_eqb, eqb-true}
 use lib.Dec.{eqb-suc-suc, eqb-zero-suc}
 use lib.ListN.{length, take, drop, length-drop}
 use lib.Seq.{drop-drop}
+use Rattle.std.specs.Prelude.{Some, None}
 use Rattle.rules.specs.Choice.{every}
 use Rattle.rules.specs.Paths.{span, skip, is_slash, not_slash, not_zero, no_zero}
-use Rattle.resolution.specs.declared.paths.Parsed.TheVariants.{Bad, Names}
 use Rattle.resolution.specs.Parse.{inner, word, word_end, word_ok, words_read}
 
-pub words-zero : (p : List ℕ) (k : ℕ) → words_read 0 p k ≡ Bad
+pub words-zero : (p : List ℕ) (k : ℕ) → words_read 0 p k ≡ None
 unfolding words_read
 words-zero p k = refl
 
@@ -22,7 +22,7 @@ module _ (p : List ℕ) (at s : ℕ) (a : s ≡ at + span is_slash (drop at p)) 
   unfolding skip
   rest = rw (drop-drop, ← a)
 
-  pub no_words : (n m k : ℕ) → length p ≤ s → n ≡ suc m → words_read n (drop at p) k ≡ Names k
+  pub no_words : (n m k : ℕ) → length p ≤ s → n ≡ suc m → words_read n (drop at p) k ≡ Some k
   unfolding words_read
   no_words n m k h q = let z : length (drop s p) ≡ 0 = omega (arith, length-drop s p) in rw (q, rest, eq-eqb _ _ z)
 
@@ -35,7 +35,7 @@ module _ (p : List ℕ) (at s : ℕ) (a : s ≡ at + span is_slash (drop at p)) 
     unfolding word_end
     end = let h : at + (span is_slash (drop at p) + span inner (drop s p)) ≡ e = omega arith in rw (rest, drop-drop, h)
 
-    pub more-words : (n m k : ℕ) → s < length p → n ≡ suc m → words_read n (drop at p) k ≡ cond (word_ok (take (e - s) (drop s p))) (words_read m (drop e p) (k + 1)) Bad
+    pub more-words : (n m k : ℕ) → s < length p → n ≡ suc m → words_read n (drop at p) k ≡ cond (word_ok (take (e - s) (drop s p))) (words_read m (drop e p) (k + 1)) None
     unfolding words_read
     more-words n m k h q = let z : length (drop s p) ≡ 0 → ⊥ = λ w. omega (arith, length-drop s p) in rw (q, rest, ne_eqb _ _ z, the_word, end)
 

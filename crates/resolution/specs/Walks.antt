@@ -10,15 +10,17 @@ use Rattle.rules.specs.declared.decision.Location.{Location}
 use Rattle.rules.specs.declared.refusal.Refusal.TheVariants.{NameMissing}
 use Rattle.rules.specs.declared.decision.Intent.{Intent}
 use Rattle.rules.specs.declared.decision.Intent.TheVariants.{Find, Follow, Create}
-use Rattle.rules.specs.declared.decision.Walk.{Walk}
-use Rattle.rules.specs.declared.decision.Walk.TheVariants.{Reached}
+use Rattle.rules.specs.Decisions.{Walk, Reached}
 use Rattle.directories.specs.Seen.{found_in}
 use Rattle.directories.specs.declared.seen.Found.{Found}
 use Rattle.resolution.specs.declared.walk.Rest.{Rest}
 
 -- an entry that was found, in the directory at a location
+abbrev pub location_by : Location → Found → Location
+location_by at found = record { dir = at.slot; dirent = found.dirent; slot = found.slot; depth = deeper at.depth; follows = at.follows }
+
 abbrev pub reached_by : Location → Found → Walk
-reached_by at found = Reached (record { dir = at.slot; dirent = found.dirent; slot = found.slot; depth = deeper at.depth; follows = at.follows })
+reached_by at found = Reached (location_by at found)
 
 unfoldable pub entered_by : Intent → Location → ℕ → Found → Walk
 entered_by Find at k found = need_at (is_entry found.dirent) NameMissing k (reached_by at found)

@@ -2,8 +2,8 @@
 ghost use Rattle.std.specs.Prelude.{◌≡◌, ◌≤◌};
 ghost use Rattle.resolution.specs.PathNames.{word_from, name_from};
 
-use crate::paths::{ByteClass, in_class, span_end};
-use tables::words::byte;
+use crate::paths::{is_slash, name_end};
+use tables::words::get_or;
 
 // At most eight bytes of a name as a word, the first byte the lowest.
 #[derive(Clone, Copy)]
@@ -31,18 +31,16 @@ fn read_word(path: &[u8], at: usize, most: u32) -> Word
 {
     let mut word: u64 = 0;
     let mut i = at;
-    let mut k: u32 = 0;
-    while k < most {
+    for k in 0..most {
         if path.len() <= i {
             return Word { word: word, end: i };
         }
-        let b = byte(path, i);
-        if in_class(b, ByteClass::Slash) {
+        let b = get_or(path, i, 0);
+        if is_slash(b) {
             return Word { word: word, end: i };
         }
         word += (b as u64) << (8 * k);
         i += 1;
-        k += 1;
     }
     Word { word: word, end: i }
 }
@@ -63,6 +61,6 @@ pub fn read_name(path: &[u8], start: usize) -> PathName
     PathName {
         low: low.word,
         high: high.word,
-        end: span_end(path, high.end, ByteClass::NotSlash),
+        end: name_end(path, high.end),
     }
 }

@@ -1,5 +1,5 @@
--- May the subject, by the bits and then by the label: what `allowed` and `searched` of the rules ask, as a value that code can match on.
-use Rattle.std.specs.Prelude.{ℕ, Bool, cond, List}
+-- May the subject, by the bits and then by the label: what `allowed` and `searched` of the rules ask, as a value.
+use Rattle.std.specs.Prelude.{ℕ, Bool, cond, List, Result, Ok, Err}
 use Rattle.rules.specs.Store.{Table}
 use Rattle.rules.specs.Rights.{WRITE}
 use Rattle.rules.specs.Walk.{bits_allow, label_allows}
@@ -7,13 +7,16 @@ use Rattle.rules.specs.DecidePaths.{may_name}
 use Rattle.rules.specs.declared.ids.Slot.{Slot}
 use Rattle.rules.specs.declared.rights.Rights.{Rights}
 use Rattle.rules.specs.declared.request.Subject.{Subject}
+use Rattle.rules.specs.declared.refusal.Refusal.{Refusal}
 use Rattle.rules.specs.declared.refusal.Refusal.TheVariants.{BitsForbid, LabelForbids}
-use Rattle.rights.specs.declared.rights.Permission.{Permission}
-use Rattle.rights.specs.declared.rights.Permission.TheVariants.{Allowed, Forbidden}
+
+-- yes, or why not
+abbrev pub Permission : Type 0
+Permission = Result (Unit {0}) Refusal
 
 -- "(9, 10)", of the two answers: the bits' refusal comes first
 unfoldable pub by_both : (bits label : Bool) → Permission
-by_both bits label = cond bits (cond label Allowed (Forbidden LabelForbids)) (Forbidden BitsForbid)
+by_both bits label = cond bits (cond label (Ok tt) (Err LabelForbids)) (Err BitsForbid)
 
 -- the rights over slot s
 abbrev pub permitted : Table → List ℕ → Subject → Slot → Rights → Permission

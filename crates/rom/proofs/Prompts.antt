@@ -1,6 +1,6 @@
 -- The part read by recursion: each turn takes one prompt and hands on what follows it.
 use Prim.Native.Nat.{ℕ, zero, suc, ◌+◌, ◌-◌, ◌≤◌, ◌<◌, min}
-use mathlib.Core.Path.{◌≡◌, refl, sym, ◌∙◌}
+use mathlib.Core.Path.{◌≡◌, refl, sym, ◌∙◌, ap}
 use mathlib.Core.Bool.{Bool, true, false, not, cond}
 use mathlib.Core.List.{List, [], ◌∷◌}
 use native.Mathlib.Numerals.{sub-one}
@@ -14,6 +14,7 @@ use lib.ListN.{length, drop, length-take}
 use Rattle.rules.specs.Choice.{every}
 use Rattle.rules.specs.Layout.{PROMPTS}
 use Rattle.rules.specs.Rom.{prompt_length, first_prompt, prompt, next_prompt, rom_from, prompt_count, prompt_sound, prompts_sound}
+use Rattle.rom.specs.Rest.{prompt_rest}
 
 pub from-here : (k : ℕ) (X : List ℕ) → k ≡ 0 → X ≡ rom_from k X
 unfolding rom_from
@@ -83,10 +84,23 @@ module _ (n : ℕ) (X : List ℕ) (l : length X ≡ 0 → ⊥) (h : n ≡ 0 → 
 pub first-length : (X A : List ℕ) (m z : ℕ) → A ≡ drop 2 X → m ≡ prompt_length X → z ≡ min (length A) m → z ≡ length (first_prompt X)
 first-length X A m z a e p = p ∙ rw (a, e, length-take (prompt_length X) (drop 2 X)) (min_comm (length (drop 2 X)) (prompt_length X))
 
-pub size-there : (R : List ℕ) (k z : ℕ) → ltb k PROMPTS ≡ true → z ≡ length (first_prompt (rom_from k R)) → z ≡ length (prompt R k)
-unfolding prompt
-size-there R k z b e = rw b e
+-- of prompt k, from the part that it begins
+module _ (R P : List ℕ) (k : ℕ) (e : P ≡ cond (ltb k PROMPTS) (rom_from k R) []) where
+  pub prompt_of : first_prompt P ≡ prompt R k
+  unfolding prompt prompt_length
+  prompt_of = rw e (by (ltb k PROMPTS))
+    where
+      by : (b : Bool) → first_prompt (cond b (rom_from k R) []) ≡ cond b (first_prompt (rom_from k R)) []
+      by true = refl
+      by false = refl
 
-pub size_none : (R : List ℕ) (k : ℕ) → ltb k PROMPTS ≡ false → 0 ≡ length (prompt R k)
-unfolding prompt
-size_none R k b = rw b
+  pub rest_of : drop 2 P ≡ prompt_rest R k
+  unfolding prompt_rest
+  rest_of = rw e (by (ltb k PROMPTS))
+    where
+      by : (b : Bool) → drop 2 (cond b (rom_from k R) []) ≡ cond b (drop 2 (rom_from k R)) []
+      by true = refl
+      by false = refl
+
+  pub size_of : length (first_prompt P) ≡ length (prompt R k)
+  size_of = ap length prompt_of

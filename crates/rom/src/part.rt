@@ -1,24 +1,19 @@
 // The factory part: prompts in turn, each a length of two bytes, little end first, and its bytes.
-ghost use Rattle.std.specs.Prelude.{◌≡◌, leb, length, drop, ◌+◌};
-ghost use Rattle.rules.specs.Layout.{BLOCK, PROMPTS};
+ghost use Rattle.std.specs.Prelude.{◌≡◌, cond, [], ltb, length};
+ghost use Rattle.rules.specs.Layout.{PROMPTS};
 ghost use Rattle.rules.specs.Rom.{prompt_length, next_prompt, rom_from, prompt_count, prompt_sound, prompts_sound, rom_sound, first_prompt, prompt};
 ghost use Rattle.rom.specs.Rest.{prompt_rest};
 
 use tables::layout::{LENGTH_MAX, PROMPTS};
 use tables::numbers::smaller;
 use tables::parts::{after, upto};
-use tables::words::byte;
+use tables::words::get_or;
 
-fn wide(x: u8) -> u32
-    ensures { result ≡ x }
-{
-    x as u32
-}
-
+#[tactic(auto, unfolding(rules::specs::Rom::prompt_length))]
 fn prompt_length(part: &[u8]) -> u32
     ensures { result ≡ prompt_length part.now }
 {
-    wide(byte(part, 0)) + 256 * wide(byte(part, 1))
+    (get_or(part, 0, 0) as u32) + 256 * (get_or(part, 1, 0) as u32)
 }
 
 // What follows the first prompt.
@@ -45,39 +40,30 @@ fn first_prompt(part: &[u8]) -> &[u8]
     upto(after(part, 2), prompt_length(part) as usize)
 }
 
-fn prompt_from(k: u32, rom: &[u8]) -> &[u8]
-    ensures { result.now ≡ first_prompt (rom_from k rom.now) }
+// The part from prompt k on; there is no seventeenth.
+fn part_of(rom: &[u8], k: u32) -> &[u8]
+    ensures { result.now ≡ cond (ltb k PROMPTS) (rom_from k rom.now) [] }
 {
-    let part = rom_from(k, rom);
-    first_prompt(part)
+    if k < PROMPTS {
+        return rom_from(k, rom);
+    }
+    upto(rom, 0)
 }
 
-// The bytes of prompt k; there is no seventeenth.
+// The bytes of prompt k.
+#[tactic(auto, using(crate::proofs::Prompts::prompt_of))]
 pub fn prompt(rom: &[u8], k: u32) -> &[u8]
     ensures { result.now ≡ prompt rom.now k }
 {
-    let there = k < PROMPTS;
-    if there {
-        return prompt_from(k, rom);
-    }
-    upto(rom, 0)
-}
-
-fn rest_from(k: u32, rom: &[u8]) -> &[u8]
-    ensures { result.now ≡ drop 2 (rom_from k rom.now) }
-{
-    after(rom_from(k, rom), 2)
+    first_prompt(part_of(rom, k))
 }
 
 // The part from the first byte of prompt k on: a tail of it, so that its length says where it begins.
+#[tactic(auto, using(crate::proofs::Prompts::rest_of))]
 pub fn prompt_rest(rom: &[u8], k: u32) -> &[u8]
     ensures { result.now ≡ prompt_rest rom.now k }
 {
-    let there = k < PROMPTS;
-    if there {
-        return rest_from(k, rom);
-    }
-    upto(rom, 0)
+    after(part_of(rom, k), 2)
 }
 
 fn first_length(part: &[u8]) -> u32
@@ -86,21 +72,12 @@ fn first_length(part: &[u8]) -> u32
     smaller(after(part, 2).len(), prompt_length(part))
 }
 
-fn length_from(k: u32, rom: &[u8]) -> u32
-    ensures { result ≡ length (first_prompt (rom_from k rom.now)) }
-{
-    first_length(rom_from(k, rom))
-}
-
 // How long prompt k is.
+#[tactic(auto, using(crate::proofs::Prompts::size_of))]
 pub fn prompt_size(rom: &[u8], k: u32) -> u32
     ensures { result ≡ length (prompt rom.now k) }
 {
-    let there = k < PROMPTS;
-    if there {
-        return length_from(k, rom);
-    }
-    0
+    first_length(part_of(rom, k))
 }
 
 // How many prompts there are, n at most.
@@ -122,26 +99,13 @@ pub fn prompt_count(rom: &[u8]) -> u32
     count_from(PROMPTS, rom)
 }
 
-fn is_small(part: &[u8]) -> bool
-    ensures { result ≡ leb (prompt_length part.now) BLOCK }
-{
-    prompt_length(part) <= LENGTH_MAX
-}
-
-fn is_whole(part: &[u8]) -> bool
-    ensures { result ≡ leb (2 + prompt_length part.now) (length part.now) }
-{
-    2 + prompt_length(part) as usize <= part.len()
-}
-
 // The first prompt is whole, and of at most 512 bytes.
+#[tactic(auto, unfolding(rules::specs::Rom::prompt_sound, rules::specs::Choice::every))]
 fn prompt_sound(part: &[u8]) -> bool
     ensures { result ≡ prompt_sound part.now }
 {
-    if !is_small(part) {
-        return false;
-    }
-    is_whole(part)
+    let n = prompt_length(part);
+    n <= LENGTH_MAX && 2 + n as usize <= part.len()
 }
 
 // At most n prompts, each sound, and nothing after them.

@@ -15,7 +15,7 @@ use tables::layout::{
     OPEN_REFERENCES, OPEN_SLOT, PROCESS_DESCRIPTOR, PROCESS_WIDTH,
 };
 use tables::numbers::up_one;
-use tables::words::{byte, put, put_byte, zero_bytes};
+use tables::words::{fill, get_or, put};
 
 // How many values a byte has.
 const BYTE: u32 = 256;
@@ -41,7 +41,7 @@ pub fn clear_slot(files: &mut [u32], contents: &mut [u8], s: Slot, r: Record)
     ensures { (E P : List ℕ) → store files.new contents.new E P ≡ apply_all (clear_to s.0 (words r) ∷ []) (store files.old contents.old E P) }
 {
     put_record(files, s, r);
-    zero_bytes(contents, BLOCK * (s.0 as usize) + 0, BLOCK);
+    fill(contents, BLOCK * (s.0 as usize) + 0, BLOCK, 0);
 }
 
 // The length and version of a directory whose names change.
@@ -95,10 +95,8 @@ fn put_name(contents: &mut [u8], d: Slot, i: Dirent, name: &[u8])
     ensures { contents.new ≡ sets contents.old (BLOCK * d.0 + DIRENT_WIDTH * i.0) (padded NAME name.now) }
 {
     let at = BLOCK * (d.0 as usize) + DIRENT_WIDTH * (i.0 as usize);
-    let mut k = 0;
-    while k < NAME {
-        put_byte(contents, at + k, byte(name, k));
-        k += 1;
+    for k in 0..NAME {
+        put(contents, at + k, get_or(name, k, 0));
     }
 }
 
@@ -115,6 +113,6 @@ pub fn put_dirent(contents: &mut [u8], d: Slot, i: Dirent, name: &[u8], s: Slot)
 {
     let at = BLOCK * (d.0 as usize) + DIRENT_WIDTH * (i.0 as usize);
     put_name(contents, d, i, name);
-    put_byte(contents, at + NAME, slot_byte(s));
-    put_byte(contents, at + (NAME + 1), 0);
+    put(contents, at + NAME, slot_byte(s));
+    put(contents, at + (NAME + 1), 0);
 }

@@ -4,18 +4,18 @@
 --     every-, some-, implies- `if !b { return false; }`, `if b { return true; }`, `if a { return b; } true` against the lists of tests
 --     refuse-, pass-          `if !b { return Refused(..); }` against `need` and `need_at`
 use Prim.Native.Nat.{ℕ}
-use mathlib.Core.Path.{◌≡◌, refl, sym, ◌∙◌}
+use mathlib.Core.Path.{◌≡◌, refl, sym, ap, ◌∙◌}
 use mathlib.Core.Bool.{Bool, true, false, not, cond}
 use mathlib.Core.List.{List, [], ◌∷◌}
 use borrow.Author.Tests.{not-true, not-false}
+use Rattle.std.specs.Prelude.{Result, Err, IsErrAnd}
+use Rattle.std.proofs.lemmas.Result.{err_from_is_err_and}
 use Rattle.rules.specs.Choice.{every, some, implies}
 use Rattle.rules.specs.Walk.{need_at}
 use Rattle.rules.specs.Checks.{need}
 use Rattle.rules.specs.declared.refusal.Refusal.{Refusal}
-use Rattle.rules.specs.declared.decision.Walk.{Walk}
-use Rattle.rules.specs.declared.decision.Walk.TheVariants.{Stopped}
-use Rattle.rules.specs.declared.decision.Decision.{Decision}
-use Rattle.rules.specs.declared.decision.Decision.TheVariants.{Refused}
+use Rattle.rules.specs.declared.decision.Stop.{Stop}
+use Rattle.rules.specs.Decisions.{Walk, Stopped, Decision, Refused, at_no_name}
 
 module _ {A : Type 0} where
   pub took : (z x y : A) (b : Bool) → b ≡ true → z ≡ x → z ≡ cond b x y
@@ -137,10 +137,24 @@ stop-flag b f k w e = stop-not b b f k w refl e
 pub go-flag : (z w : Walk) (b : Bool) (f : Refusal) (k : ℕ) → not b ≡ false → z ≡ w → z ≡ need_at b f k w
 go-flag z w b f k e p = go-not z w b b f k refl e p
 
+-- the same of a refusal that stands in a `Stop`
+pub refused : (b r : Bool) (f : Refusal) (z : Stop) (d : Decision) → r ≡ b → r ≡ false → z ≡ at_no_name f → Err z ≡ need b f d
+unfolding need
+refused b r f z d q e s = rw (sym q ∙ e, s)
+
+pub passed : (z d : Decision) (b r : Bool) (f : Refusal) → r ≡ b → r ≡ true → z ≡ d → z ≡ need b f d
+unfolding need
+passed z d b r f q e p = rw (sym q ∙ e) p
+
+-- ---- what `?` passes on of an error
+
+pub passed_on : {T E : Type 0} (r : Result T E) (e : E) → IsErrAnd r (λ y. y ≡ e) → r ≡ Err e
+passed_on r e h = let d = err_from_is_err_and r h in d.1 ∙ ap Err d.2
+
 pub ruleset flags = (took, left, not-took, not_left)
 
 pub ruleset tests = (every-last, every-flag-no, every-flag-yes, every-no, every-yes, some-last, some-passes, some-fails, some-yes, some-no, implies-passes, implies-fails, implies-yes, implies-no)
 
-pub ruleset checks = (refuse-flag, pass-flag, refuse-not, pass-not, stop-flag, go-flag, stop-not, go-not)
+pub ruleset checks = (refused, passed, passed_on, refuse-flag, pass-flag, refuse-not, pass-not, stop-flag, go-flag, stop-not, go-not)
 
 pub ruleset steps = (flags, tests, checks, took_of, left-of, took-not, left_not, same_not)

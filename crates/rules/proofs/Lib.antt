@@ -2,6 +2,7 @@
 pub mod Choices
 pub mod Tests
 pub mod Scans
+pub mod Chains
 pub mod Seen
 pub mod Lists
 pub mod Ranges

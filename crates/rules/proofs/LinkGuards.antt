@@ -15,9 +15,7 @@ use Rattle.rules.specs.Console.{filled}
 use Rattle.rules.specs.declared.request.Subject.{Subject}
 use Rattle.rules.specs.declared.refusal.Refusal.TheVariants.{NameMissing, TooDeep, TableFull}
 use Rattle.rules.specs.declared.decision.Location.{Location}
-use Rattle.rules.specs.declared.decision.Walk.TheVariants.{Reached, Stopped}
-use Rattle.rules.specs.declared.decision.Decision.{Decision}
-use Rattle.rules.specs.declared.decision.Decision.TheVariants.{Refused}
+use Rattle.rules.specs.Decisions.{Reached, Stopped, Decision, Refused}
 use Rattle.rules.proofs.Guards.{call, opens, answer, after, after_from, FARES_NOW}
 
 -- ---- a small tree. Its root is full: /f is plain; /0 leads to /f, and each of /1 to /8 to the one before; /d is a directory; /z leads to

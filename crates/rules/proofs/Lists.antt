@@ -11,7 +11,6 @@ use Rattle.rules.specs.Store.{zeros, puts}
 use Rattle.rules.specs.Directories.{padded}
 
 pub length-zeros : (n : ℕ) → length (zeros n) ≡ n
-unfolding zeros
 length-zeros n = length-replicate n 0
 
 -- a row written word by word is a run of stores
@@ -19,7 +18,7 @@ pub puts-sets : (w : ℕ) (xs : List ℕ) (i k : ℕ) (vs : List ℕ) → puts w
 puts-sets w xs i k [] = refl
 puts-sets w xs i k (v ∷ vs) = rw (puts-sets w (set xs (w * i + k) v) i (suc k) vs, add-suc)
 
-pub sets-out : (vs xs : List ℕ) (at : ℕ) → length xs ≤ at → sets xs at vs ≡ xs
+pub sets-out : {A : Type 0} (vs xs : List A) (at : ℕ) → length xs ≤ at → sets xs at vs ≡ xs
 sets-out [] xs at h = refl
 sets-out (v ∷ vs) xs at h = rw (set_out xs at v h) (sets-out vs xs (suc at) (omega arith))
 
@@ -32,12 +31,10 @@ sets-done xs vs at i h = rw (drop_of_length-le vs h)
 
 -- one turn of zeroing; zeroing that is done
 pub zeros-step : (xs : List ℕ) (at n : ℕ) → 0 < n → sets xs at (zeros n) ≡ sets (set xs at 0) (at + 1) (zeros (n - 1))
-unfolding zeros
 zeros-step xs at zero h = absurd (not-suc-le-zero h)
 zeros-step xs at (suc n) h = simp (add-one, sub-one)
 
 pub zeros-done : (xs : List ℕ) (at n : ℕ) → n ≤ 0 → sets xs at (zeros n) ≡ xs
-unfolding zeros
 zeros-done xs at zero h = refl
 zeros-done xs at (suc n) h = absurd (not-suc-le-zero h)
 
@@ -82,7 +79,7 @@ padded-two X Y at n a b = rw (sets-append, length-padded, add-one, add-suc)
 
 -- ---- parts of a slice, as `take` and `drop` of its list
 
-pub take_all : (l : List ℕ) (n : ℕ) → length l ≤ n → take n l ≡ l
+pub take_all : {A : Type 0} (l : List A) (n : ℕ) → length l ≤ n → take n l ≡ l
 take_all [] zero h = refl
 take_all [] (suc n) h = refl
 take_all (x ∷ xs) zero h = absurd (not-suc-le-zero h)

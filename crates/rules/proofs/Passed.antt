@@ -5,6 +5,7 @@ use mathlib.Core.Bool.{Bool, true, false, cond, not}
 use mathlib.Core.List.{List, [], ◌∷◌}
 use lib.Dec.{eqb, ltb, leb}
 use lib.ListN.{length}
+use Rattle.std.specs.Prelude.{Some, None, Ok, Err, Option}
 use Rattle.rules.specs.Choice.{every, some}
 use Rattle.rules.specs.Layout.{BLOCK, FILE_OWNER, FILE_LABEL, FILE_LENGTH, FILE_LINKS, PLAIN, DIRECTORY, OPEN_SLOT, OPEN_MODE, OPEN_OFFSET, OPEN_REFERENCES}
 use Rattle.rules.specs.Store.{Fixed, Table, View, slot, is_slot, is_pid, is_fd, is_ofd, is_dirent, is_entry, mode_at, subject_of, up, plus}
@@ -25,18 +26,14 @@ use Rattle.rules.specs.declared.ids.Ofd.{Ofd}
 use Rattle.rules.specs.declared.ids.Dirent.{Dirent}
 use Rattle.rules.specs.declared.rights.Rights.{Rights}
 use Rattle.rules.specs.declared.rights.Bits.{Bits}
-use Rattle.rules.specs.declared.rights.BitsNumber.{BitsNumber}
-use Rattle.rules.specs.declared.rights.BitsNumber.TheVariants as bits_number
 use Rattle.rules.specs.declared.rights.OpenMode.{OpenMode}
-use Rattle.rules.specs.declared.rights.ModeNumber.{ModeNumber}
-use Rattle.rules.specs.declared.rights.ModeNumber.TheVariants as mode_number
+use Rattle.rules.specs.declared.rights.OpenFlags.{OpenFlags}
+use Rattle.rules.specs.Decisions.{open_flags, Walk, Reached, Decision, Refused, Granted}
 use Rattle.rules.specs.declared.request.Subject.{Subject}
 use Rattle.rules.specs.declared.request.Operation.{Operation}
 use Rattle.rules.specs.declared.request.Operation.TheVariants as op
 use Rattle.rules.specs.declared.refusal.Refusal.{Refusal}
 use Rattle.rules.specs.declared.decision.Location.{Location}
-use Rattle.rules.specs.declared.decision.Walk.{Walk}
-use Rattle.rules.specs.declared.decision.Walk.TheVariants.{Reached, Stopped}
 use Rattle.rules.specs.declared.decision.Record.{Record}
 use Rattle.rules.specs.declared.decision.DirChange.{DirChange}
 use Rattle.rules.specs.declared.decision.NewOpen.{NewOpen}
@@ -44,8 +41,6 @@ use Rattle.rules.specs.declared.decision.Output.{Output}
 use Rattle.rules.specs.declared.decision.Output.TheVariants as output
 use Rattle.rules.specs.declared.decision.Effect.{Effect}
 use Rattle.rules.specs.declared.decision.Effect.TheVariants as effect
-use Rattle.rules.specs.declared.decision.Decision.{Decision}
-use Rattle.rules.specs.declared.decision.Decision.TheVariants.{Refused, Granted}
 use Rattle.rules.proofs.Lists.{length-zeros}
 use Rattle.rules.proofs.Tests.{test}
 
@@ -61,8 +56,8 @@ fit-map f (refusing r k) = refusing r k
 
 -- the same as a function of the decision
 unfoldable pub Of : (ℕ → Output → Effect → Type 0) → Decision → Type 0
-Of G (Refused r k) = Unit {0}
-Of G (Granted n o e) = G n o e
+Of G (Err stop) = Unit {0}
+Of G (Ok grant) = G grant.value grant.output grant.effect
 
 pub fit_of : {G : ℕ → Output → Effect → Type 0} {d : Decision} → Fit G d → Of G d
 unfolding Of
@@ -77,8 +72,8 @@ module _ {G : ℕ → Output → Effect → Type 0} where
 
   pub after-fit : (w : Walk) (f : Location → Decision) → ((at : Location) → w ≡ Reached at → Fit G (f at)) → Fit G (after w f)
   unfolding after
-  after-fit (Reached at) f g = g at refl
-  after-fit (Stopped r k) f g = refusing r k
+  after-fit (Ok at) f g = g at refl
+  after-fit (Err stop) f g = refusing stop.refusal stop.name
 
   cond-fit : (b : Bool) (x y : Decision) → (b ≡ true → Fit G x) → (b ≡ false → Fit G y) → Fit G (cond b x y)
   cond-fit true x y f g = f refl
@@ -164,9 +159,8 @@ module _ (K : Fixed) (v : View) (c : Call) where
   -- ---- every call
 
   -- what the number of an open says, and whether it truncates
-  pub data Mode (m : OpenMode) : ModeNumber → Bool → Type 0 where
-    keeps : Mode m (mode_number.Keep m) false
-    truncates : Mode m (mode_number.Truncate m) true
+  abbrev pub Mode : OpenMode → Option OpenFlags → (truncates : Bool) → Type 0
+  Mode m n truncates = n ≡ Some (open_flags m truncates)
 
   -- what kind of file a call makes
   pub data Makes : Operation → ℕ → Type 0 where
@@ -178,7 +172,7 @@ module _ (K : Fixed) (v : View) (c : Call) where
         Passed op.Open (newest at m).fd.0 output.Nothing (effect.Opened (newest at m))
     opens_truncating : (at : Location) (m : OpenMode) (truncating : Bool) → Mode m (mode_of c.number) truncating → Opening at m → every (truncating ∷ ltb 0 (file at.slot.0 FILE_LENGTH) ∷ []) ≡ true →
         Passed op.Open (newest at m).fd.0 output.Nothing (effect.Truncated (newest at m) (truncated file at.slot))
-    creates : (o : Operation) (kind : ℕ) (at : Location) (b : Bits) → Makes o kind → bits_of c.number ≡ bits_number.Valid b → Naming c.path at → depth_ok kind at ≡ true → is_slot (free_slot file) ≡ true →
+    creates : (o : Operation) (kind : ℕ) (at : Location) (b : Bits) → Makes o kind → bits_of c.number ≡ Some b → Naming c.path at → depth_ok kind at ≡ true → is_slot (free_slot file) ≡ true →
         Passed o (free_slot file).0 output.Nothing (effect.Created (gains file at.dir (entry_in at)) (free_slot file) (new_record file who (new_file kind b) at.dir (free_slot file)))
     unlinks : (at : Location) → Walked at → some (is_plain file at.slot ∷ is_link file at.slot ∷ []) ≡ true → Allowed at.dir WRITE → is_slot at.slot ≡ true →
         Passed op.Unlink 0 output.Nothing (effect.Unlinked (loses file at.dir at.dirent) (unnaming file v.open_files at.slot))
@@ -190,7 +184,7 @@ module _ (K : Fixed) (v : View) (c : Call) where
         Passed op.List 1 (output.Name at.slot (dirent_ranked (v.tree.dirents at.slot.0) c.number)) effect.Nothing
     lists_past : (at : Location) → Followed at → is_directory file at.slot ≡ true → Allowed at.slot READ → is_entry (dirent_ranked (v.tree.dirents at.slot.0) c.number) ≡ false →
         Passed op.List 0 output.Nothing effect.Nothing
-    changes_bits : (at : Location) (b : Bits) → bits_of c.number ≡ bits_number.Valid b → Followed at → owns who (file at.slot.0 FILE_OWNER) ≡ true → is_slot at.slot ≡ true → label_allows file Q who at.slot WRITE ≡ true →
+    changes_bits : (at : Location) (b : Bits) → bits_of c.number ≡ Some b → Followed at → owns who (file at.slot.0 FILE_OWNER) ≡ true → is_slot at.slot ≡ true → label_allows file Q who at.slot WRITE ≡ true →
         Passed op.ChangeBits 0 output.Nothing (effect.BitsChanged at.slot b)
     describes : (at : Location) → Walked at → Passed op.Stat 0 (output.Fields (record_of K.rom file at.slot)) effect.Nothing
     closes : Holding → Passed op.Close 0 output.Nothing (effect.Closed c.fd (releasing file v.open_files v.desc c.process c.fd))
@@ -244,16 +238,15 @@ module _ (K : Fixed) (v : View) (c : Call) where
       by h true q = granting _ _ _ (opens_truncating at m truncating k h q)
       by h false q = granting _ _ _ (opens at m truncating k h q)
 
-  mode-fit : (at : Location) → Followed at → (n : ModeNumber) → mode_of c.number ≡ n → Fit (Passed op.Open) (open_mode Q file v.open_files v.desc c.process who n at.slot)
+  mode-fit : (at : Location) → Followed at → (n : Option OpenFlags) → mode_of c.number ≡ n → Fit (Passed op.Open) (open_mode Q file v.open_files v.desc c.process who n at.slot)
   unfolding open_mode
-  mode-fit at w (mode_number.Keep m) e = open-fit at m false (rw e keeps) w
-  mode-fit at w (mode_number.Truncate m) e = open-fit at m true (rw e truncates) w
-  mode-fit at w mode_number.OutOfRange e = refusing _ _
+  mode-fit at w (Some flags) e = open-fit at flags.mode flags.truncates e w
+  mode-fit at w None e = refusing _ _
 
-  create-fit : {o : Operation} {kind : ℕ} → Makes o kind → (n : BitsNumber) → bits_of c.number ≡ n → Fit (Passed o) (decide_create Q v.tree who kind n c.path)
+  create-fit : {o : Operation} {kind : ℕ} → Makes o kind → (n : Option Bits) → bits_of c.number ≡ n → Fit (Passed o) (decide_create Q v.tree who kind n c.path)
   unfolding decide_create create_at create_room
-  create-fit k bits_number.OutOfRange e = refusing _ _
-  create-fit {kind = kind} k (bits_number.Valid b) e = after-fit _ _ (λ at w. need-fit _ _ _ (λ a. allowed-fit at.dir WRITE _ (λ r. need-fit _ _ _ (λ d. need-fit _ _ _ (λ s. need-fit _ _ _ (λ i.
+  create-fit k None e = refusing _ _
+  create-fit {kind = kind} k (Some b) e = after-fit _ _ (λ at w. need-fit _ _ _ (λ a. allowed-fit at.dir WRITE _ (λ r. need-fit _ _ _ (λ d. need-fit _ _ _ (λ s. need-fit _ _ _ (λ i.
       rw (made k _ _ _) (granting _ _ _ (creates _ _ at b k e (record { walked = w; absent = a; allows = r; dirent-free = i }) d s))))))))
 
   symlink-fit : Fit (Passed op.Symlink) (decide_symlink Q v.tree who (length c.«data») c.path)
@@ -271,10 +264,10 @@ module _ (K : Fixed) (v : View) (c : Call) where
   list-fit = after-fit _ _ (λ at w. need-fit _ _ _ (λ d. allowed-fit at.slot READ _ (λ a. cond-fit _ _ _
       (λ i. granting _ _ _ (lists at w d a i)) (λ i. granting _ _ _ (lists_past at w d a i)))))
 
-  bits_fit : (n : BitsNumber) → bits_of c.number ≡ n → Fit (Passed op.ChangeBits) (decide_change_bits Q v.tree who n c.path)
+  bits_fit : (n : Option Bits) → bits_of c.number ≡ n → Fit (Passed op.ChangeBits) (decide_change_bits Q v.tree who n c.path)
   unfolding decide_change_bits change_bits_at may_change
-  bits_fit bits_number.OutOfRange e = refusing _ _
-  bits_fit (bits_number.Valid b) e = after-fit _ _ (λ at w. need-fit _ _ _ (λ o. need-fit _ _ _ (λ l. granting _ _ _ (changes_bits at b e w (test 0 _ o) (test 1 _ o) l))))
+  bits_fit None e = refusing _ _
+  bits_fit (Some b) e = after-fit _ _ (λ at w. need-fit _ _ _ (λ o. need-fit _ _ _ (λ l. granting _ _ _ (changes_bits at b e w (test 0 _ o) (test 1 _ o) l))))
 
   write-fit : Fit (Passed op.Write) (decide_write Q file v.open_files v.desc c.process who c.fd (length c.«data»))
   unfolding decide_write write_open write_some write_file

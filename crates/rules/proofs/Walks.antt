@@ -8,6 +8,7 @@ use native.Mathlib.Nat.{le_refl}
 use native.Mathlib.Omega.{arith}
 use lib.Dec.{ltb}
 use lib.ListN.{length}
+use Rattle.std.specs.Prelude.{Ok, Err}
 use Rattle.rules.specs.Choice.{every}
 use Rattle.rules.specs.Layout.{FOLLOWS}
 use Rattle.rules.specs.Store.{Tree}
@@ -20,8 +21,7 @@ use Rattle.rules.specs.declared.refusal.Refusal.TheVariants.{TooDeep}
 use Rattle.rules.specs.declared.decision.Location.{Location}
 use Rattle.rules.specs.declared.decision.Intent.{Intent}
 use Rattle.rules.specs.declared.decision.Intent.TheVariants.{Find, Follow, Create}
-use Rattle.rules.specs.declared.decision.Walk.{Walk}
-use Rattle.rules.specs.declared.decision.Walk.TheVariants.{Reached, Stopped}
+use Rattle.rules.specs.Decisions.{Walk, Reached, Stopped}
 
 -- P holds of the location that a walk comes to
 pub data WalkFit (P : Location → Type 0) : Walk → Type 0 where
@@ -45,8 +45,8 @@ stop_at-fit k (stopped r n) = stopped r k
 
 -- the same as a function of the walk
 unfoldable WalkOf : (Location → Type 0) → Walk → Type 0
-WalkOf P (Reached at) = P at
-WalkOf P (Stopped r k) = Unit {0}
+WalkOf P (Ok at) = P at
+WalkOf P (Err stop) = Unit {0}
 
 walk_of : {P : Location → Type 0} {w : Walk} → WalkFit P w → WalkOf P w
 unfolding WalkOf

@@ -1,7 +1,8 @@
 -- Checks in the written order, and what every call that changes something is decided by: the lowest free ones, a directory that gains or
 -- loses a name, a file that loses a name or an open file.
-use Rattle.std.specs.Prelude.{ℕ, ◌-◌, Bool, true, false, cond, not, [], ◌∷◌, eqb, ltb}
+use Rattle.std.specs.Prelude.{ℕ, ◌-◌, Bool, true, false, cond, not, None, Ok, Err, [], ◌∷◌, eqb, ltb}
 use Rattle.rules.specs.Choice.{every}
+use Rattle.rules.specs.Decisions.{Walk, Decision, Refused, Granted, Share, Held}
 use Rattle.rules.specs.Scan.{first}
 use Rattle.rules.specs.Layout.{SLOTS, OPEN_FILES, PROCESSES, DESCRIPTORS, FILE_KIND, FILE_LENGTH, FILE_LINKS, FILE_VERSION, FREE, OPEN_SLOT, OPEN_REFERENCES, PROCESS_USED}
 use Rattle.rules.specs.Store.{Table, slot, is_slot, pid_of, is_pid, fd_of, ofd_of, is_entry, bits_at, open_but, is_open, up}
@@ -12,20 +13,14 @@ use Rattle.rules.specs.declared.ids.Ofd.{Ofd}
 use Rattle.rules.specs.declared.ids.Dirent.{Dirent}
 use Rattle.rules.specs.declared.refusal.Refusal.{Refusal}
 use Rattle.rules.specs.declared.decision.Location.{Location}
-use Rattle.rules.specs.declared.decision.Walk.{Walk}
-use Rattle.rules.specs.declared.decision.Walk.TheVariants.{Reached, Stopped}
 use Rattle.rules.specs.declared.decision.Record.{Record}
 use Rattle.rules.specs.declared.decision.DirChange.{DirChange}
 use Rattle.rules.specs.declared.decision.Unnamed.{Unnamed}
 use Rattle.rules.specs.declared.decision.Unnamed.TheVariants as unnamed
 use Rattle.rules.specs.declared.decision.Release.{Release}
 use Rattle.rules.specs.declared.decision.Release.TheVariants as release
-use Rattle.rules.specs.declared.decision.Share.{Share}
-use Rattle.rules.specs.declared.decision.Share.TheVariants as share
 use Rattle.rules.specs.declared.decision.Output.TheVariants as output
 use Rattle.rules.specs.declared.decision.Effect.{Effect}
-use Rattle.rules.specs.declared.decision.Decision.{Decision}
-use Rattle.rules.specs.declared.decision.Decision.TheVariants.{Refused, Granted}
 
 -- a check: what follows, or the refusal. "every other answer says 0" for the name's number
 unfoldable pub need : Bool → Refusal → Decision → Decision
@@ -38,8 +33,8 @@ granted n e = Granted n output.Nothing e
 
 -- what follows a walk, or the walk's refusal with its number
 unfoldable pub after : Walk → (Location → Decision) → Decision
-after (Reached at) f = f at
-after (Stopped r k) f = Refused r k
+after (Ok at) f = f at
+after (Err stop) f = Err stop
 
 -- "a process number over 7 is 2"
 unfoldable pub in_use : Table → Pid → Bool
@@ -123,7 +118,7 @@ releasing file open_files desc p i = cond (held desc p i) (dropping file open_fi
 -- ---- a child shares its parent's open file
 
 abbrev pub sharing : Table → Ofd → Share
-sharing open_files e = share.Held e (up (open_files e.0 OPEN_REFERENCES))
+sharing open_files e = Held e (up (open_files e.0 OPEN_REFERENCES))
 
 unfoldable pub share_of : (open_files desc : Table) → Pid → Fd → Share
-share_of open_files desc p i = cond (held desc p i) (sharing open_files (ofd_held desc p i)) share.Nothing
+share_of open_files desc p i = cond (held desc p i) (sharing open_files (ofd_held desc p i)) None

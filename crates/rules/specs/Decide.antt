@@ -20,8 +20,7 @@ use Rattle.rules.specs.declared.refusal.Refusal.TheVariants.{NoProcess, Malforme
 use Rattle.rules.specs.declared.decision.Placement.{Placement}
 use Rattle.rules.specs.declared.decision.Output.TheVariants as output
 use Rattle.rules.specs.declared.decision.Effect.TheVariants as effect
-use Rattle.rules.specs.declared.decision.Decision.{Decision}
-use Rattle.rules.specs.declared.decision.Decision.TheVariants.{Refused, Granted}
+use Rattle.rules.specs.Decisions.{Decision, Refused, Granted}
 
 -- ---- 10. Close (4)
 

@@ -1,6 +1,7 @@
 -- The calls on paths, once their form is right: 1 to 9 and 17 to 20. The text's order is the order of refusals.
-use Rattle.std.specs.Prelude.{ℕ, min, Bool, true, false, cond, not, List, [], ◌∷◌, eqb, ltb, leb}
+use Rattle.std.specs.Prelude.{ℕ, min, Bool, cond, not, Option, Some, None, List, [], ◌∷◌, eqb, ltb, leb}
 use Rattle.rules.specs.Choice.{every, some, implies}
+use Rattle.rules.specs.Decisions.{Decision, Refused, Granted}
 use Rattle.rules.specs.Layout.{FILE_OWNER, FILE_GROUP, FILE_BITS, FILE_LABEL, FILE_LENGTH, FILE_LINKS, FILE_VERSION, PLAIN, DIRECTORY, LINK, NAMES}
 use Rattle.rules.specs.Store.{Table, Tree, is_slot, is_fd, is_ofd, is_dirent, is_entry, bits_at, up}
 use Rattle.rules.specs.Rights.{READ, WRITE, EXECUTE, bits_execute, owns, moved, mode_of, mode_rights}
@@ -15,11 +16,8 @@ use Rattle.rules.specs.declared.ids.Ofd.{Ofd}
 use Rattle.rules.specs.declared.ids.Dirent.{Dirent}
 use Rattle.rules.specs.declared.rights.Rights.{Rights}
 use Rattle.rules.specs.declared.rights.Bits.{Bits}
-use Rattle.rules.specs.declared.rights.BitsNumber.{BitsNumber}
-use Rattle.rules.specs.declared.rights.BitsNumber.TheVariants as bits_number
 use Rattle.rules.specs.declared.rights.OpenMode.{OpenMode}
-use Rattle.rules.specs.declared.rights.ModeNumber.{ModeNumber}
-use Rattle.rules.specs.declared.rights.ModeNumber.TheVariants.{Keep, Truncate, OutOfRange}
+use Rattle.rules.specs.declared.rights.OpenFlags.{OpenFlags}
 use Rattle.rules.specs.declared.request.Subject.{Subject}
 use Rattle.rules.specs.declared.refusal.Refusal.TheVariants.{Malformed, WrongKind, BitsForbid, LabelForbids, NameThere, NotEmpty, TableFull, TooDeep}
 use Rattle.rules.specs.declared.decision.Location.{Location}
@@ -30,8 +28,6 @@ use Rattle.rules.specs.declared.decision.NewOpen.{NewOpen}
 use Rattle.rules.specs.declared.decision.Output.TheVariants as output
 use Rattle.rules.specs.declared.decision.Effect.{Effect}
 use Rattle.rules.specs.declared.decision.Effect.TheVariants as effect
-use Rattle.rules.specs.declared.decision.Decision.{Decision}
-use Rattle.rules.specs.declared.decision.Decision.TheVariants.{Refused, Granted}
 
 -- "(9, 10)": the rights over slot s, by its bits and then by its label, and then what follows
 abbrev pub allowed : Table → List ℕ → Subject → Slot → Rights → Decision → Decision
@@ -84,10 +80,9 @@ open_file Q file open_files desc p who m truncating s =
     (allowed file Q who s (mode_rights m)
     (open_room file s m truncating (free_fd desc p) (free_ofd open_files)))
 
-unfoldable pub open_mode : List ℕ → (file open_files desc : Table) → Pid → Subject → ModeNumber → Slot → Decision
-open_mode Q file open_files desc p who (Keep m) s = open_file Q file open_files desc p who m false s
-open_mode Q file open_files desc p who (Truncate m) s = open_file Q file open_files desc p who m true s
-open_mode Q file open_files desc p who OutOfRange s = Refused Malformed 0
+unfoldable pub open_mode : List ℕ → (file open_files desc : Table) → Pid → Subject → Option OpenFlags → Slot → Decision
+open_mode Q file open_files desc p who (Some o) s = open_file Q file open_files desc p who o.mode o.truncates s
+open_mode Q file open_files desc p who None s = Refused Malformed 0
 
 unfoldable pub decide_open : List ℕ → Tree → (open_files desc : Table) → Pid → Subject → ℕ → List ℕ → Decision
 decide_open Q t open_files desc p who n path = after (follow_path t Q who path) (λ at. open_mode Q t.file open_files desc p who (mode_of n) at.slot)
@@ -126,9 +121,9 @@ create_at Q file shown who new at =
 abbrev pub create_new : List ℕ → Tree → Subject → NewFile → List ℕ → Decision
 create_new Q t who new path = after (walk_new t Q who path) (create_at Q t.file t.shown who new)
 
-unfoldable pub decide_create : List ℕ → Tree → Subject → (kind : ℕ) → BitsNumber → List ℕ → Decision
-decide_create Q t who kind bits_number.OutOfRange path = Refused Malformed 0
-decide_create Q t who kind (bits_number.Valid bits) path = create_new Q t who (new_file kind bits) path
+unfoldable pub decide_create : List ℕ → Tree → Subject → (kind : ℕ) → Option Bits → List ℕ → Decision
+decide_create Q t who kind None path = Refused Malformed 0
+decide_create Q t who kind (Some bits) path = create_new Q t who (new_file kind bits) path
 
 -- ---- 18. Make link: "path and text both well formed (3), otherwise as create, value included"; "Link bits are 0"
 
@@ -219,9 +214,9 @@ change_bits_at Q file who bits s =
     (need (label_allows file Q who s WRITE) LabelForbids
     (granted 0 (effect.BitsChanged s bits)))
 
-unfoldable pub decide_change_bits : List ℕ → Tree → Subject → BitsNumber → List ℕ → Decision
-decide_change_bits Q t who bits_number.OutOfRange path = Refused Malformed 0
-decide_change_bits Q t who (bits_number.Valid bits) path = after (follow_path t Q who path) (λ at. change_bits_at Q t.file who bits at.slot)
+unfoldable pub decide_change_bits : List ℕ → Tree → Subject → Option Bits → List ℕ → Decision
+decide_change_bits Q t who None path = Refused Malformed 0
+decide_change_bits Q t who (Some bits) path = after (follow_path t Q who path) (λ at. change_bits_at Q t.file who bits at.slot)
 
 -- ---- 9. Stat: "walk. Kind, owner, bits, label, length, names, stamp"
 

@@ -1,7 +1,8 @@
 -- What a granted call does: a list of changes, made from the call and the decision alone. Exit and fork go through the eight descriptors first,
 -- each on the tables as they then are.
-use Rattle.std.specs.Prelude.{ℕ, ◌*◌, List, [], ◌∷◌, ◌++◌}
+use Rattle.std.specs.Prelude.{ℕ, ◌*◌, Some, None, List, [], ◌∷◌, ◌++◌}
 use Rattle.rules.specs.Scan.{repeat}
+use Rattle.rules.specs.Decisions.{Share}
 use Rattle.rules.specs.Layout.{DIRENT_WIDTH, DESCRIPTORS, FILE_BITS, FILE_LENGTH, FILE_LINKS, FILE_VERSION, OPEN_OFFSET, OPEN_REFERENCES, PROCESS_LABEL}
 use Rattle.rules.specs.Store.{Store, view, words, fd_of, up, zeros, Change, file_word, file_to, clear_to, bytes_to, open_word, open_to, open_zero, desc_to, proc_word, proc_to, proc_zero, apply_all}
 use Rattle.rules.specs.Paths.{Name, names, last_name}
@@ -21,8 +22,6 @@ use Rattle.rules.specs.declared.decision.Unnamed.{Unnamed}
 use Rattle.rules.specs.declared.decision.Unnamed.TheVariants as unnamed
 use Rattle.rules.specs.declared.decision.Release.{Release}
 use Rattle.rules.specs.declared.decision.Release.TheVariants as release
-use Rattle.rules.specs.declared.decision.Share.{Share}
-use Rattle.rules.specs.declared.decision.Share.TheVariants as share
 use Rattle.rules.specs.declared.decision.Effect.{Effect}
 use Rattle.rules.specs.declared.decision.Effect.TheVariants as effect
 
@@ -99,8 +98,8 @@ duplicate_changes p i e refs = desc_to p.0 i.0 (desc_word e) ∷ open_word e.0 O
 
 -- the child's descriptor i is what its parent's is
 unfoldable pub share_changes : (child : Pid) → Fd → Share → List Change
-share_changes q i share.Nothing = desc_to q.0 i.0 0 ∷ []
-share_changes q i (share.Held e refs) = desc_to q.0 i.0 (desc_word e) ∷ open_word e.0 OPEN_REFERENCES refs ∷ []
+share_changes q i None = desc_to q.0 i.0 0 ∷ []
+share_changes q i (Some s) = desc_to q.0 i.0 (desc_word s.ofd) ∷ open_word s.ofd.0 OPEN_REFERENCES s.references ∷ []
 
 unfoldable pub shared : (parent child : Pid) → ℕ → Store → Store
 shared p q i t = apply_all (share_changes q (fd_of i) (share_of (view t).open_files (view t).desc p (fd_of i))) t

@@ -3,6 +3,7 @@ pub mod Choice
 pub mod Scan
 pub mod Layout
 pub mod Refusals
+pub mod Decisions
 pub mod Rights
 pub mod Store
 pub mod Paths

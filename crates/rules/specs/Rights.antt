@@ -1,16 +1,12 @@
 -- Rights, permission bits and open modes: their numbers, and when the bits and the labels grant a right.
-use Rattle.std.specs.Prelude.{ℕ, ◌+◌, ◌-◌, ◌*◌, ◌/◌, ◌%◌, Bool, true, false, cond, List, [], ◌∷◌, eqb, leb, get_or}
+use Rattle.std.specs.Prelude.{ℕ, ◌+◌, ◌-◌, ◌*◌, ◌/◌, ◌%◌, Bool, true, false, cond, not, Option, Some, None, is_some, List, [], ◌∷◌, eqb, leb, get_or}
 use Rattle.rules.specs.Choice.{every, some, implies}
+use Rattle.rules.specs.Decisions.{Keep, Truncate}
 use Rattle.rules.specs.Layout.{LABELS, RIGHTS_SIZE, NO_TRANSITION, RIGHTS_MAX, BITS_MAX, MODE_MAX}
 use Rattle.rules.specs.declared.rights.Rights.{Rights}
-use Rattle.rules.specs.declared.rights.RightsNumber.{RightsNumber}
-use Rattle.rules.specs.declared.rights.RightsNumber.TheVariants as rights
 use Rattle.rules.specs.declared.rights.Bits.{Bits}
-use Rattle.rules.specs.declared.rights.BitsNumber.{BitsNumber}
-use Rattle.rules.specs.declared.rights.BitsNumber.TheVariants as bits
 use Rattle.rules.specs.declared.rights.OpenMode.{OpenMode}
-use Rattle.rules.specs.declared.rights.ModeNumber.{ModeNumber}
-use Rattle.rules.specs.declared.rights.ModeNumber.TheVariants.{Keep, Truncate, OutOfRange}
+use Rattle.rules.specs.declared.rights.OpenFlags.{OpenFlags}
 use Rattle.rules.specs.declared.request.Subject.{Subject}
 
 -- ---- "Rights are read 4, write 2, search or execute 1"
@@ -29,26 +25,18 @@ abbrev pub EXECUTE : Rights
 EXECUTE = record { 0 = 1 }
 
 -- a set of rights, 0 to 7
-unfoldable pub rights_of : ℕ → RightsNumber
-rights_of n = cond (leb n RIGHTS_MAX) (rights.Valid (record { 0 = n })) rights.OutOfRange
-
-unfoldable pub rights_valid : RightsNumber → Bool
-rights_valid (rights.Valid r) = true
-rights_valid rights.OutOfRange = false
+unfoldable pub rights_of : ℕ → Option Rights
+rights_of n = cond (leb n RIGHTS_MAX) (Some (record { 0 = n })) None
 
 abbrev pub rights_known : ℕ → Bool
-rights_known n = rights_valid (rights_of n)
+rights_known n = is_some (rights_of n)
 
 -- permission bits, 0 to 511
-unfoldable pub bits_of : ℕ → BitsNumber
-bits_of n = cond (leb n BITS_MAX) (bits.Valid (record { 0 = n })) bits.OutOfRange
-
-unfoldable pub bits_valid : BitsNumber → Bool
-bits_valid (bits.Valid b) = true
-bits_valid bits.OutOfRange = false
+unfoldable pub bits_of : ℕ → Option Bits
+bits_of n = cond (leb n BITS_MAX) (Some (record { 0 = n })) None
 
 abbrev pub bits_known : ℕ → Bool
-bits_known n = bits_valid (bits_of n)
+bits_known n = is_some (bits_of n)
 
 -- ---- "mode 1 read, 2 write, 3 both, 4 append, plus 8 to cut to empty (not with 1)"
 
@@ -68,22 +56,19 @@ MODE_APPEND = record { 0 = 4 }
 abbrev pub TRUNCATE : ℕ
 TRUNCATE = 8
 
-unfoldable pub mode_of : ℕ → ModeNumber
+unfoldable pub mode_of : ℕ → Option OpenFlags
 mode_of n =
     cond (every (leb 1 n ∷ leb n MODE_MAX ∷ [])) (Keep (record { 0 = n }))
     (cond (every (leb (TRUNCATE + 2) n ∷ leb n (TRUNCATE + MODE_MAX) ∷ [])) (Truncate (record { 0 = n - TRUNCATE }))
-    OutOfRange)
+    None)
 
-unfoldable pub mode_known : ModeNumber → Bool
-mode_known (Keep m) = true
-mode_known (Truncate m) = true
-mode_known OutOfRange = false
+abbrev pub mode_known : Option OpenFlags → Bool
+mode_known m = is_some m
 
 -- the mode of an open file: "1 to 4; the 8 of a cutting open is not kept"
-unfoldable pub mode_kept : ModeNumber → Bool
-mode_kept (Keep m) = true
-mode_kept (Truncate m) = false
-mode_kept OutOfRange = false
+unfoldable pub mode_kept : Option OpenFlags → Bool
+mode_kept (Some flags) = not flags.truncates
+mode_kept None = false
 
 -- the rights that an open asks: "write for append too"
 unfoldable pub mode_rights : OpenMode → Rights

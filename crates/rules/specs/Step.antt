@@ -1,6 +1,6 @@
 -- The answer of a call; `act`, a call on tables that are known to be sound; `step`, which tests that first; `act_borrow` and `step_borrow`, the same of a
 -- borrowing read; `run`, a list of both.
-use Rattle.std.specs.Prelude.{ℕ, ◌-◌, cond, List, [], ◌∷◌, length, take, drop}
+use Rattle.std.specs.Prelude.{ℕ, ◌-◌, cond, Ok, Err, List, [], ◌∷◌, length, take, drop}
 use Rattle.std.proofs.lemmas.List.Edits.{sets}
 use Rattle.rules.specs.Layout.{SLOTS}
 use Rattle.rules.specs.Store.{Store, Fixed, Tree, view, block, is_slot, words, zeros}
@@ -19,8 +19,7 @@ use Rattle.rules.specs.declared.refusal.Refusal.{Refusal}
 use Rattle.rules.specs.declared.refusal.Refusal.TheVariants.{Unsound}
 use Rattle.rules.specs.declared.decision.Output.{Output}
 use Rattle.rules.specs.declared.decision.Output.TheVariants as output
-use Rattle.rules.specs.declared.decision.Decision.{Decision}
-use Rattle.rules.specs.declared.decision.Decision.TheVariants.{Refused, Granted}
+use Rattle.rules.specs.Decisions.{Decision}
 use Rattle.rules.specs.declared.answer.Answer.{Answer}
 
 -- "its answer is the refusal, stop number, value, the listed name or stat's fields .. and that buffer afterwards"
@@ -61,13 +60,13 @@ refused_reply r k buffer = record { refusal = refusal_number r; stop = k; value 
 
 -- `put` says what becomes of the bytes that are read
 unfoldable pub reply_to : List ℕ → Store → (put : List ℕ → List ℕ) → Decision → Reply
-reply_to R s put (Refused r k) = refused_reply r k (put [])
-reply_to R s put (Granted n o e) =
-    record { refusal = GRANTED; stop = 0; value = n; name = name_out (seen_tree R (view s).tree) o; fields = fields_out o; buffer = put (bytes_out R s.contents o) }
+reply_to R s put (Err stop) = refused_reply stop.refusal stop.name (put [])
+reply_to R s put (Ok grant) =
+    record { refusal = GRANTED; stop = 0; value = grant.value; name = name_out (seen_tree R (view s).tree) grant.output; fields = fields_out grant.output; buffer = put (bytes_out R s.contents grant.output) }
 
 unfoldable pub store_after : Store → Call → Decision → Store
-store_after s c (Refused r k) = s
-store_after s c (Granted n o e) = carry_out c e s
+store_after s c (Err stop) = s
+store_after s c (Ok grant) = carry_out c grant.effect s
 
 pub record Outcome : Type 0 where
   pub reply : Reply

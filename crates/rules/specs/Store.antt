@@ -160,7 +160,7 @@ plus a b = (a + b) % 2 ^ 32
 -- ---- changes
 
 -- n bytes 0
-unfoldable pub zeros : ℕ → List ℕ
+abbrev pub zeros : ℕ → List ℕ
 zeros n = replicate n 0
 
 -- the words vs from column k of record i on, in a table of records of w words

@@ -1,6 +1,7 @@
 -- "A path is resolved one name at a time, from the root".
-use Rattle.std.specs.Prelude.{ℕ, zero, suc, ◌+◌, ◌-◌, Bool, true, false, cond, List, [], ◌∷◌, eqb, ltb, leb, take}
+use Rattle.std.specs.Prelude.{ℕ, zero, suc, ◌+◌, ◌-◌, Bool, true, false, cond, Ok, Err, List, [], ◌∷◌, eqb, ltb, leb, take}
 use Rattle.rules.specs.Choice.{every, implies}
+use Rattle.rules.specs.Decisions.{Walk, Reached, Stopped}
 use Rattle.rules.specs.Layout.{FILE_KIND, FILE_OWNER, FILE_GROUP, FILE_BITS, FILE_LABEL, FILE_LENGTH, DIRECTORY, PLAIN, LINK, NAMES, FOLLOWS}
 use Rattle.rules.specs.Store.{Table, Tree, slot, is_slot, entry, is_entry, bits_at}
 use Rattle.rules.specs.Rights.{EXECUTE, bits_grant, asks_write, label_grants}
@@ -15,8 +16,6 @@ use Rattle.rules.specs.declared.refusal.Refusal.TheVariants.{NameMissing, NotADi
 use Rattle.rules.specs.declared.decision.Location.{Location}
 use Rattle.rules.specs.declared.decision.Intent.{Intent}
 use Rattle.rules.specs.declared.decision.Intent.TheVariants.{Find, Follow, Create}
-use Rattle.rules.specs.declared.decision.Walk.{Walk}
-use Rattle.rules.specs.declared.decision.Walk.TheVariants.{Reached, Stopped}
 
 abbrev pub is_directory : Table → Slot → Bool
 is_directory file s = eqb (file s.0 FILE_KIND) DIRECTORY
@@ -43,8 +42,8 @@ need_at true r k w = w
 need_at false r k w = Stopped r k
 
 unfoldable pub on_reached : Walk → (Location → Walk) → Walk
-on_reached (Reached at) f = f at
-on_reached (Stopped r k) f = Stopped r k
+on_reached (Ok at) f = f at
+on_reached (Err stop) f = Err stop
 
 -- "the directory at hand must be a directory (7), searchable by bits (9), by label (10)", and then what follows
 abbrev pub searched : Table → List ℕ → Subject → Slot → ℕ → Walk → Walk
@@ -86,8 +85,8 @@ link_text t s = take (t.file s.0 FILE_LENGTH) (t.shown s.0)
 
 -- "Stop numbers count names of the caller's path": a refusal out of a text counts at the name that met the link
 unfoldable pub stop_at : ℕ → Walk → Walk
-stop_at k (Reached at) = Reached at
-stop_at k (Stopped r n) = Stopped r k
+stop_at k (Ok at) = Reached at
+stop_at k (Err stop) = Stopped stop.refusal k
 
 -- what is looked up to be followed
 unfoldable pub follows : Intent → Bool

@@ -1,4 +1,8 @@
 // How a call is decided: refused, or granted with every number that will be written.
+ghost use Rattle.std.specs.Prelude.{◌≡◌};
+ghost use Rattle.rules.specs.Decisions.{stop, at_no_name};
+ghost use Rattle.rules.specs.Checks.{granted};
+
 use crate::ids::{Dirent, Fd, Ofd, Pid, Slot};
 use crate::refusal::Refusal;
 use crate::request::Subject;
@@ -24,12 +28,38 @@ pub enum Intent {
     Create,
 }
 
-// A walk reaches a location, or stops with a refusal at a name of the path, counted from 1: the paper's stop number.
+// Why a call or a walk is refused, and at which name of the path, counted from 1: the paper's stop number. It is 0 where no name stopped it.
 #[derive(Clone, Copy)]
-pub enum Walk {
-    Reached(Location),
-    Stopped(Refusal, u32),
+pub struct Stop {
+    pub refusal: Refusal,
+    pub name: u32,
 }
+
+impl From<Refusal> for Stop {
+    ghost from_gives = { λ refusal stop. stop ≡ at_no_name refusal };
+
+    fn from(refusal: Refusal) -> Stop {
+        Stop {
+            refusal: refusal,
+            name: 0,
+        }
+    }
+}
+
+impl Refusal {
+    // At the name of that number.
+    pub fn at(self, name: u32) -> Stop
+        ensures { result ≡ stop self name }
+    {
+        Stop {
+            refusal: self,
+            name: name,
+        }
+    }
+}
+
+// A walk reaches a location, or stops.
+pub type Walk = Result<Location, Stop>;
 
 // A file's record, in the order of its columns. Its links are the paper's names, its version the paper's stamp.
 #[derive(Clone, Copy)]
@@ -101,11 +131,11 @@ pub enum Release {
     Freed(Ofd, Slot, Record),
 }
 
-// What a child gets of one of its parent's descriptors: nothing; or the open file, with its references afterwards.
+// An open file that one descriptor more holds, with its references afterwards.
 #[derive(Clone, Copy)]
-pub enum Share {
-    Nothing,
-    Held(Ofd, u32),
+pub struct Shared {
+    pub ofd: Ofd,
+    pub references: u32,
 }
 
 // What a granted call answers beside its value: nothing; the name of a directory entry; a file's record; bytes of a slot,
@@ -142,9 +172,24 @@ pub enum Effect {
     Transferred(DirChange, DirChange, Slot),
 }
 
-// Refused, at a name of the path; or granted, with a value.
+// What a call is granted: its value, what else it answers, and what it does.
 #[derive(Clone, Copy)]
-pub enum Decision {
-    Refused(Refusal, u32),
-    Granted(u32, Output, Effect),
+pub struct Grant {
+    pub value: u32,
+    pub output: Output,
+    pub effect: Effect,
+}
+
+// Granted, or refused.
+pub type Decision = Result<Grant, Stop>;
+
+// Granted, with a value and nothing more to say.
+pub fn granted(value: u32, effect: Effect) -> Decision
+    ensures { result ≡ granted value effect }
+{
+    Ok(Grant {
+        value: value,
+        output: Output::Nothing,
+        effect: effect,
+    })
 }

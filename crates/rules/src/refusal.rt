@@ -4,21 +4,21 @@ ghost use Rattle.rules.specs.Refusals.{refusal_number};
 
 #[derive(Clone, Copy)]
 pub enum Refusal {
-    Unsound,
-    NoProcess,
-    Malformed,
-    NotHeld,
-    WrongDirection,
-    NameMissing,
-    NotADirectory,
-    WrongKind,
-    BitsForbid,
-    LabelForbids,
-    NameThere,
-    NotEmpty,
-    TableFull,
-    TooLong,
-    TooDeep,
+    Unsound = 1,
+    NoProcess = 2,
+    Malformed = 3,
+    NotHeld = 4,
+    WrongDirection = 5,
+    NameMissing = 6,
+    NotADirectory = 7,
+    WrongKind = 8,
+    BitsForbid = 9,
+    LabelForbids = 10,
+    NameThere = 11,
+    NotEmpty = 12,
+    TableFull = 13,
+    TooLong = 14,
+    TooDeep = 15,
 }
 
 impl Refusal {
@@ -26,22 +26,6 @@ impl Refusal {
     pub fn number(self) -> u32
         ensures { result ≡ refusal_number self }
     {
-        match self {
-            Refusal::Unsound => 1,
-            Refusal::NoProcess => 2,
-            Refusal::Malformed => 3,
-            Refusal::NotHeld => 4,
-            Refusal::WrongDirection => 5,
-            Refusal::NameMissing => 6,
-            Refusal::NotADirectory => 7,
-            Refusal::WrongKind => 8,
-            Refusal::BitsForbid => 9,
-            Refusal::LabelForbids => 10,
-            Refusal::NameThere => 11,
-            Refusal::NotEmpty => 12,
-            Refusal::TableFull => 13,
-            Refusal::TooLong => 14,
-            Refusal::TooDeep => 15,
-        }
+        self as u32
     }
 }

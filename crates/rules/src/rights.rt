@@ -7,12 +7,6 @@ ghost use Rattle.rules.specs.Rights.{rights_known, rights_of, bits_known, bits_o
 #[derive(Clone, Copy)]
 pub struct Rights(pub u32);
 
-#[derive(Clone, Copy)]
-pub enum RightsNumber {
-    Valid(Rights),
-    OutOfRange,
-}
-
 impl Rights {
     pub const READ: Rights = Rights(4);
 
@@ -23,26 +17,18 @@ impl Rights {
     // Of a plain file: execute it. Of a directory: search it.
     pub const EXECUTE: Rights = Rights(1);
 
-    pub fn new(n: u32) -> RightsNumber
+    #[tactic(auto, unfolding(crate::specs::Rights::rights_of))]
+    pub fn new(n: u32) -> Option<Rights>
         ensures { result ≡ rights_of n }
     {
-        let known = n <= 7;
-        if known {
-            return RightsNumber::Valid(Rights(n));
-        }
-        RightsNumber::OutOfRange
+        if n <= 7 { Some(Rights(n)) } else { None }
     }
 
     // The number is one of rights.
-    #[tactic(auto, unfolding(crate::specs::Rights::rights_valid))]
     pub fn known(n: u32) -> bool
         ensures { result ≡ rights_known n }
     {
-        let rights = Rights::new(n);
-        match rights {
-            RightsNumber::Valid(_) => true,
-            RightsNumber::OutOfRange => false,
-        }
+        Rights::new(n).is_some()
     }
 }
 
@@ -50,33 +36,19 @@ impl Rights {
 #[derive(Clone, Copy)]
 pub struct Bits(pub u32);
 
-#[derive(Clone, Copy)]
-pub enum BitsNumber {
-    Valid(Bits),
-    OutOfRange,
-}
-
 impl Bits {
-    pub fn new(n: u32) -> BitsNumber
+    #[tactic(auto, unfolding(crate::specs::Rights::bits_of))]
+    pub fn new(n: u32) -> Option<Bits>
         ensures { result ≡ bits_of n }
     {
-        let known = n <= 511;
-        if known {
-            return BitsNumber::Valid(Bits(n));
-        }
-        BitsNumber::OutOfRange
+        if n <= 511 { Some(Bits(n)) } else { None }
     }
 
     // The number is one of bits.
-    #[tactic(auto, unfolding(crate::specs::Rights::bits_valid))]
     pub fn known(n: u32) -> bool
         ensures { result ≡ bits_known n }
     {
-        let bits = Bits::new(n);
-        match bits {
-            BitsNumber::Valid(_) => true,
-            BitsNumber::OutOfRange => false,
-        }
+        Bits::new(n).is_some()
     }
 }
 
@@ -84,13 +56,11 @@ impl Bits {
 #[derive(Clone, Copy)]
 pub struct OpenMode(pub u32);
 
+// How a file is opened: as it is, or truncated, the paper's cut to empty.
 #[derive(Clone, Copy)]
-pub enum ModeNumber {
-    // The file is opened as it is.
-    Keep(OpenMode),
-    // The file is truncated, the paper's cut to empty (8 is added to the mode's number).
-    Truncate(OpenMode),
-    OutOfRange,
+pub struct OpenFlags {
+    pub mode: OpenMode,
+    pub truncates: bool,
 }
 
 impl OpenMode {
@@ -102,32 +72,31 @@ impl OpenMode {
 
     pub const APPEND: OpenMode = OpenMode(4);
 
-    pub fn new(n: u32) -> ModeNumber
+    // The mode that the number of an open says, and whether it truncates: 8 is then added to the mode's number.
+    pub fn new(n: u32) -> Option<OpenFlags>
         ensures { result ≡ mode_of n }
     {
-        match n {
-            1 => ModeNumber::Keep(OpenMode::READ),
-            2 => ModeNumber::Keep(OpenMode::WRITE),
-            3 => ModeNumber::Keep(OpenMode::BOTH),
-            4 => ModeNumber::Keep(OpenMode::APPEND),
-            10 => ModeNumber::Truncate(OpenMode::WRITE),
-            11 => ModeNumber::Truncate(OpenMode::BOTH),
-            12 => ModeNumber::Truncate(OpenMode::APPEND),
-            _ => ModeNumber::OutOfRange,
-        }
+        let (mode, truncates) = match n {
+            1 => (OpenMode::READ, false),
+            2 => (OpenMode::WRITE, false),
+            3 => (OpenMode::BOTH, false),
+            4 => (OpenMode::APPEND, false),
+            10 => (OpenMode::WRITE, true),
+            11 => (OpenMode::BOTH, true),
+            12 => (OpenMode::APPEND, true),
+            _ => return None,
+        };
+        Some(OpenFlags {
+            mode: mode,
+            truncates: truncates,
+        })
     }
 
     // The number is one that an open may be given.
-    #[tactic(auto, unfolding(crate::specs::Rights::mode_known))]
     pub fn known(n: u32) -> bool
         ensures { result ≡ mode_known (mode_of n) }
     {
-        let mode = OpenMode::new(n);
-        match mode {
-            ModeNumber::Keep(_) => true,
-            ModeNumber::Truncate(_) => true,
-            ModeNumber::OutOfRange => false,
-        }
+        OpenMode::new(n).is_some()
     }
 
     // The number is one that an open file has: the 8 of an open that truncates is not kept.
@@ -135,11 +104,9 @@ impl OpenMode {
     pub fn kept(n: u32) -> bool
         ensures { result ≡ mode_kept (mode_of n) }
     {
-        let mode = OpenMode::new(n);
-        match mode {
-            ModeNumber::Keep(_) => true,
-            ModeNumber::Truncate(_) => false,
-            ModeNumber::OutOfRange => false,
+        match OpenMode::new(n) {
+            Some(flags) => !flags.truncates,
+            None => false,
         }
     }
 }

@@ -25,8 +25,7 @@ use Rattle.rules.specs.declared.ids.Ofd.{Ofd}
 use Rattle.rules.specs.declared.refusal.Refusal.TheVariants.{NoProcess, Malformed, NotHeld, WrongDirection, LabelForbids, TooLong}
 use Rattle.rules.specs.declared.request.Operation.{Operation}
 use Rattle.rules.specs.declared.request.Operation.TheVariants as op
-use Rattle.rules.specs.declared.decision.Decision.{Decision}
-use Rattle.rules.specs.declared.decision.Decision.TheVariants.{Refused}
+use Rattle.rules.specs.Decisions.{Decision, Refused}
 use Rattle.rules.proofs.Passed.{Fit, granting, refusing, need-fit}
 use Rattle.rules.proofs.Unused.{unused-unseen}
 use Rattle.script_rules.specs.Replay.{BYTE_MAX, as_byte, UNKNOWN, reads_too_much, call_for, bytes_for, asked_by}

@@ -29,5 +29,5 @@ module _ (X : List ℕ) (at : ℕ) (bs : List ℕ) where
   pub hex-room : Room X at (hex_of bs) → at + 2 * length bs ≤ length X
   hex-room h = omega (arith, length-hex bs)
 
-  pub hex-wrote : {Y : List ℕ} → Y ≡ sets X at (hex_of bs) → Wrote X at (hex_of bs) Y (at + 2 * length bs)
-  hex-wrote p = record { output = p; ends = omega (arith, length-hex bs) }
+  pub hex-wrote : {Y : List ℕ} {e i : ℕ} → e ≡ at + 2 * i → i ≤ length bs → length bs ≤ i → Y ≡ sets X at (hex_of bs) → Wrote X at (hex_of bs) Y e
+  hex-wrote q l m p = record { output = p; ends = omega (arith, length-hex bs) }

@@ -1,5 +1,5 @@
 -- What is written of an answer: all of it where there is room, else nothing.
-use Rattle.std.specs.Prelude.{ℕ, ◌+◌, ◌-◌, ◌≤◌, ◌≡◌, cond, List, ◌++◌, leb, length, take}
+use Rattle.std.specs.Prelude.{ℕ, ◌+◌, ◌-◌, ◌≤◌, ◌≡◌, cond, Option, Some, None, List, ◌++◌, leb, length, take}
 use Rattle.std.proofs.lemmas.List.Edits.{sets}
 use Rattle.rules.specs.declared.answer.Answer.{Answer}
 use Rattle.script_rules.specs.Text.{decimal, hex_of}
@@ -26,11 +26,11 @@ lines_of a buffer = line_with ANSWER (decimal a.refusal) ++ (line_with VALUE (de
 -- ---- where there is room
 
 pub record Written : Type 0 where
-  pub length : ℕ  -- 0 where there is none
+  pub length : Option ℕ  -- none where there is no room
   pub output : List ℕ
 
-abbrev pub writes : ℕ → List ℕ → Written
+abbrev pub writes : Option ℕ → List ℕ → Written
 writes n out = record { length = n; output = out }
 
 unfoldable pub written : (out : List ℕ) (at : ℕ) (text : List ℕ) → Written
-written out at text = cond (leb (length text) (length out - at)) (writes (length text) (sets out at text)) (writes 0 out)
+written out at text = cond (leb (length text) (length out - at)) (writes (Some (length text)) (sets out at text)) (writes None out)

@@ -1,52 +1,22 @@
 // The three lines of an answer. A function that writes from `at` on says where its text ends, and has the room for it: `write_answer` asks for that first.
 ghost use Rattle.std.specs.Prelude.{◌≡◌, ◌+◌, ◌*◌, ◌/◌, ◌%◌, ◌≤◌, length, take};
-ghost use Rattle.std.proofs.lemmas.List.Edits.{sets};
 ghost use Rattle.script_rules.specs.Text.{digits, decimal, hex_digit, hex_of};
 ghost use Rattle.script_rules.specs.Answers.{stat_bytes, field_bytes, data_of, answer_text, line_with, DATA};
 ghost use Rattle.script_output.specs.Writes.{Room, Wrote, data_hex, lines_of, writes, written};
 
 use rules::answer::Answer;
-use tables::numbers::smaller;
 use tables::parts::upto;
-use tables::words::{copy_bytes, put_byte};
+use tables::words::{copy, put};
 
 // A word of 32 bits has at most ten digits.
 const DIGITS: u8 = 10;
 
+#[tactic(auto, unfolding(script_rules::specs::Text::hex_digit))]
 fn hex_digit(n: u8) -> u8
     requires { n ≤ 15 }
     ensures { result ≡ hex_digit n }
 {
-    let digit = n < 10;
-    if digit {
-        return 48 + n;
-    }
-    87 + n
-}
-
-fn high_digit(b: u8) -> u8
-    ensures { result ≡ hex_digit (b / 16) }
-{
-    hex_digit(b / 16)
-}
-
-fn low_digit(b: u8) -> u8
-    ensures { result ≡ hex_digit (b % 16) }
-{
-    hex_digit(b % 16)
-}
-
-fn write_pairs(out: &mut [u8], at: usize, bytes: &[u8])
-    requires { at + 2 * length bytes.now ≤ length out.old }
-    ensures { out.new ≡ sets out.old at (hex_of bytes.now) }
-{
-    let mut i = 0;
-    while i < bytes.len() {
-        let b = bytes[i];
-        out[at + 2 * i] = high_digit(b);
-        out[at + 2 * i + 1] = low_digit(b);
-        i += 1;
-    }
+    if n < 10 { b'0' + n } else { b'a' - 10 + n }
 }
 
 // The bytes in hex. Where they end.
@@ -54,8 +24,13 @@ fn write_hex(out: &mut [u8], at: usize, bytes: &[u8]) -> usize
     requires { Room out.old at (hex_of bytes.now) }
     ensures { Wrote out.old at (hex_of bytes.now) out.new result }
 {
-    write_pairs(out, at, bytes);
-    at + 2 * bytes.len()
+    let mut end = at;
+    for b in bytes {
+        out[end] = hex_digit(*b / 16);
+        out[end + 1] = hex_digit(*b % 16);
+        end += 2;
+    }
+    end
 }
 
 // How many of at most k digits n has.
@@ -81,11 +56,11 @@ fn write_digits(out: &mut [u8], at: usize, k: u8, n: u32) -> usize
         return at;
     }
     if n < 10 {
-        out[at] = 48 + (n as u8);
+        out[at] = b'0' + n as u8;
         return at + 1;
     }
     let end = write_digits(out, at, k - 1, n / 10);
-    put_byte(out, end, 48 + ((n % 10) as u8));
+    put(out, end, b'0' + (n % 10) as u8);
     end + 1
 }
 
@@ -93,31 +68,18 @@ fn write_digits(out: &mut [u8], at: usize, k: u8, n: u32) -> usize
 fn stat_bytes(f: [u32; 8]) -> [u8; 16]
     ensures { result ≡ stat_bytes f }
 {
-    let kind = f[0];
-    let owner = f[1];
-    let group = f[2];
-    let bits = f[3];
-    let label = f[4];
-    let length = f[5];
-    let links = f[6];
-    let version = f[7];
+    let [kind, owner, group, bits, label, length, links, version] = f;
+    let kind = kind.to_le_bytes();
+    let owner = owner.to_le_bytes();
+    let group = group.to_le_bytes();
+    let bits = bits.to_le_bytes();
+    let label = label.to_le_bytes();
+    let length = length.to_le_bytes();
+    let links = links.to_le_bytes();
+    let version = version.to_le_bytes();
     [
-        (kind % 256) as u8,
-        (owner % 256) as u8,
-        (owner / 256 % 256) as u8,
-        (group % 256) as u8,
-        (group / 256 % 256) as u8,
-        (bits % 256) as u8,
-        (bits / 256 % 256) as u8,
-        (label % 256) as u8,
-        (length % 256) as u8,
-        (length / 256 % 256) as u8,
-        (links % 256) as u8,
-        (links / 256 % 256) as u8,
-        (version % 256) as u8,
-        (version / 256 % 256) as u8,
-        (version / 256 / 256 % 256) as u8,
-        (version / 256 / 256 / 256 % 256) as u8,
+        kind[0], owner[0], owner[1], group[0], group[1], bits[0], bits[1], label[0], length[0],
+        length[1], links[0], links[1], version[0], version[1], version[2], version[3],
     ]
 }
 
@@ -126,19 +88,14 @@ fn fields_length(f: [u32; 8]) -> usize
     ensures is { result ≡ length (field_bytes f) }
     ensures few { result ≤ 16 }
 {
-    let none = f[0] == 0;
-    if none {
-        return 0;
-    }
-    16
+    if f[0] == 0 { 0 } else { 16 }
 }
 
 fn write_fields(out: &mut [u8], at: usize, f: [u32; 8]) -> usize
     requires { Room out.old at (hex_of (field_bytes f)) }
     ensures { Wrote out.old at (hex_of (field_bytes f)) out.new result }
 {
-    let none = f[0] == 0;
-    if none {
+    if f[0] == 0 {
         return at;
     }
     let bytes = stat_bytes(f);
@@ -169,7 +126,7 @@ fn write_bytes(out: &mut [u8], at: usize, bytes: &[u8]) -> usize
     requires { Room out.old at bytes.now }
     ensures { Wrote out.old at bytes.now out.new result }
 {
-    copy_bytes(out, at, bytes);
+    copy(out, at, bytes);
     at + bytes.len()
 }
 
@@ -200,22 +157,22 @@ fn write_lines(out: &mut [u8], at: usize, a: Answer, buffer: &[u8]) -> usize
     write_data_line(out, data, a, buffer)
 }
 
-fn name_length(name: [u8; 16], n: u32) -> usize
-    ensures is { result ≡ length (take n name) }
-    ensures few { result ≤ 16 }
+// How many the first n bytes are.
+fn first_length(bytes: &[u8], n: u32) -> usize
+    ensures is { result ≡ length (take n bytes.now) }
+    ensures few { result ≤ n }
 {
-    smaller(16, n) as usize
+    bytes.len().min(n as usize)
 }
 
 // How many bytes an answer has beside its numbers.
 fn data_length(a: Answer, buffer: &[u8]) -> usize
     ensures is { result ≡ length (data_of a buffer.now) }
-    ensures few { result ≤ 4294967327 }
+    ensures few { result ≤ 8589934606 }
 {
     let name = a.name;
     let fields = a.fields;
-    let named = name_length(name, a.name_length);
-    named + fields_length(fields) + (smaller(buffer.len(), a.value) as usize)
+    first_length(&name, a.name_length) + fields_length(fields) + first_length(buffer, a.value)
 }
 
 fn answer_length(a: Answer, buffer: &[u8]) -> usize
@@ -225,17 +182,14 @@ fn answer_length(a: Answer, buffer: &[u8]) -> usize
     21 + numbers + 2 * data_length(a, buffer)
 }
 
-// The answer's text from `at` on, and its length; nothing and 0 where there is no room for it.
-pub fn write_answer(out: &mut [u8], at: usize, a: Answer, buffer: &[u8]) -> usize
+// The answer's text from `at` on, and its length; nothing where there is no room for it.
+pub fn write_answer(out: &mut [u8], at: usize, a: Answer, buffer: &[u8]) -> Option<usize>
     ensures { writes result out.new ≡ written out.old at (answer_text a buffer.now) }
 {
     let n = answer_length(a, buffer);
-    if out.len() < at {
-        return 0;
-    }
-    if out.len() - at < n {
-        return 0;
+    if out.len().saturating_sub(at) < n {
+        return None;
     }
     write_lines(out, at, a, buffer);
-    n
+    Some(n)
 }

@@ -2,17 +2,17 @@
 ghost use Rattle.std.specs.Prelude.{◌≡◌};
 ghost use Rattle.script_rules.specs.Reasons.{reason_number};
 
-// Why a run stopped. The numbers are given by the definition `reason_number`.
+// Why a run stopped, by the numbers of the definition `reason_number`.
 #[derive(Clone, Copy)]
 pub enum Reason {
     // The script's end.
-    End,
+    End = 1,
     // The allowance is spent.
-    Allowance,
+    Allowance = 2,
     // The next block is broken.
-    Broken,
+    Broken = 3,
     // The next answer is too long for what is left of the output.
-    Room,
+    Room = 4,
 }
 
 impl Reason {
@@ -20,12 +20,7 @@ impl Reason {
     pub fn number(self) -> u32
         ensures { result ≡ reason_number self }
     {
-        match self {
-            Reason::End => 1,
-            Reason::Allowance => 2,
-            Reason::Broken => 3,
-            Reason::Room => 4,
-        }
+        self as u32
     }
 }
 

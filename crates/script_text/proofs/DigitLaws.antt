@@ -1,15 +1,17 @@
 -- Laws of decimal digits as they are read.
-use Prim.Native.Nat.{ℕ, ◌+◌, ◌-◌, ◌*◌, ◌≤◌, ◌<◌, min}
+use Prim.Native.Nat.{ℕ, ◌+◌, ◌-◌, ◌*◌, ◌≤◌, ◌<◌}
 use mathlib.Core.Path.{◌≡◌, refl, sym, ◌∙◌}
-use mathlib.Core.Bool.{Bool, true, false}
+use mathlib.Core.Bool.{false}
 use mathlib.Core.List.{List, [], ◌∷◌}
 use native.Mathlib.Numerals.{add-one}
 use native.Mathlib.Omega.{arith}
 use lib.Dec.{leb}
-use borrow.Author.Tests.{leb-true, leb-false, le-leb, lt-leb}
+use borrow.Author.Tests.{le-leb, lt-leb}
 use lib.ListN.{length, get_or, drop, drop_of_length-le}
 use lib.Seq.{drop-cons}
+use Rattle.std.specs.Prelude.{Some, None}
 use Rattle.script_rules.specs.Text.{digits_from}
+use Rattle.script_text.specs.Numbers.{narrow}
 
 -- more digits never make a number smaller
 pub grows : (n : ℕ) (ds : List ℕ) → n ≤ digits_from n ds
@@ -26,19 +28,25 @@ module _ (p : List ℕ) (n i : ℕ) {z : ℕ} (inv : digits_from n (drop i p) �
     pub more : digits_from (n * 10 + v) (drop (i + 1) p) ≡ z
     more = sym step ∙ inv
 
-    pub large : 65536 ≤ n * 10 + v → 65536 ≡ min z 65536
-    large h = omega (arith, grows (n * 10 + v) (drop (i + 1) p), more)
+  -- the code takes the product and the sum one after the other, and stops at the first that is too wide
+  module _ (l : i < length p) where
+    wider : 65535 < n * 10 + (get_or p i 0 - 48) → None ≡ narrow z
+    unfolding narrow
+    wider h = let a : leb z 65535 ≡ false = lt-leb z 65535 (omega (arith, grows (n * 10 + (get_or p i 0 - 48)) (drop (i + 1) p), more l refl)) in rw a
 
-  pub past : length p ≤ i → n < 65536 → n ≡ min z 65536
-  unfolding digits_from
+    pub wide-product : (n * 10 < 65536 → ⊥) → None ≡ narrow z
+    wide-product h = wider (omega arith)
+
+    module _ {m v : ℕ} (q : m ≡ n * 10) (e : v ≡ get_or p i 0 - 48) where
+      pub wide-sum : (m + v < 65536 → ⊥) → None ≡ narrow z
+      wide-sum h = wider (omega arith)
+
+      pub next : {w : ℕ} → w ≡ m + v → digits_from w (drop (i + 1) p) ≡ z
+      next {w} x = rw (x, q) (more l e)
+
+  pub past : length p ≤ i → n < 65536 → Some n ≡ narrow z
+  unfolding digits_from narrow
   past l h =
       let s : digits_from n (drop i p) ≡ n = rw (drop_of_length-le p l) in
-      omega arith
-
--- a number that is capped is small just where it is
-pub small-min : (x : ℕ) → leb (min x 65536) 65535 ≡ leb x 65535
-small-min x = by (leb x 65535) refl
-  where
-    by : (t : Bool) → leb x 65535 ≡ t → leb (min x 65536) 65535 ≡ leb x 65535
-    by true e = let h : x ≤ 65535 = leb-true x 65535 e in rw e (le-leb (min x 65536) 65535 (omega arith))
-    by false e = let h : 65535 < x = leb-false x 65535 e in rw e (lt-leb (min x 65536) 65535 (omega arith))
+      let e : n ≡ z = sym s ∙ inv in
+      rw (← e, le-leb n 65535 (omega arith))

@@ -5,10 +5,10 @@ use mathlib.Core.Bool.{Bool, true, false, cond, false≢true}
 use mathlib.Core.List.{List, [], ◌∷◌}
 use native.Mathlib.Numerals.{add-one}
 use native.Mathlib.Omega.{arith}
-use borrow.Author.Tests.{leb-true}
+use borrow.Author.Tests.{leb-true, leb-false}
 use lib.Dec.{leb}
 use lib.ListN.{length, get_or, set, take, drop, length-drop}
-use lib.Seq.{sets, drop-cons, length-sets}
+use lib.Seq.{sets, drop-cons}
 use Rattle.rules.proofs.Lists.{sets-out}
 use Rattle.rules.specs.Choice.{every, some}
 use Rattle.rules.specs.Paths.{span}
@@ -30,17 +30,9 @@ length_pairs [] = refl
 length_pairs (a ∷ []) = refl
 length_pairs (a ∷ b ∷ t) = omega (arith, length_pairs t)
 
--- ---- how many are read
-
-module _ (t X Y : List ℕ) (e : Y ≡ sets X 0 (pairs t)) where
-  same-room : length Y ≡ length X
-  same-room = rw (e, length-sets)
-
-  pub count-fewer : length t / 2 < length Y → length t / 2 ≡ min (length (pairs t)) (length X)
-  count-fewer h = omega (arith, length_pairs t, same-room)
-
-  pub count-full : length Y ≤ length t / 2 → length Y ≡ min (length (pairs t)) (length X)
-  count-full h = omega (arith, length_pairs t, same-room)
+-- how many are read
+pub count : (t : List ℕ) (k : ℕ) → min (length t / 2) k ≡ min (length (pairs t)) k
+count t k = rw (length_pairs t)
 
 -- ---- reading: i bytes are read
 
@@ -54,11 +46,18 @@ few (a ∷ b ∷ t) h = absurd (over h)
     over h = omega arith
 
 module _ (t X : List ℕ) (i : ℕ) {z : List ℕ} (inv : sets X i (pairs (drop (2 * i) t)) ≡ z) where
-  pub read-full : length X ≤ i → X ≡ z
+  read-full : length X ≤ i → X ≡ z
   read-full h = sym (sets-out (pairs (drop (2 * i) t)) X i h) ∙ inv
 
-  pub read_done : length t / 2 ≤ i → X ≡ z
-  read_done h = let e : length (drop (2 * i) t) ≤ 1 = omega (arith, length-drop (2 * i) t) in rw (few (drop (2 * i) t) e) at inv
+  read-all : length t / 2 ≤ i → X ≡ z
+  read-all h = let e : length (drop (2 * i) t) ≤ 1 = omega (arith, length-drop (2 * i) t) in rw (few (drop (2 * i) t) e) at inv
+
+  pub read_done : min (length t / 2) (length X) ≤ i → X ≡ z
+  read_done h = by (leb (length X) i) refl
+    where
+      by : (b : Bool) → leb (length X) i ≡ b → X ≡ z
+      by true e = read-full (leb-true (length X) i e)
+      by false e = read-all (omega (arith, leb-false (length X) i e))
 
   pub read_more : i < length t / 2 → {v : ℕ} → v ≡ (hex_value (get_or t (2 * i) 0) * 16 + hex_value (get_or t (2 * i + 1) 0)) % 256
       → sets (set X i v) (i + 1) (pairs (drop (2 * (i + 1)) t)) ≡ z

@@ -1,32 +1,22 @@
--- Laws of `span`, over the test t: one byte more, the end.
-use Prim.Native.Nat.{ℕ, suc, ◌+◌, ◌≤◌, ◌<◌}
-use mathlib.Core.Path.{◌≡◌}
-use mathlib.Core.Bool.{Bool, true, false}
-use mathlib.Core.List.{List}
-use native.Mathlib.Numerals.{add-one}
+-- `span`, over the test t, is how many the library's `take_while` gives.
+use Prim.Native.Nat.{ℕ, suc, ◌+◌}
+use mathlib.Core.Path.{◌≡◌, refl, ◌∙◌}
+use mathlib.Core.Bool.{Bool, true, false, cond}
+use mathlib.Core.List.{List, [], ◌∷◌}
 use native.Mathlib.Omega.{arith}
-use lib.ListN.{length, get_or, drop, drop_of_length-le}
-use lib.Seq.{drop-cons}
+use lib.ListN.{length, take}
+use Rattle.std.specs.List.{prefix_len}
+use Rattle.std.proofs.lemmas.List.Folds.{length-prefix_len}
 use Rattle.rules.specs.Paths.{span}
 
-module _ (t : ℕ → Bool) (p : List ℕ) (i : ℕ) {z : ℕ} (inv : i + span t (drop i p) ≡ z) where
-  module _ (l : i < length p) {b : ℕ} (q : b ≡ get_or p i 0) {r : Bool} (e : r ≡ t b) where
-    pub more : r ≡ true → i + 1 + span t (drop (i + 1) p) ≡ z
-    unfolding span
-    more h =
-        let y : t (get_or p i 0) ≡ true = rw (← q, ← e, h) in
-        let s : span t (drop i p) ≡ suc (span t (drop (i + 1) p)) = rw (add-one, drop-cons p i 0, y) in
-        omega arith
+span_prefix : (t : ℕ → Bool) (xs : List ℕ) → prefix_len t xs ≡ span t xs
+unfolding span
+span_prefix t [] = refl
+span_prefix t (x ∷ xs) = rw (span_prefix t xs) (by (t x) (span t xs))
+  where
+    by : (b : Bool) (n : ℕ) → cond b (1 + n) 0 ≡ cond b (suc n) 0
+    by true n = omega arith
+    by false n = refl
 
-    pub stop : r ≡ false → i ≡ z
-    unfolding span
-    stop h =
-        let y : t (get_or p i 0) ≡ false = rw (← q, ← e, h) in
-        let s : span t (drop i p) ≡ 0 = rw (drop-cons p i 0, y) in
-        omega arith
-
-  pub past : length p ≤ i → i ≡ z
-  unfolding span
-  past l =
-      let s : span t (drop i p) ≡ 0 = rw (drop_of_length-le p l) in
-      omega arith
+pub length-span : (t : ℕ → Bool) (xs : List ℕ) → length (take (prefix_len t xs) xs) ≡ span t xs
+length-span t xs = length-prefix_len t xs ∙ span_prefix t xs

@@ -1,81 +1,53 @@
 // Decimal numbers without leading zeros, at most 65,535.
-ghost use Rattle.std.specs.Prelude.{◌≡◌, min, ◌-◌, ◌≤◌, eqb, leb, get_or};
-ghost use Rattle.script_rules.specs.Text.{ZERO, number_of, leads, length_ok, number_ok};
+ghost use Rattle.std.specs.Prelude.{◌≡◌, ◌-◌, ◌≤◌};
+ghost use Rattle.script_rules.specs.Text.{ZERO, number_of, leads, length_ok};
+ghost use Rattle.script_text.specs.Numbers.{narrow, number_read};
 
-use tables::words::byte;
-
-pub const NUMBER_MAX: u32 = 65535;
-
-// What stands for no number: one more than the largest.
-pub const NO_NUMBER: u32 = NUMBER_MAX + 1;
+use tables::words::get_or;
 
 // What a digit stands for.
 pub fn digit_value(b: u8) -> u32
     ensures is { result ≡ b - ZERO }
     ensures small { result ≤ 255 }
 {
-    if 48 < b { (b - 48) as u32 } else { 0 }
+    b.saturating_sub(b'0') as u32
 }
 
-// The number that the digits write, `NO_NUMBER` for all that are larger.
-pub fn number_of(digits: &[u8]) -> u32
-    ensures { result ≡ min (number_of digits.now) 65536 }
+// The number that the digits write, none above 65,535.
+pub fn number_of(digits: &[u8]) -> Option<u16>
+    ensures { result ≡ narrow (number_of digits.now) }
 {
-    let mut n: u32 = 0;
-    let mut i = 0;
-    while i < digits.len() {
-        let next = n * 10 + digit_value(digits[i]);
-        if NO_NUMBER <= next {
-            return NO_NUMBER;
-        }
-        n = next;
-        i += 1;
+    let mut n: u16 = 0;
+    for b in digits {
+        n = n.checked_mul(10)?.checked_add(digit_value(*b) as u16)?;
     }
-    n
-}
-
-fn begins_with_zero(digits: &[u8]) -> bool
-    ensures { result ≡ eqb (get_or digits.now 0 0) ZERO }
-{
-    byte(digits, 0) == 48
+    Some(n)
 }
 
 // A leading zero stands alone.
+#[tactic(auto, unfolding(script_rules::specs::Text::leads, rules::specs::Choice::some))]
 fn leads_well(digits: &[u8]) -> bool
     ensures { result ≡ leads digits.now }
 {
-    let alone = digits.len() == 1;
-    if alone {
-        return true;
-    }
-    !begins_with_zero(digits)
-}
-
-fn is_small(digits: &[u8]) -> bool
-    ensures { result ≡ leb (number_of digits.now) 65535 }
-{
-    number_of(digits) <= NUMBER_MAX
+    digits.len() == 1 || get_or(digits, 0, 0) != b'0'
 }
 
 // 65,535 has five digits.
+#[tactic(auto, unfolding(script_rules::specs::Text::length_ok, rules::specs::Choice::every))]
 fn length_ok(digits: &[u8]) -> bool
     ensures { result ≡ length_ok digits.now }
 {
-    let some = 1 <= digits.len();
-    if !some {
-        return false;
-    }
-    digits.len() <= 5
+    matches!(digits.len(), 1..=5)
 }
 
-pub fn number_ok(digits: &[u8]) -> bool
-    ensures { result ≡ number_ok digits.now }
+// The number of a text, none where it is not one of a script.
+#[tactic(auto, unfolding(crate::specs::Numbers::number_read, crate::specs::Numbers::narrow, script_rules::specs::Text::number_ok, rules::specs::Choice::every))]
+pub fn read_number(digits: &[u8]) -> Option<u16>
+    ensures { result ≡ number_read digits.now }
 {
-    if !length_ok(digits) {
-        return false;
+    if length_ok(digits) && leads_well(digits) {
+        number_of(digits)
+    } else {
+        None
     }
-    if !leads_well(digits) {
-        return false;
-    }
-    is_small(digits)
 }

@@ -4,8 +4,10 @@ use mathlib.Core.Path.{◌≡◌, refl, sym, ◌∙◌, ap}
 use mathlib.Core.Bool.{Bool, true, false, cond}
 use mathlib.Core.List.{List, []}
 use native.Mathlib.Omega.{arith}
-use borrow.Author.Tests.{leb-true, leb-false, eqb-true, eqb-false}
-use lib.Dec.{eqb, leb}
+use borrow.Author.Tests.{leb-true, leb-false}
+use Rattle.std.specs.Prelude.{Option, Some, None}
+use Rattle.std.proofs.lemmas.Option.{none-some}
+use lib.Dec.{leb}
 use lib.ListN.{length, take, drop, replicate, length-take, length-replicate, take-append-drop}
 use lib.Seq.{sets, sets-eq, length-sets, length-take-le, take_all, take-append_seam}
 use native.Mathlib.Nat.{not-suc-le-zero, le_of_suc-le-suc, le_of_lt, sub-zero}
@@ -16,7 +18,7 @@ use Rattle.rules.specs.Store.{Store, Fixed, zeros}
 use Rattle.rules.specs.Written.{Written as Asked}
 use Rattle.rules.specs.Calls.{Call}
 use Rattle.rules.specs.Step.{store_after, outcome_of, into, answer_of}
-use Rattle.rules.specs.declared.decision.Decision.{Decision}
+use Rattle.rules.specs.Decisions.{Decision}
 use Rattle.rules.specs.declared.answer.Answer.{Answer}
 use Rattle.reply.specs.Answers.{Said, said}
 use Rattle.stages.specs.Judged.{judged, act_if, answered_by}
@@ -24,7 +26,6 @@ use Rattle.stages.proofs.StageLaws.{reply-answered}
 use Rattle.script_rules.specs.Answers.{answer_text}
 use Rattle.script_rules.specs.Replay.{reply_text, reads, room_for}
 use Rattle.script_output.specs.Writes.{Written, writes, written}
-use Rattle.script_output.proofs.AnswerLaws.{text-length}
 use Rattle.rules.specs.Calls.{call_of}
 use Rattle.rules.specs.declared.request.Request.{Request}
 use Rattle.script_rules.specs.Text.{bytes_of}
@@ -36,10 +37,6 @@ use Rattle.script_input.specs.declared.blocks.Numbers.{Numbers}
 use Rattle.script_text.proofs.HexLaws.{pairs-bytes}
 use Rattle.script_turn.specs.Turns.{Served, served, served_by, block_served}
 
--- no answer is empty
-pub text-some : (a : Answer) (buffer : List ℕ) → 1 ≤ length (answer_text a buffer)
-text-some a buffer = omega (arith, text-length a buffer)
-
 module _ (fit : Bool) (K : Fixed) (out : List ℕ) (at : ℕ) (s : Store) (c : Call) (d : Decision) (j : d ≡ judged fit K s c) where
   module _ (a : Answer) (b : List ℕ) (said-so : said a b ≡ answered_by K.rom s d c.buffer) where
     abbrev text : List ℕ
@@ -50,41 +47,32 @@ module _ (fit : Bool) (K : Fixed) (out : List ℕ) (at : ℕ) (s : Store) (c : C
         let p : said a b ≡ said (answer_of (outcome_of K.rom s c (into c.buffer) d).reply) (outcome_of K.rom s c (into c.buffer) d).reply.buffer = said-so ∙ reply-answered K.rom s c d in
         rw (← j, ap (λ (r : Said). r.answer) p, ap (λ (r : Said). r.buffer) p)
 
-    module _ (n : ℕ) (after : List ℕ) (w : writes n after ≡ written out at (answer_text a b)) where
-      wrote : writes n after ≡ cond (leb (length text) (length out - at)) (writes (length text) (sets out at text)) (writes 0 out)
+    module _ (n : Option ℕ) (after : List ℕ) (w : writes n after ≡ written out at (answer_text a b)) where
+      wrote : writes n after ≡ cond (leb (length text) (length out - at)) (writes (Some (length text)) (sets out at text)) (writes None out)
       unfolding written
       wrote = rw same_text at w
 
-      some : 1 ≤ length text
-      some = rw same_text at (text-some a b)
-
       -- it has no room: nothing is done
-      pub unserved : eqb n 0 ≡ true → served 0 after s ≡ served_by fit K out at s c
+      pub unserved : n ≡ None → served None after s ≡ served_by fit K out at s c
       unfolding served_by
       unserved e = by (leb (length text) (length out - at)) refl wrote
         where
-          by : (t : Bool) → leb (length text) (length out - at) ≡ t → writes n after ≡ cond t (writes (length text) (sets out at text)) (writes 0 out)
-              → served 0 after s ≡ cond (leb (length text) (length out - at)) (served (length text) (sets out at text) (act_if fit K s c).store) (served 0 out s)
-          by true q v =
-              let z : n ≡ 0 = eqb-true n 0 e in
-              let x : n ≡ length text = ap (λ (r : Written). r.length) v in
-              absurd (not-both x z some)
-            where
-              not-both : n ≡ length text → n ≡ 0 → 1 ≤ length text → ⊥
-              not-both x z h = omega arith
+          by : (t : Bool) → leb (length text) (length out - at) ≡ t → writes n after ≡ cond t (writes (Some (length text)) (sets out at text)) (writes None out)
+              → served None after s ≡ cond (leb (length text) (length out - at)) (served (Some (length text)) (sets out at text) (act_if fit K s c).store) (served None out s)
+          by true q v = absurd (none-some (length text) (sym e ∙ ap (λ (r : Written). r.length) v))
           by false q v = rw (q, ap (λ (r : Written). r.output) v)
 
-      pub serves : eqb n 0 ≡ false → {t : Store} → t ≡ store_after s c d → served n after t ≡ served_by fit K out at s c
+      pub serves : {m : ℕ} → n ≡ Some m → {t : Store} → t ≡ store_after s c d → served (Some m) after t ≡ served_by fit K out at s c
       unfolding served_by outcome_of
-      serves e {t} u = by (leb (length text) (length out - at)) refl wrote
+      serves {m} e {t} u = by (leb (length text) (length out - at)) refl wrote
         where
           done : (act_if fit K s c).store ≡ t
           done = rw (← j, u)
 
-          by : (q : Bool) → leb (length text) (length out - at) ≡ q → writes n after ≡ cond q (writes (length text) (sets out at text)) (writes 0 out)
-              → served n after t ≡ cond (leb (length text) (length out - at)) (served (length text) (sets out at text) (act_if fit K s c).store) (served 0 out s)
-          by true q v = rw (q, ap (λ (r : Written). r.output) v, ap (λ (r : Written). r.length) v, done)
-          by false q v = absurd (eqb-false n 0 e (ap (λ (r : Written). r.length) v))
+          by : (q : Bool) → leb (length text) (length out - at) ≡ q → writes n after ≡ cond q (writes (Some (length text)) (sets out at text)) (writes None out)
+              → served (Some m) after t ≡ cond (leb (length text) (length out - at)) (served (Some (length text)) (sets out at text) (act_if fit K s c).store) (served None out s)
+          by true q v = rw (q, ap (λ (r : Written). r.output) v, sym e ∙ ap (λ (r : Written). r.length) v, done)
+          by false q v = absurd (none-some m (sym (ap (λ (r : Written). r.length) v) ∙ e))
 
 -- ---- what is lent to the call
 
@@ -98,7 +86,6 @@ room-few w r e = by (reads w) (leb w.number BLOCK) refl (e ∙ refl)
     by false q h v = omega arith
 
 take-zeros : (m n : ℕ) → m ≤ n → take m (replicate n 0) ≡ zeros m
-unfolding zeros
 take-zeros zero n h = refl
 take-zeros (suc m) zero h = absurd (not-suc-le-zero h)
 take-zeros (suc m) (suc n) h = rw (take-zeros m n (le_of_suc-le-suc h))

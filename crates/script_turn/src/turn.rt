@@ -1,12 +1,11 @@
 // One block of a script: why the run stops before it, or its call made and its answer written. `fit` is what the soundness test said.
 ghost use Rattle.std.specs.Prelude.{◌≡◌, ◌-◌, length};
 ghost use Rattle.rules.specs.Store.{fixed, store};
-ghost use Rattle.rules.specs.Calls.{call_of};
+ghost use Rattle.tables.specs.Tables.{asked};
 ghost use Rattle.script_rules.specs.Blocks.{after_line};
 ghost use Rattle.script_rules.specs.declared.line.Line.TheVariants as line;
 ghost use Rattle.script_turn.specs.Turns.{served, served_by, block_served, turned, block_turn, turn_of};
 
-use rules::request::Request;
 use script_input::blocks::{Numbers, block_ok, from_path, read_numbers};
 use script_input::requests::{request_for, room_for};
 use script_output::answers::write_answer;
@@ -16,16 +15,17 @@ use script_text::hex::read_bytes;
 use script_text::lines::{after_line, text};
 use stages::call::{answer, carry, judge};
 use tables::layout::BLOCK;
+use tables::lent::{Call, Tables};
 use tables::parts::upto;
 
-// The run stops; or a call is answered: the bytes of its block, and of its answer.
+// A call is answered: the bytes of its block, and of its answer.
 #[derive(Clone, Copy)]
-pub enum Turn {
-    Stopped(Reason),
-    Answered(usize, usize),
+pub struct Answered {
+    pub size: usize,
+    pub length: usize,
 }
 
-// A call is made if its answer has room. The answer's length, 0 where it has none.
+// A call is made if its answer has room. The answer's length, none where it has no room.
 fn serve(
     fit: bool,
     files: &mut [u32],
@@ -34,26 +34,26 @@ fn serve(
     processes: &mut [u32],
     policy: &[u8],
     rom: &[u8],
-    c: Request,
-    path: &[u8],
-    data: &[u8],
+    call: &Call,
     buffer: &mut [u8],
     output: &mut [u8],
     at: usize,
-) -> usize
-    ensures { served result output.new (store files.new contents.new open_files.new processes.new) ≡ served_by fit (fixed policy.now rom.now) output.old at (store files.old contents.old open_files.old processes.old) (call_of c path.now «data».now buffer.old) }
+) -> Option<usize>
+    ensures { served result output.new (store files.new contents.new open_files.new processes.new) ≡ served_by fit (fixed policy.now rom.now) output.old at (store files.old contents.old open_files.old processes.old) (asked call.now buffer.old) }
 {
-    let d = judge(
-        fit, files, contents, open_files, processes, policy, rom, c, path, data, buffer,
-    );
-    let a = answer(files, contents, open_files, processes, rom, buffer, d);
-    let n = write_answer(output, at, a, buffer);
-    let full = n == 0;
-    if full {
-        return 0;
-    }
-    carry(files, contents, open_files, processes, c, path, data, d);
-    n
+    let t = Tables {
+        files: files,
+        contents: contents,
+        open_files: open_files,
+        processes: processes,
+        policy: policy,
+        rom: rom,
+    };
+    let d = judge(fit, &t, call, buffer);
+    let a = answer(files, contents, rom, buffer, d);
+    let n = write_answer(output, at, a, buffer)?;
+    carry(files, contents, open_files, processes, call, d);
+    Some(n)
 }
 
 // The call of an unbroken block: of its numbers, its path's line on, its data's line on.
@@ -70,13 +70,18 @@ fn serve_block(
     d: &[u8],
     output: &mut [u8],
     at: usize,
-) -> usize
+) -> Option<usize>
     ensures { served result output.new (store files.new contents.new open_files.new processes.new) ≡ block_served fit (fixed policy.now rom.now) n p.now d.now output.old at (store files.old contents.old open_files.old processes.old) }
 {
     let mut data = [0u8; BLOCK + 1];
     let count = read_bytes(text(d, Line::Data), &mut data);
     let mut buffer = [0u8; BLOCK];
     let size = room_for(n);
+    let call = Call {
+        request: request_for(n),
+        path: text(p, Line::Path),
+        data: upto(&data, count),
+    };
     serve(
         fit,
         files,
@@ -85,30 +90,18 @@ fn serve_block(
         processes,
         policy,
         rom,
-        request_for(n),
-        text(p, Line::Path),
-        upto(&data, count),
+        &call,
         &mut buffer[0..size],
         output,
         at,
     )
 }
 
-fn minus(a: usize, b: usize) -> usize
-    ensures { result ≡ a - b }
-{
-    if b < a {
-        return a - b;
-    }
-    0
-}
-
 // How many bytes the block has that s begins with and whose data's line d begins with.
 fn block_size(s: &[u8], d: &[u8]) -> usize
     ensures { result ≡ length s.now - length (after_line line.Data d.now) }
 {
-    let after = after_line(d, Line::Data);
-    minus(s.len(), after.len())
+    s.len().saturating_sub(after_line(d, Line::Data).len())
 }
 
 fn take_block(
@@ -125,21 +118,18 @@ fn take_block(
     d: &[u8],
     output: &mut [u8],
     at: usize,
-) -> Turn
+) -> Result<Answered, Reason>
     ensures { turned result output.new (store files.new contents.new open_files.new processes.new) ≡ block_turn fit (fixed policy.now rom.now) s.now n p.now d.now output.old at (store files.old contents.old open_files.old processes.old) }
 {
     if !block_ok(n, p, d) {
-        return Turn::Stopped(Reason::Broken);
+        return Err(Reason::Broken);
     }
     let size = block_size(s, d);
     let length = serve_block(
         fit, files, contents, open_files, processes, policy, rom, n, p, d, output, at,
-    );
-    let full = length == 0;
-    if full {
-        return Turn::Stopped(Reason::Room);
-    }
-    Turn::Answered(size, length)
+    )
+    .ok_or(Reason::Room)?;
+    Ok(Answered { size, length })
 }
 
 // s is what is left of the script, and n how many calls are still allowed.
@@ -155,32 +145,19 @@ pub fn take_turn(
     n: u32,
     output: &mut [u8],
     at: usize,
-) -> Turn
+) -> Result<Answered, Reason>
     ensures { turned result output.new (store files.new contents.new open_files.new processes.new) ≡ turn_of fit n (fixed policy.now rom.now) s.now output.old at (store files.old contents.old open_files.old processes.old) }
 {
-    let ended = s.len() == 0;
-    if ended {
-        return Turn::Stopped(Reason::End);
+    if s.is_empty() {
+        return Err(Reason::End);
     }
-    let spent = n == 0;
-    if spent {
-        return Turn::Stopped(Reason::Allowance);
+    if n == 0 {
+        return Err(Reason::Allowance);
     }
+    let numbers = read_numbers(s).ok_or(Reason::Broken)?;
     let p = from_path(s);
     let d = after_line(p, Line::Path);
     take_block(
-        fit,
-        files,
-        contents,
-        open_files,
-        processes,
-        policy,
-        rom,
-        s,
-        read_numbers(s),
-        p,
-        d,
-        output,
-        at,
+        fit, files, contents, open_files, processes, policy, rom, s, numbers, p, d, output, at,
     )
 }

@@ -14,7 +14,7 @@ use Rattle.rules.specs.Refusals.{GRANTED}
 use Rattle.rules.specs.Sound.{sound, store_sound, slots_sized, sizes_sound, tables_sound, opens_within, policy_sound}
 use Rattle.rules.specs.Step.{Outcome, fields_out, refused_reply, reply_to, store_after, outcome_of, into, act, step, handed, read_of, act_borrow, step_borrow, Action, Calls, Borrows, serve}
 use Rattle.rules.specs.declared.refusal.Refusal.TheVariants.{Unsound}
-use Rattle.rules.specs.declared.decision.Decision.{Decision}
+use Rattle.rules.specs.Decisions.{Decision}
 use Rattle.rules.proofs.Passed.{Fit, granting, refusing}
 use Rattle.secrecy.specs.Claim.{may_read}
 use Rattle.secrecy.proofs.Tables.{Own}

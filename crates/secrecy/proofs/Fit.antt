@@ -26,7 +26,7 @@ use Rattle.rules.specs.declared.request.Operation.{Operation}
 use Rattle.rules.specs.declared.decision.Location.{Location}
 use Rattle.rules.specs.declared.decision.Intent.{Intent}
 use Rattle.rules.specs.declared.decision.Intent.TheVariants.{Find, Follow, Create}
-use Rattle.rules.specs.declared.decision.Walk.TheVariants.{Reached}
+use Rattle.rules.specs.Decisions.{Reached}
 use Rattle.rules.specs.declared.decision.Record.{Record}
 use Rattle.rules.specs.declared.decision.DirChange.{DirChange}
 use Rattle.rules.specs.declared.decision.NewOpen.{NewOpen}

@@ -8,6 +8,7 @@ use native.Mathlib.Omega.{arith}
 use borrow.Author.Tests.{eqb-true}
 use lib.Dec.{eqb}
 use lib.ListN.{take, drop}
+use Rattle.std.specs.Prelude.{Some, None}
 use Rattle.rules.specs.Layout.{SLOTS, DESCRIPTORS, LABELS, FILE_WIDTH, FILE_KIND, FILE_BITS, FILE_LABEL, FILE_LENGTH, FILE_LINKS, FILE_VERSION, FREE, PLAIN, DIRECTORY, LINK, PROCESS_LABEL}
 use Rattle.rules.specs.Rights.{READ, label_grants, moved}
 use Rattle.rules.specs.Store.{Store, Fixed, View, view, tab, is_slot, subject_of, words, clear_to, fd_of}
@@ -30,8 +31,7 @@ use Rattle.rules.specs.declared.decision.Unnamed.{Unnamed}
 use Rattle.rules.specs.declared.decision.Unnamed.TheVariants as unnamed
 use Rattle.rules.specs.declared.decision.Release.{Release}
 use Rattle.rules.specs.declared.decision.Release.TheVariants as release
-use Rattle.rules.specs.declared.decision.Share.{Share}
-use Rattle.rules.specs.declared.decision.Share.TheVariants as share
+use Rattle.rules.specs.Decisions.{Share}
 use Rattle.rules.specs.declared.decision.Output.{Output}
 use Rattle.rules.specs.declared.decision.Effect.{Effect}
 use Rattle.rules.proofs.Seen.{seen_stored}
@@ -63,8 +63,8 @@ module _ (reach : ℕ → Type 0) (f n : ℕ) where
 
   share-keep : (L : ℕ) (q : Pid) (i : Fd) (x : Share) → i.0 < DESCRIPTORS → KeepsAll reach f n L (share_changes q i x)
   unfolding share_changes KeepsAll Keeps
-  share-keep L q i share.Nothing h = (h, tt)
-  share-keep L q i (share.Held e refs) h = (h, (tt, tt))
+  share-keep L q i None h = (h, tt)
+  share-keep L q i (Some s) h = (h, (tt, tt))
 
   released-keep : (L : ℕ) (p : Pid) (i : ℕ) → i < DESCRIPTORS → (s s' : Store) → Related reach f n L s s' → Related reach f n L (released p i s) (released p i s')
   unfolding released

@@ -118,5 +118,4 @@ module _ (reach : ℕ → Type 0) (P : List ℕ) (old : Labels reach P) (p : ℕ
   labels-own ws w new = rw puts-sets (labels-sets ws (omega arith) (omega arith) new)
 
   pub labels-zero : Labels reach (sets P (PROCESS_WIDTH * p + 0) (zeros PROCESS_WIDTH))
-  unfolding zeros
   labels-zero = labels-sets (zeros PROCESS_WIDTH) (omega (arith, length-zeros PROCESS_WIDTH)) (omega (arith, length-zeros PROCESS_WIDTH)) (λ z. absurd (omega arith))

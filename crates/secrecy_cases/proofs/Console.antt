@@ -82,9 +82,13 @@ front-size : length front ≡ 1536
 unfolding front computing
 front-size = refl
 
+-- of blanks that stay unknown: known zeros would all be written out
+cut-by : (blanks : ℕ → List ℕ) (x y z k : List ℕ) (n : ℕ) → length k ≡ 4 → x ++ y ++ z ++ (k ++ blanks (BLOCK - length k)) ++ blanks n ≡ x ++ (y ++ z) ++ (k ++ (blanks 508 ++ blanks n))
+cut-by blanks x y z k n e = simp (e, append_assoc)
+
 cut-key : (k : List ℕ) → length k ≡ 4 → console_contents k ≡ front ++ (k ++ back)
 unfolding front back
-cut-key k e = simp (e, append_assoc)
+cut-key k e = cut-by zeros (filled BLOCK (dirent FARES (slot 1) ++ dirent KEY (slot 3))) (filled BLOCK (dirent NOW (slot 2))) (filled BLOCK (50 ∷ 46 ∷ 52 ∷ 48 ∷ 10 ∷ [])) k ((SLOTS - 4) * BLOCK) e
 
 console-agree : (k k' : List ℕ) → length k ≡ 4 → length k' ≡ 4 → Agree 1536 1540 (console_contents k) (console_contents k')
 console-agree k k' e e' = rw (cut-key k e, cut-key k' e') (rw (front-size, e) at (agree-middle front k k' back (e ∙ sym e')))

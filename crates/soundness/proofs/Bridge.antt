@@ -1,5 +1,5 @@
 -- The tests with what was counted are the rules' tests.
-use mathlib.Core.Path.{◌≡◌, refl, ◌∙◌, sym}
+use mathlib.Core.Path.{◌≡◌, refl, ◌∙◌}
 use mathlib.Core.Bool.{Bool, true, false, cond}
 use mathlib.Core.List.{List, []}
 use Prim.Native.Nat.{ℕ, zero, suc, ◌+◌, ◌≤◌, ◌<◌}
@@ -74,20 +74,21 @@ pub no_name : (name : List ℕ) (r : Bool) → r ≡ same_name name [] → r ≡
 unfolding same_name same_at is_padding
 no_name name r q = q ∙ all_same (same_at name []) (is_padding name) NAME (λ j a. refl)
 
-pub empty-new : (D : List ℕ) (i : ℕ) (r : Bool) → r ≡ is_empty D i → r ≡ true → true ≡ is_new D i
-unfolding is_new differs some
-empty-new D i r q e = sym (all_of (differs D i) 0 i (λ j a b. rw (sym q ∙ e)))
-
-pub named_new : (D : List ℕ) (i : ℕ) (r z : Bool) → r ≡ is_empty D i → r ≡ false → z ≡ all (other_than D i) 0 i → z ≡ is_new D i
+-- an empty entry differs from all
+pub new_by : (D : List ℕ) (i : ℕ) → is_new D i ≡ cond (is_empty D i) true (all (other_than D i) 0 i)
 unfolding is_new differs other_than some
-named_new D i r z q e v = v ∙ all_same (other_than D i) (differs D i) i (λ j a. rw (sym q ∙ e))
+new_by D i = by (is_empty D i) refl
+  where
+    by : (b : Bool) → is_empty D i ≡ b → all (differs D i) 0 i ≡ cond b true (all (other_than D i) 0 i)
+    by true q = all_of (differs D i) 0 i (λ j a b. rw q)
+    by false q = all_same (differs D i) (other_than D i) i (λ j a. rw q)
 
 -- ---- the number after the last prompt's
 
 pub end_fits : (R : List ℕ) (z : ℕ) → z ≡ prompt_count PROMPTS R → Fits w32 (SLOTS + z)
 end_fits R z e = record { fits = omega (arith, count_most PROMPTS R, e) }
 
-pub within_by : (R : List ℕ) (open_files : Table) (end : ℕ) (r : Bool) → end ≡ SLOTS + prompt_count PROMPTS R → r ≡ all (open_below open_files end) 0 OPEN_FILES
+pub within_by : (R : List ℕ) (open_files : Table) (z : ℕ) (r : Bool) → z ≡ prompt_count PROMPTS R → r ≡ all (open_below open_files (SLOTS + z)) 0 OPEN_FILES
     → r ≡ opens_within R open_files
 unfolding opens_within open_within open_below
-within_by R open_files end r a e = rw a at e
+within_by R open_files z r a e = rw a at e

@@ -1,10 +1,9 @@
--- The way up, one step at a time.
+-- The way up, one step at a time: i of n steps are taken.
 use mathlib.Core.Path.{◌≡◌}
 use mathlib.Core.Bool.{Bool, true}
 use mathlib.Core.List.{List}
-use Prim.Native.Nat.{ℕ, zero, suc, ◌-◌, ◌≤◌, ◌<◌}
-use native.Mathlib.Nat.{not-suc-le-zero}
-use native.Mathlib.Numerals.{sub-one}
+use Prim.Native.Nat.{ℕ, suc, ◌+◌, ◌-◌, ◌≤◌, ◌<◌}
+use native.Mathlib.Omega.{arith}
 use lib.Dec.{eqb}
 use lib.ListN.{get_or}
 use borrow.Author.Tests.{eq-eqb, ne_eqb}
@@ -12,18 +11,23 @@ use Rattle.soundness.specs.Counted.{climbs_by}
 use Rattle.rules.specs.Store.{slot}
 use Rattle.rules.specs.declared.ids.Slot.{Slot}
 
-module _ (P : List ℕ) where
-  pub climb-top : (n d : ℕ) {z : Bool} → climbs_by P n d ≡ z → 0 < n → d ≡ 0 → true ≡ z
+module _ (P : List ℕ) (n i d : ℕ) where
+  pub climb-top : {z : Bool} → climbs_by P (n - i) d ≡ z → i < n → d ≡ 0 → true ≡ z
   unfolding climbs_by
-  climb-top zero d v h e = absurd (not-suc-le-zero h)
-  climb-top (suc n) d v h e = rw (eq-eqb d 0 e) at v
+  climb-top v h e =
+      let s : n - i ≡ suc (n - (i + 1)) = omega arith in
+      let w = rw s at v in
+      rw (eq-eqb d 0 e) at w
 
-  pub climb-on : (n d : ℕ) {z : Bool} → climbs_by P n d ≡ z → 0 < n → (d ≡ 0 → ⊥) → (r : Slot) → r ≡ slot (get_or P d 0) → climbs_by P (n - 1) r.0 ≡ z
+  pub climb-on : {z : Bool} → climbs_by P (n - i) d ≡ z → i < n → (d ≡ 0 → ⊥) → (r : Slot) → r ≡ slot (get_or P d 0) → climbs_by P (n - (i + 1)) r.0 ≡ z
   unfolding climbs_by
-  climb-on zero d v h e r q = absurd (not-suc-le-zero h)
-  climb-on (suc n) d v h e r q = rw (sub-one, q) (rw (ne_eqb d 0 e) at v)
+  climb-on v h e r q =
+      let s : n - i ≡ suc (n - (i + 1)) = omega arith in
+      let w = rw s at v in
+      rw q (rw (ne_eqb d 0 e) at w)
 
-  pub climb-end : (n d : ℕ) {z : Bool} → climbs_by P n d ≡ z → n ≤ 0 → eqb d 0 ≡ z
+  pub climb-end : {z : Bool} → climbs_by P (n - i) d ≡ z → n ≤ i → eqb d 0 ≡ z
   unfolding climbs_by
-  climb-end zero d v h = v
-  climb-end (suc n) d v h = absurd (not-suc-le-zero h)
+  climb-end v h =
+      let s : n - i ≡ 0 = omega arith in
+      rw s at v

@@ -4,7 +4,7 @@ use mathlib.Core.Bool.{Bool, true, false, cond, not}
 use mathlib.Core.List.{List, []}
 use Prim.Native.Nat.{ℕ, zero, suc, ◌+◌, ◌-◌, ◌*◌, ◌≤◌, ◌<◌}
 use native.Mathlib.Omega.{arith}
-use borrow.Author.Tests.{not-true, not-false, lt-ltb, le-ltb}
+use borrow.Author.Tests.{lt-ltb, le-ltb}
 use lib.Dec.{eqb, ltb}
 use lib.ListN.{get_or}
 use lib.Seq.{get_or-drop}
@@ -28,17 +28,14 @@ use Rattle.soundness.proofs.Bridge.{no_name}
 
 -- ---- the empty name has the words 0
 
-pub low-used : (n : Name) (low : ℕ) → low ≡ low_word n → not (eqb low 0) ≡ true → false ≡ all (is_padding n) 0 NAME
-unfolding low_word
-low-used n low p e = no_name n false (low-apart n [] 0 (eqb low 0) refl (rw p) (not-true (eqb low 0) e))
-
-pub high-decides : (n : Name) → ((k : ℕ) → get_or n k 0 < 256) → (low high : ℕ) → low ≡ low_word n → not (eqb low 0) ≡ false → high ≡ high_word n → eqb high 0 ≡ all (is_padding n) 0 NAME
+pub padding_by : (n : Name) → ((k : ℕ) → get_or n k 0 < 256) → all (is_padding n) 0 NAME ≡ cond (eqb (low_word n) 0) (eqb (high_word n) 0) false
 unfolding low_word high_word
-high-decides n bytes low high p e q = by (eqb high 0) refl
+padding_by n bytes = by (eqb (low_word n) 0) (eqb (high_word n) 0) refl refl
   where
-    by : (t : Bool) → eqb high 0 ≡ t → t ≡ all (is_padding n) 0 NAME
-    by true f = no_name n true (word_same n [] bytes (λ k. omega arith) 0 0 (eqb low 0) (eqb high 0) refl refl (rw p) (not-false (eqb low 0) e) (rw q) f)
-    by false f = no_name n false (high-apart n [] 0 (eqb high 0) refl (rw q) f)
+    by : (s t : Bool) → eqb (low_word n) 0 ≡ s → eqb (high_word n) 0 ≡ t → all (is_padding n) 0 NAME ≡ cond s t false
+    by false t e f = sym (no_name n false (low-apart n [] 0 (eqb (low_word n) 0) refl refl e))
+    by true true e f = sym (no_name n true (word_same n [] bytes (λ k. omega arith) 0 0 (eqb (low_word n) 0) (eqb (high_word n) 0) refl refl refl e refl f))
+    by true false e f = sym (no_name n false (high-apart n [] 0 (eqb (high_word n) 0) refl refl f))
 
 -- ---- an entry with the words of another has its name
 

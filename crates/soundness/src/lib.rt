@@ -3,7 +3,6 @@
 
 mod bytes;
 mod dirents;
-mod fields;
 mod files;
 mod links;
 mod open_files;

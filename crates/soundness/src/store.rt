@@ -1,9 +1,8 @@
 // The whole test.
-ghost use Rattle.std.specs.Prelude.{◌≡◌, [], ◌∷◌};
-ghost use Rattle.rules.specs.Choice.{every};
-ghost use Rattle.rules.specs.Layout.{OPEN_FILE_WIDTH};
-ghost use Rattle.rules.specs.Store.{fixed, view, store, tree, tab, shown_of};
-ghost use Rattle.rules.specs.Sound.{slots_sized, sizes_sound, rom_absent, tree_sound, tables_sound, opens_within, store_sound, sound};
+ghost use Rattle.std.specs.Prelude.{◌≡◌};
+ghost use Rattle.rules.specs.Store.{view};
+ghost use Rattle.tables.specs.Tables.{store_in, fixed_in, open_in, stored_tree};
+ghost use Rattle.rules.specs.Sound.{sizes_sound, tree_sound, tables_sound, store_sound, sound};
 
 use crate::dirents::rom_absent;
 use crate::open_files::{open_files_sound, opens_within};
@@ -14,110 +13,48 @@ use rom::part::rom_sound;
 use rules::ids::Slot;
 use tables::files::{is_directory, shown};
 use tables::layout::{CONTENTS_SIZE, FILES_SIZE, OPEN_FILES_SIZE, PROCESSES_SIZE};
+use tables::lent::Tables;
 
-// A record and a block for each slot.
-fn slots_sized(files: &[u32], contents: &[u8]) -> bool
-    ensures { result ≡ slots_sized (store files.now contents.now [] []) }
+// A record and a block for each slot, and the other tables: "lent tables of another size are 1".
+#[tactic(auto, unfolding(rules::specs::Sound::sizes_sound, rules::specs::Sound::slots_sized, rules::specs::Choice::every))]
+fn sizes_sound(t: &Tables) -> bool
+    ensures { result ≡ sizes_sound (store_in t.now) }
 {
-    let files_sized = files.len() == FILES_SIZE;
-    if !files_sized {
-        return false;
-    }
-    contents.len() == CONTENTS_SIZE
+    t.files.len() == FILES_SIZE
+        && t.contents.len() == CONTENTS_SIZE
+        && t.open_files.len() == OPEN_FILES_SIZE
+        && t.processes.len() == PROCESSES_SIZE
 }
 
-// "Lent tables of another size are 1".
-fn sizes_sound(files: &[u32], contents: &[u8], open_files: &[u32], processes: &[u32]) -> bool
-    ensures { result ≡ sizes_sound (store files.now contents.now open_files.now processes.now) }
+// The root is a directory without the reserved name "rom", and every slot is sound.
+#[tactic(auto, unfolding(rules::specs::Sound::tree_sound, rules::specs::Choice::every))]
+fn tree_sound(t: &Tables) -> bool
+    ensures { result ≡ tree_sound (stored_tree t.now) (open_in t.now) }
 {
-    if !slots_sized(files, contents) {
-        return false;
-    }
-    let open_files_sized = open_files.len() == OPEN_FILES_SIZE;
-    if !open_files_sized {
-        return false;
-    }
-    processes.len() == PROCESSES_SIZE
+    is_directory(t.files, Slot(0))
+        && rom_absent(shown(t.files, t.contents, Slot(0)))
+        && slots_sound(t)
 }
 
-// "rom" in the root is reserved.
-fn root_without_rom(files: &[u32], contents: &[u8]) -> bool
-    ensures { result ≡ rom_absent (shown_of files.now contents.now 0) }
+#[tactic(auto, unfolding(rules::specs::Sound::tables_sound, rules::specs::Choice::every))]
+fn tables_sound(t: &Tables) -> bool
+    ensures { result ≡ tables_sound (view (store_in t.now)) }
 {
-    rom_absent(shown(files, contents, Slot(0)))
+    tree_sound(t)
+        && open_files_sound(t.files, t.open_files, t.processes)
+        && processes_sound(t.processes)
 }
 
-// The root is a directory without that name, and every slot is sound.
-fn tree_sound(files: &[u32], contents: &[u8], open_files: &[u32]) -> bool
-    ensures { result ≡ tree_sound (tree files.now contents.now) (tab OPEN_FILE_WIDTH open_files.now) }
+#[tactic(auto, unfolding(rules::specs::Sound::store_sound, rules::specs::Choice::every))]
+pub fn store_sound(t: &Tables) -> bool
+    ensures { result ≡ store_sound t.now.rom.now (store_in t.now) }
 {
-    if !is_directory(files, Slot(0)) {
-        return false;
-    }
-    if !root_without_rom(files, contents) {
-        return false;
-    }
-    slots_sound(files, contents, open_files)
+    sizes_sound(t) && tables_sound(t) && opens_within(t.open_files, t.rom)
 }
 
-fn tables_sound(files: &[u32], contents: &[u8], open_files: &[u32], processes: &[u32]) -> bool
-    ensures { result ≡ tables_sound (view (store files.now contents.now open_files.now processes.now)) }
+#[tactic(auto, unfolding(rules::specs::Sound::sound, rules::specs::Choice::every))]
+pub fn sound(t: &Tables) -> bool
+    ensures { result ≡ sound (fixed_in t.now) (store_in t.now) }
 {
-    if !tree_sound(files, contents, open_files) {
-        return false;
-    }
-    if !open_files_sound(files, open_files, processes) {
-        return false;
-    }
-    processes_sound(processes)
-}
-
-// Of tables of the right sizes.
-fn sized_sound(
-    files: &[u32],
-    contents: &[u8],
-    open_files: &[u32],
-    processes: &[u32],
-    rom: &[u8],
-) -> bool
-    ensures { result ≡ every (tables_sound (view (store files.now contents.now open_files.now processes.now)) ∷ opens_within rom.now (tab OPEN_FILE_WIDTH open_files.now) ∷ []) }
-{
-    if !tables_sound(files, contents, open_files, processes) {
-        return false;
-    }
-    opens_within(open_files, rom)
-}
-
-pub fn store_sound(
-    files: &[u32],
-    contents: &[u8],
-    open_files: &[u32],
-    processes: &[u32],
-    rom: &[u8],
-) -> bool
-    ensures { result ≡ store_sound rom.now (store files.now contents.now open_files.now processes.now) }
-{
-    if sizes_sound(files, contents, open_files, processes) {
-        return sized_sound(files, contents, open_files, processes, rom);
-    }
-    false
-}
-
-pub fn sound(
-    files: &[u32],
-    contents: &[u8],
-    open_files: &[u32],
-    processes: &[u32],
-    policy: &[u8],
-    rom: &[u8],
-) -> bool
-    ensures { result ≡ sound (fixed policy.now rom.now) (store files.now contents.now open_files.now processes.now) }
-{
-    if !policy_sound(policy) {
-        return false;
-    }
-    if !rom_sound(rom) {
-        return false;
-    }
-    store_sound(files, contents, open_files, processes, rom)
+    policy_sound(t.policy) && rom_sound(t.rom) && store_sound(t)
 }

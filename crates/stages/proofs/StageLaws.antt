@@ -3,12 +3,12 @@ use mathlib.Core.Path.{◌≡◌, refl}
 use mathlib.Core.Bool.{Bool, true, false}
 use mathlib.Core.List.{List}
 use Prim.Native.Nat.{ℕ}
+use Rattle.std.specs.Prelude.{Ok, Err}
 use Rattle.rules.specs.Store.{Store, Fixed}
 use Rattle.rules.specs.Sound.{sound}
 use Rattle.rules.specs.Calls.{Call}
 use Rattle.rules.specs.Step.{reply_to, store_after, outcome_of, into, act, step, answer_of}
-use Rattle.rules.specs.declared.decision.Decision.{Decision}
-use Rattle.rules.specs.declared.decision.Decision.TheVariants.{Refused, Granted}
+use Rattle.rules.specs.Decisions.{Decision}
 use Rattle.reply.specs.Answers.{said, said_of}
 use Rattle.stages.specs.Judged.{judged, act_if, answered_by}
 
@@ -23,5 +23,5 @@ step-judged K s c = by (sound K s) refl
 
 pub reply-answered : (R : List ℕ) (s : Store) (c : Call) (d : Decision) → answered_by R s d c.buffer ≡ said (answer_of (outcome_of R s c (into c.buffer) d).reply) (outcome_of R s c (into c.buffer) d).reply.buffer
 unfolding answered_by said_of outcome_of reply_to
-reply-answered R s c (Refused r k) = refl
-reply-answered R s c (Granted n o e) = refl
+reply-answered R s c (Err stop) = refl
+reply-answered R s c (Ok grant) = refl

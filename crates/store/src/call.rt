@@ -1,16 +1,16 @@
 // A call: the soundness test, the decision, and what it does.
 ghost use Rattle.std.specs.Prelude.{◌≡◌};
 ghost use Rattle.rules.specs.Store.{fixed, store};
-ghost use Rattle.rules.specs.Step.{outcome_of, into, act, step};
-ghost use Rattle.rules.specs.Calls.{call_of};
+ghost use Rattle.rules.specs.Step.{act, step, outcome_of, into};
 ghost use Rattle.store.specs.Lent.{lent, lent_of};
+ghost use Rattle.tables.specs.Tables.{asked};
 
 use apply::carry::carry_out;
 use reply::answer::{refused_answer, say};
 use rules::answer::Answer;
-use rules::decision::Decision;
+use rules::decision::{Decision, Stop};
 use rules::refusal::Refusal;
-use rules::request::Request;
+use tables::lent::{Call, Tables};
 
 // What a decision is answered, and what it does.
 pub fn settle(
@@ -19,21 +19,17 @@ pub fn settle(
     open_files: &mut [u32],
     processes: &mut [u32],
     rom: &[u8],
-    c: Request,
-    path: &[u8],
-    data: &[u8],
+    call: &Call,
     buffer: &mut [u8],
     d: Decision,
 ) -> Answer
-    ensures { lent result buffer.new (store files.new contents.new open_files.new processes.new) ≡ lent_of (outcome_of rom.now (store files.old contents.old open_files.old processes.old) (call_of c path.now «data».now buffer.old) (into buffer.old) d) }
+    ensures { lent result buffer.new (store files.new contents.new open_files.new processes.new) ≡ lent_of (outcome_of rom.now (store files.old contents.old open_files.old processes.old) (asked call.now buffer.old) (into buffer.old) d) }
 {
     match d {
-        Decision::Refused(why, stop) => refused_answer(why, stop),
-        Decision::Granted(value, o, e) => {
-            let a = say(
-                files, contents, open_files, processes, rom, buffer, value, o,
-            );
-            carry_out(files, contents, open_files, processes, c, path, data, e);
+        Err(stop) => refused_answer(stop),
+        Ok(grant) => {
+            let a = say(files, contents, rom, buffer, grant.value, grant.output);
+            carry_out(files, contents, open_files, processes, call, grant.effect);
             a
         }
     }
@@ -47,19 +43,21 @@ pub fn act(
     processes: &mut [u32],
     policy: &[u8],
     rom: &[u8],
-    c: Request,
-    path: &[u8],
-    data: &[u8],
+    call: &Call,
     buffer: &mut [u8],
 ) -> Answer
-    ensures { lent result buffer.new (store files.new contents.new open_files.new processes.new) ≡ lent_of (act (fixed policy.now rom.now) (store files.old contents.old open_files.old processes.old) (call_of c path.now «data».now buffer.old)) }
+    ensures { lent result buffer.new (store files.new contents.new open_files.new processes.new) ≡ lent_of (act (fixed policy.now rom.now) (store files.old contents.old open_files.old processes.old) (asked call.now buffer.old)) }
 {
-    let d = decision::decide::decide_call(
-        files, contents, open_files, processes, policy, rom, c, path, data, buffer,
-    );
-    settle(
-        files, contents, open_files, processes, rom, c, path, data, buffer, d,
-    )
+    let t = Tables {
+        files: files,
+        contents: contents,
+        open_files: open_files,
+        processes: processes,
+        policy: policy,
+        rom: rom,
+    };
+    let d = decision::decide::decide_call(&t, call, buffer);
+    settle(files, contents, open_files, processes, rom, call, buffer, d)
 }
 
 // A call: refused with 1 where the tables, the policy or the factory part are not sound.
@@ -70,17 +68,23 @@ pub fn call(
     processes: &mut [u32],
     policy: &[u8],
     rom: &[u8],
-    c: Request,
-    path: &[u8],
-    data: &[u8],
+    call: &Call,
     buffer: &mut [u8],
 ) -> Answer
-    ensures { lent result buffer.new (store files.new contents.new open_files.new processes.new) ≡ lent_of (step (fixed policy.now rom.now) (store files.old contents.old open_files.old processes.old) (call_of c path.now «data».now buffer.old)) }
+    ensures { lent result buffer.new (store files.new contents.new open_files.new processes.new) ≡ lent_of (step (fixed policy.now rom.now) (store files.old contents.old open_files.old processes.old) (asked call.now buffer.old)) }
 {
-    if !soundness::store::sound(files, contents, open_files, processes, policy, rom) {
-        return refused_answer(Refusal::Unsound, 0);
+    let t = Tables {
+        files: files,
+        contents: contents,
+        open_files: open_files,
+        processes: processes,
+        policy: policy,
+        rom: rom,
+    };
+    if !soundness::store::sound(&t) {
+        return refused_answer(Refusal::Unsound.into());
     }
     act(
-        files, contents, open_files, processes, policy, rom, c, path, data, buffer,
+        files, contents, open_files, processes, policy, rom, call, buffer,
     )
 }

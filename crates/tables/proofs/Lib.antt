@@ -1,1 +1,2 @@
 pub mod SameWords
+pub mod Clipped

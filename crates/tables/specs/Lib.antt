@@ -1,1 +1,2 @@
 pub mod NameWords
+pub mod Tables

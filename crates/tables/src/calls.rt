@@ -6,6 +6,7 @@ use crate::layout::{BLOCK, PATH};
 use rules::request::{Operation, Parts};
 
 // Which call a number names.
+#[tactic(auto, unfolding(rules::specs::Calls::operation_of))]
 pub fn operation_of(call: u8) -> Operation
     ensures { result ≡ operation_of call }
 {
@@ -60,6 +61,7 @@ fn reading(u: Parts) -> Parts
 }
 
 // Which parts a call uses.
+#[tactic(auto, unfolding(rules::specs::Calls::uses))]
 pub fn uses(o: Operation) -> Parts
     ensures { result ≡ uses o }
 {

@@ -7,7 +7,7 @@ ghost use Rattle.tables.specs.NameWords.{low_word, high_word};
 use crate::layout::{DIRENT_WIDTH, NAME};
 use crate::name_words::{high_word, low_word};
 use crate::parts::after;
-use crate::words::byte;
+use crate::words::get_or;
 use rules::ids::{Dirent, Slot};
 
 // Entry i from its first byte on.
@@ -21,7 +21,7 @@ pub fn dirent_at(dir: &[u8], i: Dirent) -> &[u8]
 pub fn dirent_slot(dir: &[u8], i: Dirent) -> Slot
     ensures { result ≡ slot (dirent_slot dir.now i.0) }
 {
-    Slot(byte(dirent_at(dir, i), NAME) as u32)
+    Slot(get_or(dirent_at(dir, i), NAME, 0) as u32)
 }
 
 pub fn is_empty(dir: &[u8], i: Dirent) -> bool
@@ -34,7 +34,7 @@ pub fn is_empty(dir: &[u8], i: Dirent) -> bool
 pub fn is_padding(name: &[u8], k: usize) -> bool
     ensures { result ≡ is_padding name.now k }
 {
-    byte(name, k) == 0
+    get_or(name, k, 0) == 0
 }
 
 // The words of the name of entry i.

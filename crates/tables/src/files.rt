@@ -9,56 +9,56 @@ use crate::layout::{
     FILE_OWNER, FILE_VERSION, FILE_WIDTH, FREE, LINK, PLAIN,
 };
 use crate::parts::{after, upto};
-use crate::words::get;
+use crate::words::get_or;
 use rules::ids::Slot;
 use rules::rights::Bits;
 
 pub fn kind(files: &[u32], s: Slot) -> u32
     ensures { result ≡ tab FILE_WIDTH files.now s.0 FILE_KIND }
 {
-    get(files, FILE_WIDTH * (s.0 as usize) + FILE_KIND)
+    get_or(files, FILE_WIDTH * (s.0 as usize) + FILE_KIND, 0)
 }
 
 pub fn owner(files: &[u32], s: Slot) -> u32
     ensures { result ≡ tab FILE_WIDTH files.now s.0 FILE_OWNER }
 {
-    get(files, FILE_WIDTH * (s.0 as usize) + FILE_OWNER)
+    get_or(files, FILE_WIDTH * (s.0 as usize) + FILE_OWNER, 0)
 }
 
 pub fn group(files: &[u32], s: Slot) -> u32
     ensures { result ≡ tab FILE_WIDTH files.now s.0 FILE_GROUP }
 {
-    get(files, FILE_WIDTH * (s.0 as usize) + FILE_GROUP)
+    get_or(files, FILE_WIDTH * (s.0 as usize) + FILE_GROUP, 0)
 }
 
 pub fn bits(files: &[u32], s: Slot) -> Bits
     ensures { result ≡ bits_at (tab FILE_WIDTH files.now s.0 FILE_BITS) }
 {
-    Bits(get(files, FILE_WIDTH * (s.0 as usize) + FILE_BITS))
+    Bits(get_or(files, FILE_WIDTH * (s.0 as usize) + FILE_BITS, 0))
 }
 
 pub fn label(files: &[u32], s: Slot) -> u32
     ensures { result ≡ tab FILE_WIDTH files.now s.0 FILE_LABEL }
 {
-    get(files, FILE_WIDTH * (s.0 as usize) + FILE_LABEL)
+    get_or(files, FILE_WIDTH * (s.0 as usize) + FILE_LABEL, 0)
 }
 
 pub fn length(files: &[u32], s: Slot) -> u32
     ensures { result ≡ tab FILE_WIDTH files.now s.0 FILE_LENGTH }
 {
-    get(files, FILE_WIDTH * (s.0 as usize) + FILE_LENGTH)
+    get_or(files, FILE_WIDTH * (s.0 as usize) + FILE_LENGTH, 0)
 }
 
 pub fn links(files: &[u32], s: Slot) -> u32
     ensures { result ≡ tab FILE_WIDTH files.now s.0 FILE_LINKS }
 {
-    get(files, FILE_WIDTH * (s.0 as usize) + FILE_LINKS)
+    get_or(files, FILE_WIDTH * (s.0 as usize) + FILE_LINKS, 0)
 }
 
 pub fn version(files: &[u32], s: Slot) -> u32
     ensures { result ≡ tab FILE_WIDTH files.now s.0 FILE_VERSION }
 {
-    get(files, FILE_WIDTH * (s.0 as usize) + FILE_VERSION)
+    get_or(files, FILE_WIDTH * (s.0 as usize) + FILE_VERSION, 0)
 }
 
 pub fn is_free(files: &[u32], s: Slot) -> bool

@@ -6,6 +6,7 @@ pub mod directories;
 pub mod files;
 pub mod ids;
 pub mod layout;
+pub mod lent;
 pub mod name_words;
 pub mod names;
 pub mod numbers;

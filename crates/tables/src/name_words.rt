@@ -2,7 +2,7 @@
 ghost use Rattle.std.specs.Prelude.{◌≡◌, ◌+◌, ◌*◌};
 ghost use Rattle.tables.specs.NameWords.{pair, quad, low_word, high_word};
 
-use crate::words::byte;
+use crate::words::get_or;
 
 fn pair_of(a: u8, b: u8) -> u64
     ensures { result ≡ pair a b }
@@ -33,14 +33,14 @@ pub fn low_word(name: &[u8]) -> u64
     ensures { result ≡ low_word name.now }
 {
     eight_of(
-        byte(name, 0),
-        byte(name, 1),
-        byte(name, 2),
-        byte(name, 3),
-        byte(name, 4),
-        byte(name, 5),
-        byte(name, 6),
-        byte(name, 7),
+        get_or(name, 0, 0),
+        get_or(name, 1, 0),
+        get_or(name, 2, 0),
+        get_or(name, 3, 0),
+        get_or(name, 4, 0),
+        get_or(name, 5, 0),
+        get_or(name, 6, 0),
+        get_or(name, 7, 0),
     )
 }
 
@@ -49,11 +49,11 @@ pub fn high_word(name: &[u8]) -> u64
     ensures { result ≡ high_word name.now }
 {
     six_of(
-        byte(name, 8),
-        byte(name, 9),
-        byte(name, 10),
-        byte(name, 11),
-        byte(name, 12),
-        byte(name, 13),
+        get_or(name, 8, 0),
+        get_or(name, 9, 0),
+        get_or(name, 10, 0),
+        get_or(name, 11, 0),
+        get_or(name, 12, 0),
+        get_or(name, 13, 0),
     )
 }

@@ -6,34 +6,39 @@ ghost use Rattle.rules.specs.Store.{tab, slot, mode_at, is_on, open_but};
 use crate::layout::{
     OPEN_FILE_WIDTH, OPEN_FILES, OPEN_MODE, OPEN_OFFSET, OPEN_REFERENCES, OPEN_SLOT,
 };
-use crate::words::get;
+use crate::words::get_or;
 use rules::ids::{Ofd, Slot};
 use rules::rights::OpenMode;
 
 pub fn slot_of(open_files: &[u32], e: Ofd) -> Slot
     ensures { result ≡ slot (tab OPEN_FILE_WIDTH open_files.now e.0 OPEN_SLOT) }
 {
-    Slot(get(open_files, OPEN_FILE_WIDTH * (e.0 as usize) + OPEN_SLOT))
+    Slot(get_or(open_files, OPEN_FILE_WIDTH * (e.0 as usize) + OPEN_SLOT, 0))
 }
 
 pub fn mode(open_files: &[u32], e: Ofd) -> OpenMode
     ensures { result ≡ mode_at (tab OPEN_FILE_WIDTH open_files.now e.0 OPEN_MODE) }
 {
-    OpenMode(get(open_files, OPEN_FILE_WIDTH * (e.0 as usize) + OPEN_MODE))
+    OpenMode(get_or(open_files, OPEN_FILE_WIDTH * (e.0 as usize) + OPEN_MODE, 0))
 }
 
 pub fn offset(open_files: &[u32], e: Ofd) -> u32
     ensures { result ≡ tab OPEN_FILE_WIDTH open_files.now e.0 OPEN_OFFSET }
 {
-    get(open_files, OPEN_FILE_WIDTH * (e.0 as usize) + OPEN_OFFSET)
+    get_or(
+        open_files,
+        OPEN_FILE_WIDTH * (e.0 as usize) + OPEN_OFFSET,
+        0,
+    )
 }
 
 pub fn references(open_files: &[u32], e: Ofd) -> u32
     ensures { result ≡ tab OPEN_FILE_WIDTH open_files.now e.0 OPEN_REFERENCES }
 {
-    get(
+    get_or(
         open_files,
         OPEN_FILE_WIDTH * (e.0 as usize) + OPEN_REFERENCES,
+        0,
     )
 }
 
@@ -67,12 +72,5 @@ fn is_on(open_files: &[u32], x: Ofd, s: Slot, e: Ofd) -> bool
 pub fn open_but(open_files: &[u32], x: Ofd, s: Slot) -> bool
     ensures { result ≡ open_but (tab OPEN_FILE_WIDTH open_files.now) x s }
 {
-    let mut e: u32 = 0;
-    while e < OPEN_FILES {
-        if is_on(open_files, x, s, Ofd(e)) {
-            return true;
-        }
-        e += 1;
-    }
-    false
+    (0..OPEN_FILES).any(|e| is_on(open_files, x, s, Ofd(e)))
 }

@@ -7,32 +7,32 @@ use crate::layout::{
     DESCRIPTORS, PROCESS_DESCRIPTOR, PROCESS_GROUP, PROCESS_LABEL, PROCESS_USED, PROCESS_USER,
     PROCESS_WIDTH,
 };
-use crate::words::get;
+use crate::words::get_or;
 use rules::ids::{Fd, Pid};
 use rules::request::Subject;
 
 pub fn used(processes: &[u32], p: Pid) -> u32
     ensures { result ≡ proc_of processes.now p.0 PROCESS_USED }
 {
-    get(processes, PROCESS_WIDTH * (p.0 as usize) + PROCESS_USED)
+    get_or(processes, PROCESS_WIDTH * (p.0 as usize) + PROCESS_USED, 0)
 }
 
 pub fn user(processes: &[u32], p: Pid) -> u32
     ensures { result ≡ proc_of processes.now p.0 PROCESS_USER }
 {
-    get(processes, PROCESS_WIDTH * (p.0 as usize) + PROCESS_USER)
+    get_or(processes, PROCESS_WIDTH * (p.0 as usize) + PROCESS_USER, 0)
 }
 
 pub fn group(processes: &[u32], p: Pid) -> u32
     ensures { result ≡ proc_of processes.now p.0 PROCESS_GROUP }
 {
-    get(processes, PROCESS_WIDTH * (p.0 as usize) + PROCESS_GROUP)
+    get_or(processes, PROCESS_WIDTH * (p.0 as usize) + PROCESS_GROUP, 0)
 }
 
 pub fn label(processes: &[u32], p: Pid) -> u32
     ensures { result ≡ proc_of processes.now p.0 PROCESS_LABEL }
 {
-    get(processes, PROCESS_WIDTH * (p.0 as usize) + PROCESS_LABEL)
+    get_or(processes, PROCESS_WIDTH * (p.0 as usize) + PROCESS_LABEL, 0)
 }
 
 // Who asks.
@@ -52,9 +52,10 @@ pub fn descriptor(processes: &[u32], p: Pid, i: Fd) -> u32
 {
     let known = i.0 < DESCRIPTORS;
     if known {
-        return get(
+        return get_or(
             processes,
             PROCESS_WIDTH * (p.0 as usize) + (PROCESS_DESCRIPTOR + (i.0 as usize)),
+            0,
         );
     }
     0

@@ -1,24 +1,16 @@
-// Total reads and stores: 0 is read past the end, and nothing is stored there.
-ghost use Rattle.std.specs.Prelude.{◌≡◌, slice_index, slice_set};
+// Total reads and stores: a default is read past the end, and nothing is stored there.
+ghost use Rattle.std.specs.Prelude.{◌≡◌, slice_index_or, slice_set, replicate};
 ghost use Rattle.std.proofs.lemmas.List.Edits.{sets};
-ghost use Rattle.rules.specs.Store.{zeros};
 
-// The word at i.
-pub fn get(xs: &[u32], i: usize) -> u32
-    ensures { result ≡ slice_index xs.now i }
+// What stands at i.
+pub fn get_or<T: Copy>(xs: &[T], i: usize, default: T) -> T
+    ensures { result ≡ slice_index_or xs.now i default }
 {
-    if i < xs.len() { xs[i] } else { 0 }
+    xs.get(i).copied().unwrap_or(default)
 }
 
-// The byte at i.
-pub fn byte(bytes: &[u8], i: usize) -> u8
-    ensures { result ≡ slice_index bytes.now i }
-{
-    if i < bytes.len() { bytes[i] } else { 0 }
-}
-
-// The word at i becomes v.
-pub fn put(xs: &mut [u32], i: usize, v: u32)
+// What stands at i becomes v.
+pub fn put<T: Copy>(xs: &mut [T], i: usize, v: T)
     ensures { xs.new ≡ slice_set xs.old i v }
 {
     if i < xs.len() {
@@ -26,59 +18,22 @@ pub fn put(xs: &mut [u32], i: usize, v: u32)
     }
 }
 
-// The byte at i becomes v.
-pub fn put_byte(bytes: &mut [u8], i: usize, v: u8)
-    ensures { bytes.new ≡ slice_set bytes.old i v }
+// All of the n from `at` on become v.
+pub fn fill<T: Copy>(xs: &mut [T], at: usize, n: usize, v: T)
+    ensures { xs.new ≡ sets xs.old at (replicate n v) }
 {
-    if i < bytes.len() {
-        bytes[i] = v;
+    let from = at.min(xs.len());
+    let end = from + n.min(xs.len() - from);
+    for i in from..end {
+        xs[i] = v;
     }
 }
 
-// n bytes from `at` on become 0.
-pub fn zero_bytes(xs: &mut [u8], at: usize, n: usize)
-    ensures { xs.new ≡ sets xs.old at (zeros n) }
+// Those from `at` on become those of `ys`.
+pub fn copy<T: Copy>(xs: &mut [T], at: usize, ys: &[T])
+    ensures { xs.new ≡ sets xs.old at ys.now }
 {
-    let mut a = at;
-    let mut left = n;
-    while 0 < left {
-        if xs.len() <= a {
-            return;
-        }
-        xs[a] = 0;
-        a += 1;
-        left -= 1;
-    }
-}
-
-// n words from `at` on become 0.
-pub fn zero_words(xs: &mut [u32], at: usize, n: usize)
-    ensures { xs.new ≡ sets xs.old at (zeros n) }
-{
-    let mut a = at;
-    let mut left = n;
-    while 0 < left {
-        if xs.len() <= a {
-            return;
-        }
-        xs[a] = 0;
-        a += 1;
-        left -= 1;
-    }
-}
-
-// The bytes from `at` on become those of `bytes`.
-pub fn copy_bytes(xs: &mut [u8], at: usize, bytes: &[u8])
-    ensures { xs.new ≡ sets xs.old at bytes.now }
-{
-    let mut a = at;
-    let mut i = 0;
-    while i < bytes.len() {
-        if xs.len() <= a {
-            return;
-        }
-        xs[a] = bytes[i];
-        a += 1;
-        i += 1;
-    }
+    let from = at.min(xs.len());
+    let n = ys.len().min(xs.len() - from);
+    xs[from..from + n].copy_from_slice(&ys[..n]);
 }

@@ -6,7 +6,7 @@ use Rattle.rules.specs.Checks.{granted}
 use Rattle.rules.specs.Decide.{placement}
 use Rattle.rules.specs.declared.ids.Ofd.{Ofd}
 use Rattle.rules.specs.declared.decision.Effect.TheVariants as effect
-use Rattle.rules.specs.declared.decision.Decision.{Decision}
+use Rattle.rules.specs.Decisions.{Decision}
 
 -- the value is the count of bytes, as a word
 abbrev pub stored : (file open_files : Table) → Ofd → (at word n : ℕ) → Decision

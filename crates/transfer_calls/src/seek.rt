@@ -1,28 +1,19 @@
 // 13. Seek.
 ghost use Rattle.std.specs.Prelude.{◌≡◌};
 ghost use Rattle.rules.specs.Store.{desc_of};
-ghost use Rattle.rules.specs.Decide.{sought, decide_seek};
+ghost use Rattle.rules.specs.Decide.{decide_seek};
 
 use allocation::held::{is_held, ofd_held};
-use rules::decision::{Decision, Effect, Output};
+use rules::decision::{Decision, Effect, granted};
 use rules::ids::{Fd, Pid};
 use rules::refusal::Refusal;
 
-fn sought_to(processes: &[u32], p: Pid, i: Fd, n: u32) -> Decision
-    ensures { result ≡ sought (desc_of processes.now) p i n }
-{
-    Decision::Granted(
-        n,
-        Output::Nothing,
-        Effect::Moved(ofd_held(processes, p, i), n),
-    )
-}
-
+#[tactic(auto, using(rules::proofs::Choices::steps), unfolding(rules::specs::Decide::decide_seek))]
 pub fn decide_seek(processes: &[u32], p: Pid, i: Fd, n: u32) -> Decision
     ensures { result ≡ decide_seek (desc_of processes.now) p i n }
 {
     if !is_held(processes, p, i) {
-        return Decision::Refused(Refusal::NotHeld, 0);
+        return Err(Refusal::NotHeld.into());
     }
-    sought_to(processes, p, i, n)
+    granted(n, Effect::Moved(ofd_held(processes, p, i), n))
 }

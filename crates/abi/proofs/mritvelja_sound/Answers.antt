@@ -6,6 +6,6 @@ pub returns-then-sound : goal.returns-then-sound
 unfolding flag
 returns-then-sound c = search steps
 
-pub returns : goal.returns
+pub returns-else-sound : goal.returns-else-sound
 unfolding flag
-returns c = search steps
+returns-else-sound c = search steps

@@ -1,16 +1,7 @@
-use mathlib.Core.Path.{refl, ap}
-use Rattle.rules.proofs.Scans.{first-yes, first-no, first_done}
+use Rattle.std.proofs.Common.{rules, tests, refl, ap, ◌∙◌}
 use Rattle.rules.specs.Store.{ofd_of}
+use Rattle.rules.proofs.Chains.{first_in_range}
 use Rattle.allocation.proofs.free.first_free_ofd.Goals as goal
 
-pub loop-e-init : goal.loop-e-init
-loop-e-init c = refl
-
-pub returns-then-ofd_free : goal.returns-then-ofd_free
-returns-then-ofd_free c = ap ofd_of (search first-yes)
-
-pub loop-e-preserved : goal.loop-e-preserved
-loop-e-preserved c = search first-no
-
 pub returns : goal.returns
-returns c = ap ofd_of (search first_done)
+returns c = ap ofd_of (c.unwrap_or.ensures ∙ first_in_range _ _ _ (λ x t q k. search (rules, tests)) _ _ c.find.ensures.ran refl)

@@ -1,16 +1,7 @@
-use mathlib.Core.Path.{refl, ap}
-use Rattle.rules.proofs.Scans.{first-yes, first-no, first_done}
+use Rattle.std.proofs.Common.{rules, tests, refl, ap, ◌∙◌}
 use Rattle.rules.specs.Store.{pid_of}
+use Rattle.rules.proofs.Chains.{first_in_range}
 use Rattle.allocation.proofs.free.free_pid.Goals as goal
 
-pub loop-q-init : goal.loop-q-init
-loop-q-init c = refl
-
-pub returns-then-pid_free : goal.returns-then-pid_free
-returns-then-pid_free c = ap pid_of (search first-yes)
-
-pub loop-q-preserved : goal.loop-q-preserved
-loop-q-preserved c = search first-no
-
 pub returns : goal.returns
-returns c = ap pid_of (search first_done)
+returns c = ap pid_of (c.unwrap_or.ensures ∙ first_in_range _ _ _ (λ x t q k. search (rules, tests)) _ _ c.find.ensures.ran refl)

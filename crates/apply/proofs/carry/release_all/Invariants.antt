@@ -9,6 +9,3 @@ use Rattle.apply.proofs.carry.release_all.Given as goal
 abbrev pub invariant-loop-i : goal.invariant-loop-i
 invariant-loop-i l = (length l.files ≡ length l.initial.files) × (length l.contents ≡ length l.initial.contents) × (length l.open_files ≡ length l.initial.open_files) × (length l.processes ≡ length l.initial.processes)
     × (repeat (released l.p) l.i 8 (store l.files l.contents l.open_files l.processes) ≡ repeat (released l.p) 0 8 (store l.initial.files l.initial.contents l.initial.open_files l.initial.processes))
-
-abbrev pub decreases-loop-i : goal.decreases-loop-i
-decreases-loop-i l = 8 - l.i

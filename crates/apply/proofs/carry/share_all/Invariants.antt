@@ -10,6 +10,3 @@ use Rattle.apply.proofs.carry.share_all.Given as goal
 abbrev pub invariant-loop-i : goal.invariant-loop-i
 invariant-loop-i l = (length l.open_files ≡ length l.initial.open_files) × (length l.processes ≡ length l.initial.processes)
     × ((F C : List ℕ) → repeat (shared l.p l.q) l.i 8 (store F C l.open_files l.processes) ≡ repeat (shared l.p l.q) 0 8 (store F C l.initial.open_files l.initial.processes))
-
-abbrev pub decreases-loop-i : goal.decreases-loop-i
-decreases-loop-i l = 8 - l.i

@@ -1,10 +1,10 @@
 use Rattle.borrow.specs.Judged.{moved_on}
 use Rattle.borrow.proofs.read.move_on.Goals as goal
 
-pub returns-in-Refused : goal.returns-in-Refused
+pub returns-in-Err : goal.returns-in-Err
 unfolding moved_on
-returns-in-Refused c F C P = rw c.in-Refused.is
+returns-in-Err c F C P = rw c.in-Err.is
 
-pub returns-in-Granted : goal.returns-in-Granted
+pub returns-in-Ok : goal.returns-in-Ok
 unfolding moved_on
-returns-in-Granted c F C P = rw c.in-Granted.is (c.move_by.ensures F C P)
+returns-in-Ok c F C P = rw c.in-Ok.is (c.move_by.ensures F C P)

@@ -1,17 +1,15 @@
-use mathlib.Core.Path.{refl}
-use borrow.Author.Rules.{rules}
-use Rattle.script_text.proofs.DigitLaws.{more}
-use Rattle.console.proofs.NumberLaws.{large, end}
+use Rattle.std.proofs.Common.{rules}
+use Rattle.console.proofs.NumberLaws.{wide-product, wide-sum, next, past}
 use Rattle.console.proofs.numbers.value.Goals as goal
 
-pub loop-i-init : goal.loop-i-init
-loop-i-init c = (search rules, refl)
+pub returns-in_err-checked_mul : goal.returns-in_err-checked_mul
+returns-in_err-checked_mul c = search (rules, wide-product)
 
-pub returns-then-next-ge-NO_NUMBER : goal.returns-then-next-ge-NO_NUMBER
-returns-then-next-ge-NO_NUMBER c = search large
+pub returns-in_err-n : goal.returns-in_err-n
+returns-in_err-n c = search (rules, wide-sum)
 
-pub loop-i-preserved : goal.loop-i-preserved
-loop-i-preserved c = (search rules, search more)
+pub loop-b-preserved : goal.loop-b-preserved
+loop-b-preserved c = record { small = search rules; rest = search (rules, next) }
 
 pub returns : goal.returns
-returns c = search end
+returns c = search (rules, past)

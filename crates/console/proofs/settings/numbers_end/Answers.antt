@@ -1,15 +1,8 @@
-use mathlib.Core.Path.{refl}
-use Rattle.rules.proofs.Scans.{first-yes, first-no, first_done}
+use Rattle.std.proofs.Common.{rules, tests, refl, ◌∙◌, length}
+use Rattle.console.specs.Settings.{no_number_at}
+use Rattle.rules.proofs.Chains.{first_in_range}
 use Rattle.console.proofs.settings.numbers_end.Goals as goal
 
-pub loop-k-init : goal.loop-k-init
-loop-k-init c = refl
-
-pub returns-then-no_number_at : goal.returns-then-no_number_at
-returns-then-no_number_at c = search first-yes
-
-pub loop-k-preserved : goal.loop-k-preserved
-loop-k-preserved c = search first-no
-
 pub returns : goal.returns
-returns c = search first_done
+unfolding no_number_at
+returns c = c.unwrap_or.ensures ∙ first_in_range (no_number_at c.args.line.now) 4 (length c.args.line.now) (λ x t q k. search (rules, tests)) _ c.find.result c.find.ensures.ran refl

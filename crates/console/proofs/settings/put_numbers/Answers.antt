@@ -12,13 +12,13 @@ pub returns-then-words-a : goal.returns-then-words-a
 unfolding numbers_of
 returns-then-words-a c = search full
 
-pub returns-then-n-ge-NO_NUMBER : goal.returns-then-n-ge-NO_NUMBER
+pub returns-in_default : goal.returns-in_default
 unfolding numbers_of
-returns-then-n-ge-NO_NUMBER c = search none
+returns-in_default c = none _ _ _ _ c.loop-k.invariant.1 c.loop-k-test.true c.number_at.ensures c.in_default.is
 
 pub loop-k-preserved : goal.loop-k-preserved
 unfolding numbers_of
-loop-k-preserved c = (search rules, search more)
+loop-k-preserved c = (search rules, more _ _ _ _ c.loop-k.invariant.1 c.loop-k-test.true c.number_at.ensures c.in-Some.is)
 
 pub returns : goal.returns
 unfolding numbers_of

@@ -1,5 +1,4 @@
 -- The invariant: with the numbers from word k on stored, the table is as it is to be.
-use Prim.Native.Nat.{◌-◌}
 use mathlib.Core.Path.{◌≡◌}
 use mathlib.Core.List.{[]}
 use lib.ListN.{length}
@@ -10,6 +9,3 @@ use Rattle.console.proofs.settings.put_numbers.Given as goal
 
 abbrev pub invariant-loop-k : goal.invariant-loop-k
 invariant-loop-k l = (length l.words ≡ length l.initial.words) × (sets l.words l.a (fold (with_number l.line) l.k (length l.line) []) ≡ sets l.initial.words l.at (numbers_of l.line))
-
-abbrev pub decreases-loop-k : goal.decreases-loop-k
-decreases-loop-k l = length l.line - l.k

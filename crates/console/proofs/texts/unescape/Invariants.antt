@@ -7,6 +7,3 @@ use Rattle.console.proofs.texts.unescape.Given as goal
 
 abbrev pub invariant-loop-n : goal.invariant-loop-n
 invariant-loop-n l = (length l.out ≡ length l.initial.out) × (outcome l.out l.n (length l.text - l.n) (drop l.i l.text) ≡ outcome l.initial.out 0 (length l.text) l.text)
-
-abbrev pub decreases-loop-n : goal.decreases-loop-n
-decreases-loop-n l = length l.text - l.n

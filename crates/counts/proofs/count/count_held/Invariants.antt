@@ -9,6 +9,3 @@ use Rattle.counts.proofs.count.count_held.Given as goal
 
 abbrev pub invariant-loop-p : goal.invariant-loop-p
 invariant-loop-p l = (length l.held ≡ length l.initial.held) × (l.p ≤ PROCESSES) × (l.held ≡ fold (proc_counted (desc_of l.processes)) l.p PROCESSES l.initial.held)
-
-abbrev pub decreases-loop-p : goal.decreases-loop-p
-decreases-loop-p l = l.p

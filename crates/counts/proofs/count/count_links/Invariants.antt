@@ -10,6 +10,3 @@ use Rattle.counts.proofs.count.count_links.Given as goal
 abbrev pub invariant-loop-d : goal.invariant-loop-d
 invariant-loop-d l = (length l.links ≡ length l.initial.links) × (length l.parents ≡ length l.initial.parents) × (l.d ≤ SLOTS) × (l.links ≡ fold (slot_counted (tree l.files l.contents)) l.d SLOTS l.initial.links)
     × (l.parents ≡ fold (slot_claimed (tree l.files l.contents)) l.d SLOTS l.initial.parents)
-
-abbrev pub decreases-loop-d : goal.decreases-loop-d
-decreases-loop-d l = l.d

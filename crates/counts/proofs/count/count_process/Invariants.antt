@@ -9,6 +9,3 @@ use Rattle.counts.proofs.count.count_process.Given as goal
 
 abbrev pub invariant-loop-i : goal.invariant-loop-i
 invariant-loop-i l = (length l.held ≡ length l.initial.held) × (l.i ≤ DESCRIPTORS) × (l.held ≡ fold (desc_counted (desc_of l.processes) l.p.0) l.i DESCRIPTORS l.initial.held)
-
-abbrev pub decreases-loop-i : goal.decreases-loop-i
-decreases-loop-i l = l.i

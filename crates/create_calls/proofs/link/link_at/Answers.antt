@@ -1,15 +1,8 @@
 use Rattle.rules.specs.DecidePaths.{link_at}
-use Rattle.rights.proofs.Permissions.{asked}
+use Rattle.rules.proofs.Choices.{passed}
+use Rattle.rights.proofs.Permissions.{forbidden}
 use Rattle.create_calls.proofs.link.link_at.Goals as goal
 
-pub returns-then-not-is_absent : goal.returns-then-not-is_absent
+pub returns-in_err-permission_to_name : goal.returns-in_err-permission_to_name
 unfolding link_at
-returns-then-not-is_absent c = search asked
-
-pub returns-in-Allowed : goal.returns-in-Allowed
-unfolding link_at
-returns-in-Allowed c = search asked
-
-pub returns-in-Forbidden : goal.returns-in-Forbidden
-unfolding link_at
-returns-in-Forbidden c = search asked
+returns-in_err-permission_to_name c = passed _ _ _ _ _ c.is_absent.ensures c.if-not-is_absent.false (forbidden _ _ _ c.permission_to_name.ensures _ _ _ c.in_err-permission_to_name.was c.from_residual.ensures.1)

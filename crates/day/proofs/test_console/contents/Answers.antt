@@ -4,4 +4,4 @@ use Rattle.day.proofs.test_console.contents.Goals as goal
 
 pub returns : goal.returns
 unfolding computing
-returns c = rw (c.copy_bytes-2.ensures, c.copy_bytes.ensures, c.put_dirent-3.ensures, c.put_dirent-2.ensures, c.put_dirent.ensures)
+returns c = rw (c.copy-2.ensures, c.copy.ensures, c.put_dirent-3.ensures, c.put_dirent-2.ensures, c.put_dirent.ensures)

@@ -14,8 +14,8 @@ returns-in-Kept c = λ P. rw (c.in-Kept.is, c.put.ensures)
 
 pub returns-in-Gone : goal.returns-in-Gone
 unfolding apply_all release_changes
-returns-in-Gone c = λ P. rw (c.in-Gone.is, c.zero_words.ensures)
+returns-in-Gone c = λ P. rw (c.in-Gone.is, c.fill.ensures)
 
 pub returns-in-Freed : goal.returns-in-Freed
 unfolding release_changes
-returns-in-Freed c = λ P. rw c.in-Freed.is (after-change _ _ _ (c.clear_slot.ensures _ _) (rw c.zero_words-in-Freed.ensures))
+returns-in-Freed c = λ P. rw c.in-Freed.is (after-change _ _ _ (c.clear_slot.ensures _ _) (rw c.fill-in-Freed.ensures))

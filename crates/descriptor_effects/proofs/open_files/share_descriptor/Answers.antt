@@ -2,10 +2,10 @@ use Rattle.rules.specs.Store.{apply_all}
 use Rattle.rules.specs.Effects.{duplicate_changes, share_changes}
 use Rattle.descriptor_effects.proofs.open_files.share_descriptor.Goals as goal
 
-pub returns-in-Nothing : goal.returns-in-Nothing
+pub returns-in-None : goal.returns-in-None
 unfolding apply_all duplicate_changes share_changes
-returns-in-Nothing c = λ F C. rw (c.in-Nothing.is, c.put_empty.ensures)
+returns-in-None c = λ F C. rw (c.in-None.is, c.put_empty.ensures)
 
-pub returns-in-Held : goal.returns-in-Held
+pub returns-in-Some : goal.returns-in-Some
 unfolding apply_all duplicate_changes share_changes
-returns-in-Held c = λ F C. rw c.in-Held.is (c.duplicate_descriptor.ensures _ _)
+returns-in-Some c = λ F C. rw c.in-Some.is (c.duplicate_descriptor.ensures _ _)

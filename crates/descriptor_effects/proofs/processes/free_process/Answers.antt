@@ -3,4 +3,4 @@ use Rattle.descriptor_effects.proofs.processes.free_process.Goals as goal
 
 pub returns : goal.returns
 unfolding apply_all
-returns c = λ F C E. rw c.zero_words.ensures
+returns c = λ F C E. rw c.fill.ensures

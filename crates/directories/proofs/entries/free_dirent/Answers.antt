@@ -1,16 +1,7 @@
-use mathlib.Core.Path.{refl, ap}
-use Rattle.rules.proofs.Scans.{first-yes, first-no, first_done}
+use Rattle.std.proofs.Common.{rules, tests, refl, ap, ◌∙◌}
 use Rattle.rules.specs.Store.{entry}
+use Rattle.rules.proofs.Chains.{first_in_range}
 use Rattle.directories.proofs.entries.free_dirent.Goals as goal
 
-pub loop-i-init : goal.loop-i-init
-loop-i-init c = refl
-
-pub returns-then-is_empty : goal.returns-then-is_empty
-returns-then-is_empty c = ap entry (search first-yes)
-
-pub loop-i-preserved : goal.loop-i-preserved
-loop-i-preserved c = search first-no
-
 pub returns : goal.returns
-returns c = ap entry (search first_done)
+returns c = ap entry (c.unwrap_or.ensures ∙ first_in_range _ 0 16 (λ x t q k. search (rules, tests)) _ _ c.find.ensures.ran refl)

@@ -1,4 +1,4 @@
 use Rattle.file_effects.proofs.files.put_bytes.Goals as goal
 
 pub returns : goal.returns
-returns c = rw (c.copy_bytes.ensures, c.zero_bytes.ensures)
+returns c = rw (c.copy.ensures, c.fill.ensures)

@@ -3,4 +3,4 @@ use Rattle.file_effects.proofs.names.put_text.Goals as goal
 
 pub returns : goal.returns
 unfolding apply_all
-returns c = λ E P. rw (c.copy_bytes.ensures, c.put_record.ensures)
+returns c = λ E P. rw (c.copy.ensures, c.put_record.ensures)

@@ -4,4 +4,4 @@ use Rattle.file_effects.proofs.names.remove_name.Goals as goal
 
 pub returns : goal.returns
 unfolding apply_all unname_changes
-returns c = λ E P. rw (c.put_directory.ensures, c.zero_bytes.ensures)
+returns c = λ E P. rw (c.put_directory.ensures, c.fill.ensures)

@@ -1,16 +1,8 @@
-use mathlib.Core.Path.{refl}
-use borrow.Author.Rules.{rules}
-use Rattle.recorded.proofs.WordLaws.{full, done, more}
+use Rattle.recorded.proofs.WordLaws.{done, more}
 use Rattle.recorded.proofs.records.put_words.Goals as goal
 
-pub loop-i-init : goal.loop-i-init
-loop-i-init c = (refl, rw (c.place_at-a.ensures.is, c.after-rest.ensures))
-
-pub returns-then-words-a : goal.returns-then-words-a
-returns-then-words-a c = search full
-
 pub loop-i-preserved : goal.loop-i-preserved
-loop-i-preserved c = (search rules, search more)
+loop-i-preserved c = rw c.put.ensures (more _ _ _ _ c.loop-i.invariant c.loop-i-test.true c.word_at.ensures)
 
 pub returns : goal.returns
-returns c = search done
+returns c = done _ _ _ _ c.loop-i.invariant c.loop-i-test.false

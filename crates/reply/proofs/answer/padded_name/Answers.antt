@@ -27,7 +27,7 @@ pub loop-k-init : goal.loop-k-init
 loop-k-init c = (refl, whole _)
 
 pub loop-k-preserved : goal.loop-k-preserved
-loop-k-preserved c = (search rules, rw c.byte.ensures (again _ _ _ c.loop-k.invariant.1 c.loop-k-test.true))
+loop-k-preserved c = (search rules, rw c.get_or.ensures (again _ _ _ c.loop-k.invariant.1 c.loop-k-test.true))
 
 pub returns : goal.returns
 returns c = done _ _ _ c.loop-k.invariant.1 c.loop-k-test.false

@@ -8,6 +8,3 @@ use Rattle.reply.proofs.answer.padded_name.Given as goal
 
 abbrev pub invariant-loop-k : goal.invariant-loop-k
 invariant-loop-k l = (length l.all ≡ 16) × (sets l.all l.k (padded (16 - l.k) (drop l.k l.name)) ≡ padded 16 l.name)
-
-abbrev pub decreases-loop-k : goal.decreases-loop-k
-decreases-loop-k l = 16 - l.k

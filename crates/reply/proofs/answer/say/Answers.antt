@@ -4,16 +4,16 @@ use Rattle.reply.proofs.answer.say.Goals as goal
 
 pub returns-in-Nothing : goal.returns-in-Nothing
 unfolding said_of name_out fields_out bytes_out
-returns-in-Nothing c = rw (c.in-Nothing.is, c.plain_answer.ensures)
+returns-in-Nothing c = λ E P. rw (c.in-Nothing.is, c.plain_answer.ensures)
 
 pub returns-in-Name : goal.returns-in-Name
 unfolding said_of name_out fields_out bytes_out
-returns-in-Name c = rw (c.in-Name.is, c.answer_listed.ensures)
+returns-in-Name c = λ E P. rw (c.in-Name.is, c.answer_listed.ensures)
 
 pub returns-in-Fields : goal.returns-in-Fields
 unfolding said_of name_out fields_out bytes_out
-returns-in-Fields c = rw (c.in-Fields.is, c.answer_fields.ensures)
+returns-in-Fields c = λ E P. rw (c.in-Fields.is, c.answer_fields.ensures)
 
 pub returns-in-Bytes : goal.returns-in-Bytes
 unfolding said_of name_out fields_out bytes_out
-returns-in-Bytes c = rw (c.in-Bytes.is, c.plain_answer-in-Bytes.ensures, c.read_into.ensures)
+returns-in-Bytes c = λ E P. rw (c.in-Bytes.is, c.plain_answer-in-Bytes.ensures, c.read_into.ensures)

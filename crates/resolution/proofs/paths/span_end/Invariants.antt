@@ -1,18 +1,15 @@
 -- The invariant: the span from i on ends where the whole span does.
-use Prim.Native.Nat.{ℕ, ◌+◌, ◌-◌}
+use Prim.Native.Nat.{ℕ, ◌+◌}
 use mathlib.Core.Path.{◌≡◌}
+use mathlib.Core.Bool.{Bool}
 use mathlib.Core.List.{List}
-use Rattle.resolution.specs.declared.paths.ByteClass.{ByteClass}
-use lib.ListN.{length, drop}
+use lib.ListN.{drop}
 use Rattle.rules.specs.Paths.{span}
-use Rattle.resolution.specs.Parse.{in_class}
+use Rattle.resolution.specs.Parse.{Tests}
 use Rattle.resolution.proofs.paths.span_end.Given as goal
 
-abbrev pub ends : List ℕ → ℕ → ByteClass → ℕ
-ends p i k = i + span (in_class k) (drop i p)
+abbrev pub ends : List ℕ → ℕ → (ℕ → Bool) → ℕ
+ends p i t = i + span t (drop i p)
 
 abbrev pub invariant-loop-i : goal.invariant-loop-i
-invariant-loop-i l = ends l.path l.at l.class ≡ ends l.path l.i l.class
-
-abbrev pub decreases-loop-i : goal.decreases-loop-i
-decreases-loop-i l = length l.path - l.i
+invariant-loop-i g l = (t : ℕ → Bool) → Tests (goal.F-post g l.test) t → ends l.path l.at t ≡ ends l.path l.i t

@@ -11,13 +11,14 @@ use Rattle.rules.specs.Rom.{files_in, tree_in}
 use Rattle.rules.specs.Paths.{names}
 use Rattle.rules.specs.Walk.{need_at, on_reached, is_link, lookup, start, link_text, stop_at, follows, follow_by, walk_by, follower, walk}
 use Rattle.rules.specs.declared.request.Subject.{Subject}
-use Rattle.rules.specs.declared.refusal.Refusal.{Refusal}
 use Rattle.rules.specs.declared.refusal.Refusal.TheVariants.{TooDeep}
 use Rattle.rules.specs.declared.decision.Location.{Location}
 use Rattle.rules.specs.declared.decision.Intent.{Intent}
 use Rattle.rules.specs.declared.decision.Intent.TheVariants.{Follow}
-use Rattle.rules.specs.declared.decision.Walk.{Walk}
-use Rattle.rules.specs.declared.decision.Walk.TheVariants.{Reached, Stopped}
+use Rattle.rules.specs.Decisions.{Walk, Reached, Stopped}
+use Rattle.rules.specs.declared.decision.Stop.{Stop}
+use Rattle.std.specs.Prelude.{Err}
+use Rattle.rules.proofs.Choices.{passed_on}
 use Rattle.rules.proofs.Walks.{fit_at, lookup-within, follower-within, again}
 use Rattle.resolution.specs.declared.path_names.PathName.{PathName}
 use Rattle.resolution.specs.declared.walk.Rest.{Rest}
@@ -96,9 +97,9 @@ module _ (R F C Q : List ℕ) (who : Subject) (p : List ℕ) (rest : Rest) (at :
       unfolding walk_by
       first = rw (split, here-left p ns remain l z intent, ← h, looked, next)
 
-      refuse : (r : Refusal) (j : ℕ) → w ≡ Stopped r j → Stopped r j ≡ owed
+      refuse : (e : Stop) → w ≡ Err e → Err e ≡ owed
       unfolding on_reached
-      refuse r j q = rw (first, q)
+      refuse e q = rw (first, q)
 
       module _ (met : Location) (q : w ≡ Reached met) where
         -- what was looked for has no more follows left
@@ -113,12 +114,12 @@ module _ (R F C Q : List ℕ) (who : Subject) (p : List ℕ) (rest : Rest) (at :
           unfolding on_reached
           second = rw (first, q, ← o)
 
-          stop : l ≡ true → y ≡ owed
-          stop u = sym (second ∙ on-last intent (tree_in R F C) Q who y ns.k (names_left p ns) (left-none p ns remain (sym z ∙ u)))
+          stop : (to : Location) → y ≡ Reached to → l ≡ true → Reached to ≡ owed
+          stop to a u = sym a ∙ sym (second ∙ on-last intent (tree_in R F C) Q who y ns.k (names_left p ns) (left-none p ns remain (sym z ∙ u)))
 
-          turn : (r : Refusal) (j : ℕ) → y ≡ Stopped r j → Stopped r j ≡ owed
+          turn : (e : Stop) → y ≡ Err e → Err e ≡ owed
           unfolding on_reached
-          turn r j u = rw (second, u)
+          turn e u = rw (second, u)
 
           on : (to : Location) (r : Walk) → y ≡ Reached to → r ≡ onward to → r ≡ owed
           unfolding on_reached
@@ -133,34 +134,34 @@ pub follow-returns-then-not-is_followed : goal.follow-returns-then-not-is_follow
 follow-returns-then-not-is_followed t c = search itself
 
 pub follow-returns-then-at-eq0 : goal.follow-returns-then-at-eq0
-follow-returns-then-at-eq0 t c = search spent
+follow-returns-then-at-eq0 t c = rw c.at.ensures (spent _ _ _ _ _ _ _ _ c.requires _ c.is_followed.ensures c.if-not-is_followed.false-raw c.if-at-eq0.true)
 
 pub follow-walk_from-w-requires : goal.follow-walk_from-w-requires
 follow-walk_from-w-requires t c = text-below c.args.at _ _ _ _ c.decreases c.requires c.if-at-eq0.false c.from_root-root.ensures c.rest_from-rest.ensures
 
 pub follow-returns : goal.follow-returns
-follow-returns t c = through c.args.rom.now c.args.files.now c.args.contents.now c.args.policy.now c.args.who c.args.at c.args.k c.args.intent c.requires _ c.is_followed.ensures c.if-not-is_followed.false-raw c.if-at-eq0.false _ c.from_root-root.ensures _ c.link_text-text.ensures _ c.rest_from-rest.ensures _ _ c.walk_from-w.ensures c.stop_at.ensures
+follow-returns t c = through c.args.t.now.rom.now c.args.t.now.files.now c.args.t.now.contents.now c.args.t.now.policy.now c.args.who c.args.at c.args.k c.args.intent c.requires _ c.is_followed.ensures c.if-not-is_followed.false-raw c.if-at-eq0.false _ c.from_root-root.ensures _ c.link_text-text.ensures _ c.rest_from-rest.ensures _ _ c.walk_from-w.ensures c.stop_at.ensures
 
 pub walk_from-returns-then-none_left : goal.walk_from-returns-then-none_left
 walk_from-returns-then-none_left t c = search none
 
 pub walk_from-overflow_add-k : goal.walk_from-overflow_add-k
-walk_from-overflow_add-k t c = record { fits = small c.args.rom.now c.args.files.now c.args.contents.now c.args.policy.now c.args.who c.args.path.now c.args.rest c.args.at c.args.intent c.requires.rest_of _ c.none_left.ensures }
+walk_from-overflow_add-k t c = record { fits = small c.args.t.now.rom.now c.args.t.now.files.now c.args.t.now.contents.now c.args.t.now.policy.now c.args.who c.args.path.now c.args.rest c.args.at c.args.intent c.requires.rest_of _ c.none_left.ensures }
 
-pub walk_from-follow-w-requires : goal.walk_from-follow-w-requires
-walk_from-follow-w-requires t c = follow-below-it c.args.rom.now c.args.files.now c.args.contents.now c.args.policy.now c.args.who c.args.path.now c.args.rest c.args.at c.args.intent c.requires.rest_of _ c.none_left.ensures c.if-none_left.false _ c.read_name-name.ensures _ c.rest_from-ns.ensures (λ j. (c.type_inv.contents j).fits) (λ j. (c.type_inv.path j).fits) _ c.none_left-last.ensures _ c.here-it.ensures _ c.look_up.ensures _ c.in-Reached.is _ c.decreases c.requires.follows_bound
+pub walk_from-follow-requires : goal.walk_from-follow-requires
+walk_from-follow-requires t c = follow-below-it c.args.t.now.rom.now c.args.t.now.files.now c.args.t.now.contents.now c.args.t.now.policy.now c.args.who c.args.path.now c.args.rest c.args.at c.args.intent c.requires.rest_of _ c.none_left.ensures c.if-none_left.false _ c.read_name-name.ensures _ c.rest_from-ns.ensures c.args.t.now.bytes (λ j. (c.type_inv.path j).fits) _ c.none_left-last.ensures _ c.here-it.ensures _ c.look_up.ensures _ c.in_ok-met.was _ c.decreases c.requires.follows_bound
 
 pub walk_from-returns-then-last : goal.walk_from-returns-then-last
-walk_from-returns-then-last t c = stop c.args.rom.now c.args.files.now c.args.contents.now c.args.policy.now c.args.who c.args.path.now c.args.rest c.args.at c.args.intent c.requires.rest_of _ c.none_left.ensures c.if-none_left.false _ c.read_name-name.ensures _ c.rest_from-ns.ensures (λ j. (c.type_inv.contents j).fits) (λ j. (c.type_inv.path j).fits) _ c.none_left-last.ensures _ c.here-it.ensures _ c.look_up.ensures _ c.in-Reached.is _ c.follow-w.ensures c.if-last.true
+walk_from-returns-then-last t c = stop c.args.t.now.rom.now c.args.t.now.files.now c.args.t.now.contents.now c.args.t.now.policy.now c.args.who c.args.path.now c.args.rest c.args.at c.args.intent c.requires.rest_of _ c.none_left.ensures c.if-none_left.false _ c.read_name-name.ensures _ c.rest_from-ns.ensures c.args.t.now.bytes (λ j. (c.type_inv.path j).fits) _ c.none_left-last.ensures _ c.here-it.ensures _ c.look_up.ensures _ c.in_ok-met.was _ c.follow.ensures _ c.in_ok-to.was c.if-last.true
 
 pub walk_from-walk_from-requires : goal.walk_from-walk_from-requires
-walk_from-walk_from-requires t c = walk-below-it c.args.rom.now c.args.files.now c.args.contents.now c.args.policy.now c.args.who c.args.path.now c.args.rest c.args.at c.args.intent c.requires.rest_of _ c.none_left.ensures c.if-none_left.false _ c.read_name-name.ensures _ c.rest_from-ns.ensures (λ j. (c.type_inv.contents j).fits) (λ j. (c.type_inv.path j).fits) _ c.none_left-last.ensures _ c.here-it.ensures _ c.look_up.ensures _ c.in-Reached.is _ c.follow-w.ensures _ _ c.in-Reached-w.is c.decreases c.requires.follows_bound
+walk_from-walk_from-requires t c = walk-below-it c.args.t.now.rom.now c.args.t.now.files.now c.args.t.now.contents.now c.args.t.now.policy.now c.args.who c.args.path.now c.args.rest c.args.at c.args.intent c.requires.rest_of _ c.none_left.ensures c.if-none_left.false _ c.read_name-name.ensures _ c.rest_from-ns.ensures c.args.t.now.bytes (λ j. (c.type_inv.path j).fits) _ c.none_left-last.ensures _ c.here-it.ensures _ c.look_up.ensures _ c.in_ok-met.was _ c.follow.ensures _ _ c.in_ok-to.was c.decreases c.requires.follows_bound
 
-pub walk_from-returns-in-Stopped : goal.walk_from-returns-in-Stopped
-walk_from-returns-in-Stopped t c = refuse c.args.rom.now c.args.files.now c.args.contents.now c.args.policy.now c.args.who c.args.path.now c.args.rest c.args.at c.args.intent c.requires.rest_of _ c.none_left.ensures c.if-none_left.false _ c.read_name-name.ensures _ c.rest_from-ns.ensures (λ j. (c.type_inv.contents j).fits) (λ j. (c.type_inv.path j).fits) _ c.none_left-last.ensures _ c.here-it.ensures _ c.look_up.ensures _ _ c.in-Stopped.is
+pub walk_from-returns-in_err-met : goal.walk_from-returns-in_err-met
+walk_from-returns-in_err-met t c = passed_on _ _ c.from_residual.ensures.1 ∙ refuse c.args.t.now.rom.now c.args.t.now.files.now c.args.t.now.contents.now c.args.t.now.policy.now c.args.who c.args.path.now c.args.rest c.args.at c.args.intent c.requires.rest_of _ c.none_left.ensures c.if-none_left.false _ c.read_name-name.ensures _ c.rest_from-ns.ensures c.args.t.now.bytes (λ j. (c.type_inv.path j).fits) _ c.none_left-last.ensures _ c.here-it.ensures _ c.look_up.ensures _ c.in_err-met.was
 
-pub walk_from-returns-in-Stopped-w : goal.walk_from-returns-in-Stopped-w
-walk_from-returns-in-Stopped-w t c = turn c.args.rom.now c.args.files.now c.args.contents.now c.args.policy.now c.args.who c.args.path.now c.args.rest c.args.at c.args.intent c.requires.rest_of _ c.none_left.ensures c.if-none_left.false _ c.read_name-name.ensures _ c.rest_from-ns.ensures (λ j. (c.type_inv.contents j).fits) (λ j. (c.type_inv.path j).fits) _ c.none_left-last.ensures _ c.here-it.ensures _ c.look_up.ensures _ c.in-Reached.is _ c.follow-w.ensures _ _ c.in-Stopped-w.is
+pub walk_from-returns-in_err-to : goal.walk_from-returns-in_err-to
+walk_from-returns-in_err-to t c = passed_on _ _ c.from_residual-in_err-to.ensures.1 ∙ turn c.args.t.now.rom.now c.args.t.now.files.now c.args.t.now.contents.now c.args.t.now.policy.now c.args.who c.args.path.now c.args.rest c.args.at c.args.intent c.requires.rest_of _ c.none_left.ensures c.if-none_left.false _ c.read_name-name.ensures _ c.rest_from-ns.ensures c.args.t.now.bytes (λ j. (c.type_inv.path j).fits) _ c.none_left-last.ensures _ c.here-it.ensures _ c.look_up.ensures _ c.in_ok-met.was _ c.follow.ensures _ c.in_err-to.was
 
-pub walk_from-returns-in-Reached-w : goal.walk_from-returns-in-Reached-w
-walk_from-returns-in-Reached-w t c = on c.args.rom.now c.args.files.now c.args.contents.now c.args.policy.now c.args.who c.args.path.now c.args.rest c.args.at c.args.intent c.requires.rest_of _ c.none_left.ensures c.if-none_left.false _ c.read_name-name.ensures _ c.rest_from-ns.ensures (λ j. (c.type_inv.contents j).fits) (λ j. (c.type_inv.path j).fits) _ c.none_left-last.ensures _ c.here-it.ensures _ c.look_up.ensures _ c.in-Reached.is _ c.follow-w.ensures _ _ c.in-Reached-w.is c.walk_from.ensures
+pub walk_from-returns : goal.walk_from-returns
+walk_from-returns t c = on c.args.t.now.rom.now c.args.t.now.files.now c.args.t.now.contents.now c.args.t.now.policy.now c.args.who c.args.path.now c.args.rest c.args.at c.args.intent c.requires.rest_of _ c.none_left.ensures c.if-none_left.false _ c.read_name-name.ensures _ c.rest_from-ns.ensures c.args.t.now.bytes (λ j. (c.type_inv.path j).fits) _ c.none_left-last.ensures _ c.here-it.ensures _ c.look_up.ensures _ c.in_ok-met.was _ c.follow.ensures _ _ c.in_ok-to.was c.walk_from.ensures

@@ -4,12 +4,12 @@ use Rattle.resolution.proofs.walk.look_up.Goals as goal
 
 pub returns-then-not-is_directory : goal.returns-then-not-is_directory
 unfolding lookup_by
-returns-then-not-is_directory c = search asked
+returns-then-not-is_directory c = rw c.at.ensures (search asked)
 
-pub returns-in-Allowed : goal.returns-in-Allowed
+pub returns-in-Ok : goal.returns-in-Ok
 unfolding lookup_by
-returns-in-Allowed c = search asked
+returns-in-Ok c = rw (c.enter.ensures, c.find_in.ensures) (search asked)
 
-pub returns-in-Forbidden : goal.returns-in-Forbidden
+pub returns-in-Err : goal.returns-in-Err
 unfolding lookup_by
-returns-in-Forbidden c = search asked
+returns-in-Err c = rw c.at-in-Err.ensures (search asked)

@@ -8,7 +8,7 @@ use Rattle.rules.specs.Walk.{start, walk, ROOT}
 use Rattle.rules.specs.declared.request.Subject.{Subject}
 use Rattle.rules.specs.declared.decision.Location.{Location}
 use Rattle.rules.specs.declared.decision.Intent.{Intent}
-use Rattle.rules.specs.declared.decision.Walk.{Walk}
+use Rattle.rules.specs.Decisions.{Walk}
 use Rattle.resolution.specs.declared.walk.Rest.{Rest}
 use Rattle.resolution.specs.Walks.{rest_from, names_left, RestOf}
 use Rattle.resolution.proofs.Walks.{rest_of, all_left}

@@ -3,4 +3,4 @@ use Rattle.rows.proofs.rows.clear_slot.Goals as goal
 
 pub returns : goal.returns
 unfolding apply_all
-returns c = λ E P. rw (c.zero_bytes.ensures, c.put_record.ensures)
+returns c = λ E P. rw (c.fill.ensures, c.put_record.ensures)

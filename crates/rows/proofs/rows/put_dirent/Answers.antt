@@ -4,4 +4,4 @@ use Rattle.rows.proofs.rows.put_dirent.Goals as goal
 
 pub returns : goal.returns
 unfolding dirent
-returns c = rw (c.put_byte-2.ensures, c.put_byte.ensures, c.slot_byte.ensures, c.put_name.ensures) (padded-two _ _ _ _ _ _)
+returns c = rw (c.put-2.ensures, c.put.ensures, c.slot_byte.ensures, c.put_name.ensures) (padded-two _ _ _ _ _ _)

@@ -7,7 +7,7 @@ pub loop-k-init : goal.loop-k-init
 loop-k-init c = (refl, padded-start _ _ _ _)
 
 pub loop-k-preserved : goal.loop-k-preserved
-loop-k-preserved c = (search rules, rw (c.put_byte.ensures, c.byte.ensures) (padded-step _ _ _ _ _ c.loop-k.invariant.1 c.loop-k-test.true))
+loop-k-preserved c = (search rules, rw (c.put.ensures, c.get_or.ensures) (padded-step _ _ _ _ _ c.loop-k.invariant.1 c.loop-k-test.true))
 
 pub returns : goal.returns
 returns c = padded-done _ _ _ _ _ c.loop-k.invariant.1 c.loop-k-test.false

@@ -8,6 +8,3 @@ use Rattle.rows.proofs.rows.put_name.Given as goal
 
 abbrev pub invariant-loop-k : goal.invariant-loop-k
 invariant-loop-k l = (length l.contents ≡ length l.initial.contents) × (sets l.contents (l.at + l.k) (padded (NAME - l.k) (drop l.k l.name)) ≡ sets l.initial.contents l.at (padded NAME l.name))
-
-abbrev pub decreases-loop-k : goal.decreases-loop-k
-decreases-loop-k l = NAME - l.k

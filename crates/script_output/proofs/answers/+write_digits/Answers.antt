@@ -23,4 +23,4 @@ pub overflow_add-result-2 : goal.overflow_add-result-2
 overflow_add-result-2 t c = omega (arith, room-last _ _ _ [] c.if-k-eq0.false c.if-n-lt10.false c.write_digits-end.ensures.ends c.requires)
 
 pub returns : goal.returns
-returns t c = record { output = rw c.put_byte.ensures (text-more _ _ _ _ c.if-k-eq0.false c.if-n-lt10.false c.write_digits-end.ensures.ends c.write_digits-end.ensures.output); ends = search end_more }
+returns t c = record { output = rw c.put.ensures (text-more _ _ _ _ c.if-k-eq0.false c.if-n-lt10.false c.write_digits-end.ensures.ends c.write_digits-end.ensures.output); ends = search end_more }

@@ -1,8 +1,8 @@
 use Rattle.script_output.proofs.AnswerLaws.{none-text, some-room, some-text}
 use Rattle.script_output.proofs.answers.write_fields.Goals as goal
 
-pub returns-then-none : goal.returns-then-none
-returns-then-none c = search none-text
+pub returns-then-f-eq0 : goal.returns-then-f-eq0
+returns-then-f-eq0 c = search none-text
 
 pub write_hex-requires : goal.write_hex-requires
 write_hex-requires c = search some-room

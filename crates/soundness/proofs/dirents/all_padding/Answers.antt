@@ -1,8 +1,9 @@
-use Rattle.soundness.proofs.NewNames.{low-used, high-decides}
+use Rattle.std.proofs.Common.{arith}
+use Rattle.soundness.proofs.NewNames.{padding_by}
 use Rattle.soundness.proofs.dirents.all_padding.Goals as goal
 
-pub returns-then-not-low : goal.returns-then-not-low
-returns-then-not-low c = search low-used
+pub returns-then-low_word-eq0 : goal.returns-then-low_word-eq0
+returns-then-low_word-eq0 c = grind (arith, padding_by c.args.name.now (λ k. (c.type_inv.name k).fits))
 
-pub returns : goal.returns
-returns c = high-decides c.args.name.now (λ k. (c.type_inv.name k).fits) _ _ c.low_word-low.ensures c.if-not-low.false-raw c.high_word.ensures
+pub returns-else-low_word-eq0 : goal.returns-else-low_word-eq0
+returns-else-low_word-eq0 c = grind (arith, padding_by c.args.name.now (λ k. (c.type_inv.name k).fits))

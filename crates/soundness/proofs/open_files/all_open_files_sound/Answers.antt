@@ -1,15 +1,6 @@
-use mathlib.Core.Path.{refl}
-use Rattle.rules.proofs.Scans.{all_yes, all-no, all_done}
+use Rattle.std.proofs.Common.{rules, tests, refl}
+use Rattle.rules.proofs.Chains.{all_in_range}
 use Rattle.soundness.proofs.open_files.all_open_files_sound.Goals as goal
 
-pub loop-e-init : goal.loop-e-init
-loop-e-init c = refl
-
-pub loop-e-preserved : goal.loop-e-preserved
-loop-e-preserved c = search all_yes
-
-pub returns-else-open_sound : goal.returns-else-open_sound
-returns-else-open_sound c = search all-no
-
 pub returns : goal.returns
-returns c = search all_done
+returns c = all_in_range _ _ _ c.all.ensures.ran refl (λ x t q k. search (rules, tests))

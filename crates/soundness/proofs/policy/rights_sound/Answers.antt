@@ -1,12 +1,6 @@
-use mathlib.Core.Path.{refl}
-use Rattle.soundness.proofs.Flags.{flag-next, flag-done}
+use Rattle.std.proofs.Common.{rules, tests, refl}
+use Rattle.soundness.proofs.Flags.{flags_in_range}
 use Rattle.soundness.proofs.policy.rights_sound.Goals as goal
 
-pub loop-i-init : goal.loop-i-init
-loop-i-init c = refl
-
-pub loop-i-preserved : goal.loop-i-preserved
-loop-i-preserved c = search flag-next
-
 pub returns : goal.returns
-returns c = search flag-done
+returns c = flags_in_range _ _ _ c.fold.ensures.ran refl (λ a x b q k. search (rules, tests))

@@ -8,8 +8,8 @@ loop-s-init c = refl
 pub loop-s-preserved : goal.loop-s-preserved
 loop-s-preserved c = search all_yes
 
-pub returns-else-slot_sound : goal.returns-else-slot_sound
-returns-else-slot_sound c = search all-no
+pub returns-then-not-slot_sound : goal.returns-then-not-slot_sound
+returns-then-not-slot_sound c = search all-no
 
 pub returns : goal.returns
 returns c = search all_done

@@ -1,10 +1,10 @@
 use Rattle.stages.specs.Judged.{answered_by}
 use Rattle.stages.proofs.call.answer.Goals as goal
 
-pub returns-in-Refused : goal.returns-in-Refused
+pub returns-in-Err : goal.returns-in-Err
 unfolding answered_by
-returns-in-Refused c = rw (c.in-Refused.is, c.refused_answer.ensures)
+returns-in-Err c = λ E P. rw (c.in-Err.is, c.refused_answer.ensures)
 
-pub returns-in-Granted : goal.returns-in-Granted
+pub returns-in-Ok : goal.returns-in-Ok
 unfolding answered_by
-returns-in-Granted c = rw c.in-Granted.is c.say.ensures
+returns-in-Ok c = λ E P. rw c.in-Ok.is (c.say.ensures E P)

@@ -2,10 +2,10 @@ use mathlib.Core.Path.{refl}
 use Rattle.rules.specs.Step.{store_after}
 use Rattle.stages.proofs.call.carry.Goals as goal
 
-pub returns-in-Refused : goal.returns-in-Refused
+pub returns-in_default : goal.returns-in_default
 unfolding store_after
-returns-in-Refused c = rw c.in-Refused.is (λ buffer. refl)
+returns-in_default c = rw c.in_default.is (λ buffer. refl)
 
-pub returns-in-Granted : goal.returns-in-Granted
+pub returns-in-Ok : goal.returns-in-Ok
 unfolding store_after
-returns-in-Granted c = rw c.in-Granted.is c.carry_out.ensures
+returns-in-Ok c = rw c.in-Ok.is c.carry_out.ensures

@@ -7,7 +7,7 @@ use lib.Dec.{leb}
 use Rattle.rules.specs.Store.{Table}
 use Rattle.rules.specs.Checks.{need}
 use Rattle.rules.specs.Decide.{write_file}
-use Rattle.rules.specs.declared.decision.Decision.{Decision}
+use Rattle.rules.specs.Decisions.{Decision}
 use Rattle.rules.proofs.Choices.{steps}
 use Rattle.transfer_calls.specs.Stored.{stored}
 use Rattle.rules.specs.declared.ids.Ofd.{Ofd}

@@ -1,4 +1,0 @@
-use Rattle.borrow.proofs.span.place_in_rom.Goals as goal
-
-pub returns : goal.returns
-returns c = cc

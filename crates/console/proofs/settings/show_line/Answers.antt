@@ -1,4 +1,0 @@
-use Rattle.console.proofs.settings.show_line.Goals as goal
-
-pub returns : goal.returns
-returns c = cc

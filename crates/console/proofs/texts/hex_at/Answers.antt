@@ -1,4 +1,0 @@
-use Rattle.console.proofs.texts.hex_at.Goals as goal
-
-pub returns : goal.returns
-returns c = cc

@@ -1,4 +1,0 @@
-use Rattle.directories.proofs.seen.found_in_rom.Goals as goal
-
-pub returns : goal.returns
-returns c = cc

@@ -1,4 +1,0 @@
-use Rattle.rights.proofs.rights.label_allows.Goals as goal
-
-pub returns : goal.returns
-returns c = cc

@@ -1,4 +1,0 @@
-use Rattle.rom.proofs.seen.is_directory.Goals as goal
-
-pub returns : goal.returns
-returns c = cc

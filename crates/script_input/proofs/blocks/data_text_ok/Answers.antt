@@ -1,6 +1,0 @@
-use Rattle.script_rules.specs.Text.{hex_ok}
-use Rattle.script_input.proofs.blocks.data_text_ok.Goals as goal
-
-pub returns : goal.returns
-unfolding hex_ok
-returns c = cc

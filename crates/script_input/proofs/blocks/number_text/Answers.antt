@@ -1,4 +1,0 @@
-use Rattle.script_input.proofs.blocks.number_text.Goals as goal
-
-pub returns : goal.returns
-returns c = cc

@@ -1,4 +1,0 @@
-use Rattle.script_input.proofs.blocks.read_numbers.Goals as goal
-
-pub returns : goal.returns
-returns c = cc

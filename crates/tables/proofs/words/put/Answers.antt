@@ -1,6 +1,0 @@
-use Rattle.std.proofs.Common.{sym}
-use lib.Seq.{set_out}
-use Rattle.tables.proofs.words.put.Goals as goal
-
-pub returns-else-i-xs : goal.returns-else-i-xs
-returns-else-i-xs c = sym (set_out _ _ _ c.if-i-xs.false)
