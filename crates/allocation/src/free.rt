@@ -9,6 +9,7 @@ use crate::used::used_descriptors;
 use rules::ids::{Fd, Ofd, Pid, Slot};
 use tables::layout::{FILES_SIZE, OPEN_FILES, OPEN_FILES_SIZE, PROCESSES, SLOTS};
 
+#[tactic(auto, unfolding(rules::specs::Checks::slot_free))]
 fn slot_free(files: &[u32], s: Slot) -> bool
     ensures { result ≡ slot_free (tab FILE_WIDTH files.now) s.0 }
 {
@@ -37,6 +38,7 @@ pub fn free_slot(files: &[u32]) -> Slot
     first_free_slot(files)
 }
 
+#[tactic(auto, unfolding(rules::specs::Checks::ofd_free))]
 fn ofd_free(open_files: &[u32], e: Ofd) -> bool
     ensures { result ≡ ofd_free (tab OPEN_FILE_WIDTH open_files.now) e.0 }
 {
@@ -71,6 +73,7 @@ pub fn free_fd(processes: &[u32], p: Pid) -> Fd
     Fd(lowest)
 }
 
+#[tactic(auto, unfolding(rules::specs::Checks::pid_free))]
 fn pid_free(processes: &[u32], q: Pid) -> bool
     ensures { result ≡ pid_free (proc_of processes.now) q.0 }
 {

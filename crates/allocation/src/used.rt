@@ -7,12 +7,14 @@ ghost use Rattle.allocation.specs.Word.{used_word, BitsHeld};
 use rules::ids::{Fd, Pid};
 use tables::layout::{DESCRIPTORS, PROCESS_WIDTH};
 
+#[tactic(auto, unfolding(rules::specs::Checks::fd_free))]
 fn fd_free(processes: &[u32], p: Pid, i: Fd) -> bool
     ensures { result ≡ fd_free (desc_of processes.now) p i.0 }
 {
     tables::processes::descriptor(processes, p, i) == 0
 }
 
+#[tactic(auto, using(rules::proofs::Choices::steps))]
 fn bit_if_free(processes: &[u32], p: Pid, i: Fd, bit: u8) -> u8
     ensures { result ≡ cond (fd_free (desc_of processes.now) p i.0) bit 0 }
 {

@@ -22,8 +22,7 @@ fn decide_borrow(t: &Tables, p: Pid, i: Fd, n: u32) -> Decision
     if !in_use(t.processes, p) {
         return Err(Refusal::NoProcess.into());
     }
-    let few = n <= LENGTH_MAX;
-    if !few {
+    if LENGTH_MAX < n {
         return Err(Refusal::Malformed.into());
     }
     decide_read(t, p, subject(t.processes, p), i, n as usize)

@@ -1,15 +1,15 @@
 // The bytes themselves: a part of the contents or of the factory part, whichever has the file.
 ghost use Rattle.std.specs.Prelude.{◌≡◌, List, ℕ, take, drop};
 ghost use Rattle.rules.specs.Store.{fixed, store};
-ghost use Rattle.rules.specs.Step.{bytes_of, bytes_out, step_borrow};
+ghost use Rattle.rules.specs.Step.{bytes_of, step_borrow};
 ghost use Rattle.borrow.specs.Lent.{lent_back, of_outcome};
-ghost use Rattle.borrow.specs.Judged.{bytes_lent, offset_moved, moved_on};
+ghost use Rattle.borrow.specs.Judged.{bytes_lent, moved_on};
 
 use crate::judge::{judge, refusal_of};
 use allocation::held::ofd_held;
 use descriptor_effects::open_files::move_offset;
 use rom::seen::bytes_of;
-use rules::decision::{Decision, Output};
+use rules::decision::{Decision, Grant, Output};
 use rules::ids::{Fd, Ofd, Pid, Slot};
 use tables::lent::Tables;
 use tables::numbers::add;
@@ -22,43 +22,34 @@ pub(crate) fn part_of<'a>(contents: &'a [u8], rom: &'a [u8], s: Slot, from: u32,
     upto(after(bytes_of(contents, rom, s), from as usize), n as usize)
 }
 
-#[tactic(auto, unfolding(rules::specs::Step::bytes_out))]
-fn bytes_out<'a>(contents: &'a [u8], rom: &'a [u8], o: Output) -> &'a [u8]
-    ensures { result.now ≡ bytes_out rom.now contents.now o }
-{
-    match o {
-        Output::Nothing | Output::Name(..) | Output::Fields(_) => &contents[0..0],
-        Output::Bytes(s, from, n) => part_of(contents, rom, s, from, n),
-    }
-}
-
-#[tactic(auto, unfolding(crate::specs::Judged::bytes_lent))]
+#[tactic(auto, unfolding(crate::specs::Judged::bytes_lent, rules::specs::Step::bytes_out))]
 fn bytes_lent<'a>(contents: &'a [u8], rom: &'a [u8], d: Decision) -> &'a [u8]
     ensures { result.now ≡ bytes_lent rom.now contents.now d }
 {
     match d {
-        Ok(grant) => bytes_out(contents, rom, grant.output),
-        Err(_) => &contents[0..0],
+        Ok(
+            Grant {
+                output: Output::Bytes(s, from, n),
+                ..
+            },
+        ) => part_of(contents, rom, s, from, n),
+        Ok(_) | Err(_) => &contents[0..0],
     }
 }
 
 // What is read through open file e moves its offset.
-#[tactic(auto, unfolding(crate::specs::Judged::offset_moved))]
-fn move_by(open_files: &mut [u32], e: Ofd, o: Output)
-    ensures { (F C P : List ℕ) → store F C open_files.new P ≡ offset_moved e o (store F C open_files.old P) }
-{
-    match o {
-        Output::Nothing | Output::Name(..) | Output::Fields(_) => {}
-        Output::Bytes(_, from, n) => move_offset(open_files, e, add(from, n)),
-    }
-}
-
+#[tactic(auto, unfolding(crate::specs::Judged::moved_on, crate::specs::Judged::offset_moved))]
 pub(crate) fn move_on(open_files: &mut [u32], e: Ofd, d: Decision)
     ensures { (F C P : List ℕ) → store F C open_files.new P ≡ moved_on e d (store F C open_files.old P) }
 {
     match d {
-        Ok(grant) => move_by(open_files, e, grant.output),
-        Err(_) => {}
+        Ok(
+            Grant {
+                output: Output::Bytes(_, from, n),
+                ..
+            },
+        ) => move_offset(open_files, e, add(from, n)),
+        Ok(_) | Err(_) => {}
     }
 }
 

@@ -5,13 +5,13 @@ ghost use Rattle.rules.specs.Store.{fixed, store};
 ghost use Rattle.rules.specs.Step.{step_borrow};
 ghost use Rattle.rom.specs.Rest.{prompt_rest};
 ghost use Rattle.borrow.specs.Lent.{lent_back, of_outcome};
-ghost use Rattle.borrow.specs.Spans.{placed, memory_of, place_of, span_in, none, span_out, span_of, span_bytes};
+ghost use Rattle.borrow.specs.Spans.{placed, memory_of, place_of, span_in, none, span_of, span_bytes};
 
 use crate::judge::judge;
 use crate::read::{move_on, part_of};
 use allocation::held::ofd_held;
 use rom::part::prompt_rest;
-use rules::decision::{Decision, Output};
+use rules::decision::{Decision, Grant, Output};
 use rules::ids::{Fd, Pid, Slot};
 use tables::ids::is_slot;
 use tables::layout::{BLOCK, SLOTS};
@@ -95,22 +95,18 @@ fn nothing(refusal: u32) -> Borrowed
     }
 }
 
-#[tactic(auto, unfolding(crate::specs::Spans::span_out))]
-fn span_out<'a>(contents: &'a [u8], rom: &'a [u8], o: Output) -> Borrowed
-    ensures { result ≡ span_out rom.now contents.now o }
-{
-    match o {
-        Output::Nothing | Output::Name(..) | Output::Fields(_) => nothing(0),
-        Output::Bytes(s, from, n) => span_in(contents, rom, s, from, n),
-    }
-}
-
-#[tactic(auto, unfolding(crate::specs::Spans::span_of))]
+#[tactic(auto, unfolding(crate::specs::Spans::span_of, crate::specs::Spans::span_out))]
 fn span_of<'a>(contents: &'a [u8], rom: &'a [u8], d: Decision) -> Borrowed
     ensures { result ≡ span_of rom.now contents.now d }
 {
     match d {
-        Ok(grant) => span_out(contents, rom, grant.output),
+        Ok(
+            Grant {
+                output: Output::Bytes(s, from, n),
+                ..
+            },
+        ) => span_in(contents, rom, s, from, n),
+        Ok(_) => nothing(0),
         Err(stop) => nothing(stop.refusal.number()),
     }
 }

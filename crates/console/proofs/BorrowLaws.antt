@@ -14,8 +14,8 @@ use Rattle.console.specs.declared.settings.Console.{Console}
 
 pub tables_after : (s : Console) (c : Request) {R : List ℕ} → R ≡ part_of s → {r : ℕ} {b E : List ℕ}
     → lent_back r b (store s.files s.contents E s.processes) ≡ of_outcome (step_borrow (fixed s.policy R) (store s.files s.contents s.open_files s.processes) c.process c.fd c.number)
-    → tables s.files s.contents E s.processes s.policy s.rom s.rom_size ≡ borrowed_tables s c
+    → tables s.files s.contents E s.processes s.policy s.rom ≡ borrowed_tables s c
 unfolding borrowed_tables
 tables_after s c {R} q {r} {b} {E} h =
     let k : lent_back r b (store s.files s.contents E s.processes) ≡ of_outcome (borrowed_on s c) = rw q at h in
-    ap (λ (o : LentBack). tables o.store.files o.store.contents o.store.open_files o.store.processes s.policy s.rom s.rom_size) k
+    ap (λ (o : LentBack). tables o.store.files o.store.contents o.store.open_files o.store.processes s.policy s.rom) k

@@ -33,11 +33,11 @@ buffer_lent (suc m) (suc n) h = rw (buffer_lent m n (le_of_suc-le-suc h))
 
 pub tables_after : (s : Console) (c : Call) {R : List ℕ} → R ≡ part_of s → {a : Answer} {b F C E P : List ℕ}
     → lent a b (store F C E P) ≡ lent_of (step (fixed s.policy R) (store s.files s.contents s.open_files s.processes) c)
-    → (tables F C E P s.policy s.rom s.rom_size ≡ called_tables s c) × (b ≡ (outcome_on s c).reply.buffer)
+    → (tables F C E P s.policy s.rom ≡ called_tables s c) × (b ≡ (outcome_on s c).reply.buffer)
 unfolding called_tables
 tables_after s c {R} q {a} {b} {F} {C} {E} {P} h =
     let k : lent a b (store F C E P) ≡ lent_of (outcome_on s c) = rw q at h in (
-      ap (λ (l : Lent). tables l.store.files l.store.contents l.store.open_files l.store.processes s.policy s.rom s.rom_size) k,
+      ap (λ (l : Lent). tables l.store.files l.store.contents l.store.open_files l.store.processes s.policy s.rom) k,
       ap (λ (l : Lent). l.buffer) k,
     )
 

@@ -9,7 +9,8 @@ use borrow.Author.Tests.{le-leb, lt-leb}
 use lib.ListN.{length, get_or, drop, drop_of_length-le}
 use Rattle.std.specs.Prelude.{Some, None}
 use Rattle.script_rules.specs.Text.{digits_from}
-use Rattle.script_text.proofs.DigitLaws.{grows, more}
+use Rattle.script_rules.proofs.Digits.{grows}
+use Rattle.script_text.proofs.DigitLaws.{more}
 use Rattle.console.specs.Numbers.{NUMBER_MAX, narrow}
 
 -- the code takes the product and the sum one after the other, and stops at the first that is too wide

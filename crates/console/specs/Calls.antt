@@ -137,7 +137,7 @@ abbrev pub outcome_on : Console → Call → Outcome
 outcome_on s c = step (fixed s.policy (part_of s)) (store s.files s.contents s.open_files s.processes) c
 
 abbrev pub with_store : Console → Store → Console
-with_store s t = tables t.files t.contents t.open_files t.processes s.policy s.rom s.rom_size
+with_store s t = tables t.files t.contents t.open_files t.processes s.policy s.rom
 
 unfoldable pub called_tables : Console → Call → Console
 called_tables s c = with_store s (outcome_on s c).store

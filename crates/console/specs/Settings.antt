@@ -10,30 +10,36 @@ use Rattle.rules.specs.Scan.{fold, first}
 use Rattle.console.specs.Words.{head_of, word_of, index_of}
 use Rattle.console.specs.Numbers.{number_at}
 use Rattle.console.specs.Texts.{text_of}
+use Rattle.console.specs.declared.settings.Rom as factory
 use Rattle.console.specs.declared.settings.Console.{Console}
 use Rattle.console.specs.declared.settings.Table.{Table}
 use Rattle.console.specs.declared.settings.Table.TheVariants.{Files, Opens, Processes, Contents, Policy, Rom}
 
 -- ---- the tables
 
-abbrev pub tables : (files contents open_files processes policy rom : List ℕ) (rom_size : ℕ) → Console
-tables f c e p q r n = record { files = f; contents = c; open_files = e; processes = p; policy = q; rom = r; rom_size = n }
+abbrev pub tables : (files contents open_files processes policy : List ℕ) (rom : factory.Rom) → Console
+tables f c e p q r = record { files = f; contents = c; open_files = e; processes = p; policy = q; rom = r }
 
 -- room for the factory part: more than 16 prompts take
 abbrev pub ROM_ROOM : ℕ
 ROM_ROOM = 9216
 
--- the factory part
+-- the factory part: the first `size` bytes of its room
+abbrev pub part : (room : List ℕ) (size : ℕ) → factory.Rom
+part r n = record { room = r; size = n }
+
+abbrev pub rom_of : factory.Rom → List ℕ
+rom_of r = take r.size r.room
+
 abbrev pub part_of : Console → List ℕ
-part_of s = take s.rom_size s.rom
+part_of s = rom_of s.rom
 
 -- no files, no processes, no rights, no transitions and no prompts
 unfoldable pub empty_tables : Console
 empty_tables =
     tables (replicate (SLOTS * FILE_WIDTH) 0) (replicate (SLOTS * BLOCK) 0) (replicate (OPEN_FILES * OPEN_FILE_WIDTH) 0) (replicate (PROCESSES * PROCESS_WIDTH) 0)
     (replicate RIGHTS_SIZE 0 ++ replicate RIGHTS_SIZE NO_TRANSITION)
-    (replicate ROM_ROOM 0)
-    0
+    (part (replicate ROM_ROOM 0) 0)
 
 -- ---- the parts of a line l: set TABLE RECORD FIELD VALUES
 
@@ -82,17 +88,15 @@ abbrev pub bytes_set : (l : List ℕ) (at : ℕ) (table : List ℕ) → List ℕ
 bytes_set l at table = text_put (text_in l) at table
 
 -- the text in the factory part from `at` on, which ends with it or with its room; where the part was shorter there is 0 before the text
-unfoldable pub rom_put : (at : ℕ) (text : List ℕ) → Console → Console
-rom_put at text s =
-    tables s.files s.contents s.open_files s.processes s.policy (sets (sets s.rom (min s.rom_size at) (zeros ROM_ROOM)) at text)
-    (min (at + length text) ROM_ROOM)
+unfoldable pub rom_put : (at : ℕ) (text : List ℕ) → factory.Rom → factory.Rom
+rom_put at text r = part (sets (sets r.room (min r.size at) (zeros ROM_ROOM)) at text) (min (at + length text) ROM_ROOM)
 
-unfoldable pub rom_written : Option (List ℕ) → (at : ℕ) → Console → Console
-rom_written (Some t) at s = rom_put at t s
-rom_written None at s = s
+unfoldable pub rom_written : Option (List ℕ) → (at : ℕ) → factory.Rom → factory.Rom
+rom_written (Some t) at r = rom_put at t r
+rom_written None at r = r
 
-abbrev pub rom_set : List ℕ → (at : ℕ) → Console → Console
-rom_set l at s = rom_written (text_in l) at s
+abbrev pub rom_set : List ℕ → (at : ℕ) → factory.Rom → factory.Rom
+rom_set l at r = rom_written (text_in l) at r
 
 -- "files opens processes contents policy rom"
 abbrev pub TABLES : List ℕ
@@ -124,12 +128,12 @@ line_shown l = record_shown (number_at l 2) (table_of l)
 
 -- field k of record i, and what follows, become a line's numbers or its text
 unfoldable pub table_set : Option Table → (i k : ℕ) → List ℕ → Console → Console
-table_set (Some Files) i k l s = tables (words_set l (place_in FILE_WIDTH i k) s.files) s.contents s.open_files s.processes s.policy s.rom s.rom_size
-table_set (Some Opens) i k l s = tables s.files s.contents (words_set l (place_in OPEN_FILE_WIDTH i k) s.open_files) s.processes s.policy s.rom s.rom_size
-table_set (Some Processes) i k l s = tables s.files s.contents s.open_files (words_set l (place_in PROCESS_WIDTH i k) s.processes) s.policy s.rom s.rom_size
-table_set (Some Contents) i k l s = tables s.files (bytes_set l (place_in BLOCK i k) s.contents) s.open_files s.processes s.policy s.rom s.rom_size
-table_set (Some Policy) i k l s = tables s.files s.contents s.open_files s.processes (bytes_set l (place_in LABELS i k) s.policy) s.rom s.rom_size
-table_set (Some Rom) i k l s = rom_set l (place_in BLOCK i k) s
+table_set (Some Files) i k l s = tables (words_set l (place_in FILE_WIDTH i k) s.files) s.contents s.open_files s.processes s.policy s.rom
+table_set (Some Opens) i k l s = tables s.files s.contents (words_set l (place_in OPEN_FILE_WIDTH i k) s.open_files) s.processes s.policy s.rom
+table_set (Some Processes) i k l s = tables s.files s.contents s.open_files (words_set l (place_in PROCESS_WIDTH i k) s.processes) s.policy s.rom
+table_set (Some Contents) i k l s = tables s.files (bytes_set l (place_in BLOCK i k) s.contents) s.open_files s.processes s.policy s.rom
+table_set (Some Policy) i k l s = tables s.files s.contents s.open_files s.processes (bytes_set l (place_in LABELS i k) s.policy) s.rom
+table_set (Some Rom) i k l s = tables s.files s.contents s.open_files s.processes s.policy (rom_set l (place_in BLOCK i k) s.rom)
 table_set None i k l s = s
 
 unfoldable pub record_set : (i k : Option ℕ) → List ℕ → Console → Console

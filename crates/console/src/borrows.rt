@@ -9,7 +9,6 @@ use crate::printing::print_text;
 use crate::settings::Console;
 use crate::words::word;
 use rules::request::Request;
-use tables::parts::upto;
 
 #[tactic(auto, unfolding(crate::specs::Borrows::borrows))]
 fn borrows(line: &[u8]) -> bool
@@ -56,7 +55,7 @@ fn serve_borrow(s: &mut Console, c: Request)
         &mut s.open_files,
         &s.processes,
         &s.policy,
-        upto(&s.rom, s.rom_size),
+        s.rom.bytes(),
         c.process,
         c.fd,
         c.number as u32,

@@ -1,7 +1,7 @@
 // A line that makes a call: the process, the call, and its parts.
 ghost use Rattle.std.specs.Prelude.{◌≡◌, take};
 ghost use Rattle.std.specs.Option.{is_some, option_copied};
-ghost use Rattle.rules.specs.Calls.{call_of};
+ghost use Rattle.tables.specs.Tables.{asked};
 ghost use Rattle.console.specs.Calls.{call_number, row_of, place_of, part_number, part_text, part_ends, call_asked, request_of, request_in, buffer_size, outcome_on, called_tables, call_in, line_called};
 
 use crate::numbers::{number, number_at};
@@ -178,23 +178,18 @@ fn print_answer(a: Answer, buffer: &[u8]) {
 }
 
 // The tables after the call; its answer is written.
-fn serve(s: &mut Console, c: Request, path: &[u8], data: &[u8], buffer: &mut [u8])
-    ensures tables { s.new ≡ called_tables s.old (call_of c path.now «data».now buffer.old) }
-    ensures buffer { buffer.new ≡ (outcome_on s.old (call_of c path.now «data».now buffer.old)).reply.buffer }
+fn serve(s: &mut Console, call: &Call, buffer: &mut [u8])
+    ensures tables { s.new ≡ called_tables s.old (asked call.now buffer.old) }
+    ensures buffer { buffer.new ≡ (outcome_on s.old (asked call.now buffer.old)).reply.buffer }
 {
-    let call = Call {
-        request: c,
-        path: path,
-        data: data,
-    };
     let a = store::call::call(
         &mut s.files,
         &mut s.contents,
         &mut s.open_files,
         &mut s.processes,
         &s.policy,
-        upto(&s.rom, s.rom_size),
-        &call,
+        s.rom.bytes(),
+        call,
         buffer,
     );
     print_answer(a, buffer);
@@ -214,7 +209,12 @@ pub(crate) fn call_line(s: &mut Console, line: &[u8]) -> bool
     let data = part_text(line, place(call, b'd'), &mut data);
     match (request_in(line), path, data) {
         (Some(c), Some(path), Some(data)) => {
-            serve(s, c, path, data, first(&mut buffer, buffer_size(c)));
+            let call = Call {
+                request: c,
+                path: path,
+                data: data,
+            };
+            serve(s, &call, first(&mut buffer, buffer_size(c)));
             true
         }
         _ => false,

@@ -1,7 +1,7 @@
 // The console's tables, and the lines that set or show them.
 ghost use Rattle.std.specs.Prelude.{◌≡◌, ◌+◌, ◌≤◌, ◌<◌, min};
 ghost use Rattle.std.proofs.lemmas.List.Edits.{sets};
-ghost use Rattle.console.specs.Settings.{empty_tables, place_in, numbers_of, numbers_end, ends_well, text_fits, words_set, bytes_set, ROM_ROOM, rom_put, rom_set, table_of, is_shown, line_shown, table_set, table_known, line_set, set_known, fresh_tables};
+ghost use Rattle.console.specs.Settings.{empty_tables, place_in, numbers_of, numbers_end, ends_well, text_fits, words_set, bytes_set, ROM_ROOM, rom_of, rom_put, rom_set, table_of, is_shown, line_shown, table_set, table_known, line_set, set_known, fresh_tables};
 
 use crate::numbers::number_at;
 use crate::printing::print_record;
@@ -11,6 +11,7 @@ use tables::layout::{
     BLOCK, CONTENTS_SIZE, FILE_WIDTH, FILES_SIZE, LABELS, OPEN_FILE_WIDTH, OPEN_FILES_SIZE,
     POLICY_SIZE, PROCESS_WIDTH, PROCESSES_SIZE, RIGHTS_SIZE,
 };
+use tables::parts::upto;
 use tables::words::{copy, fill};
 
 // Room for the factory part: more than 16 prompts of 512 bytes take, so that parts of too many can be set too.
@@ -36,7 +37,21 @@ const TABLES: [Table; 6] = [
     Table::Rom,
 ];
 
-// The tables. The factory part is the first `rom_size` bytes of its room.
+// The factory part is the first `size` bytes of its room.
+#[derive(Clone, Copy)]
+pub(crate) struct Rom {
+    room: [u8; ROM_ROOM],
+    size: usize,
+}
+
+impl Rom {
+    pub(crate) fn bytes(&self) -> &[u8]
+        ensures { result.now ≡ rom_of self.now }
+    {
+        upto(&self.room, self.size)
+    }
+}
+
 #[derive(Clone, Copy)]
 pub(crate) struct Console {
     pub(crate) files: [u32; FILES_SIZE],
@@ -44,8 +59,7 @@ pub(crate) struct Console {
     pub(crate) open_files: [u32; OPEN_FILES_SIZE],
     pub(crate) processes: [u32; PROCESSES_SIZE],
     pub(crate) policy: [u8; POLICY_SIZE],
-    pub(crate) rom: [u8; ROM_ROOM],
-    pub(crate) rom_size: usize,
+    pub(crate) rom: Rom,
 }
 
 // No files, no processes, no rights, no transitions and no prompts.
@@ -60,8 +74,10 @@ pub(crate) fn empty() -> Console
         open_files: [0u32; OPEN_FILES_SIZE],
         processes: [0u32; PROCESSES_SIZE],
         policy,
-        rom: [0u8; ROM_ROOM],
-        rom_size: 0,
+        rom: Rom {
+            room: [0u8; ROM_ROOM],
+            size: 0,
+        },
     }
 }
 
@@ -86,16 +102,12 @@ fn ends_well(line: &[u8]) -> bool
 fn put_numbers(words: &mut [u32], at: usize, line: &[u8])
     ensures { words.new ≡ sets words.old at (numbers_of line.now) }
 {
-    let mut a = at;
-    for k in 4..line.len() {
-        if words.len() <= a {
-            return;
-        }
-        let Some(n) = number_at(line, k) else {
+    let room = words.len().saturating_sub(at);
+    for i in 0..room.min(line.len().saturating_sub(4)) {
+        let Some(n) = number_at(line, 4 + i) else {
             return;
         };
-        words[a] = n;
-        a += 1;
+        words[at + i] = n;
     }
 }
 
@@ -147,24 +159,24 @@ fn rom_end(at: usize, n: usize) -> usize
 // The factory part from `at` on becomes the text, and ends with it. What stood past its end, or past `at`, is made 0
 // first, so that a part that was shorter has 0 before the text.
 #[tactic(auto, unfolding(crate::specs::Settings::rom_put))]
-fn put_rom(s: &mut Console, at: usize, text: &[u8])
-    ensures { s.new ≡ rom_put at text.now s.old }
+fn put_rom(rom: &mut Rom, at: usize, text: &[u8])
+    ensures { rom.new ≡ rom_put at text.now rom.old }
 {
-    let end = s.rom_size.min(at);
-    fill(&mut s.rom, end, ROM_ROOM, 0);
-    copy(&mut s.rom, at, text);
-    s.rom_size = rom_end(at, text.len());
+    let end = rom.size.min(at);
+    fill(&mut rom.room, end, ROM_ROOM, 0);
+    copy(&mut rom.room, at, text);
+    rom.size = rom_end(at, text.len());
 }
 
 #[tactic(auto, unfolding(crate::specs::Settings::rom_written))]
-fn set_rom(s: &mut Console, at: usize, line: &[u8]) -> bool
+fn set_rom(rom: &mut Rom, at: usize, line: &[u8]) -> bool
     ensures known { result ≡ text_fits line.now }
-    ensures tables { s.new ≡ rom_set line.now at s.old }
+    ensures rom { rom.new ≡ rom_set line.now at rom.old }
 {
     let mut room = [0u8; 512];
     match text_of(word(line, 4), &mut room) {
         Some(text) => {
-            put_rom(s, at, text);
+            put_rom(rom, at, text);
             true
         }
         None => false,
@@ -190,7 +202,7 @@ fn set_table(s: &mut Console, table: Option<Table>, i: u32, k: u32, line: &[u8])
         Some(Table::Processes) => set_words(&mut s.processes, place(PROCESS_WIDTH, i, k), line),
         Some(Table::Contents) => set_bytes(&mut s.contents, place(BLOCK, i, k), line),
         Some(Table::Policy) => set_bytes(&mut s.policy, place(LABELS, i, k), line),
-        Some(Table::Rom) => set_rom(s, place(BLOCK, i, k), line),
+        Some(Table::Rom) => set_rom(&mut s.rom, place(BLOCK, i, k), line),
         None => false,
     }
 }

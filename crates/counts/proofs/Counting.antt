@@ -12,7 +12,7 @@ use lib.Seq.{get_or-set_same, get_or-set_other}
 use Rattle.rules.specs.Scan.{fold, count, total, first}
 use Rattle.rules.specs.Layout.{DIRENTS}
 use Rattle.rules.specs.Store.{up}
-use Rattle.rules.proofs.Scans.{count_yes, count_no, count-done, total-next, total-done, first-yes, first-no, first_done}
+use Rattle.rules.proofs.Scans.{count_yes, count_no, count-done, total-next, total-done, first-most}
 use Rattle.counts.specs.Counts.{counted}
 use Rattle.rules.proofs.Scans.{fold_step, fold_done}
 
@@ -52,22 +52,8 @@ total-le-from h small (suc k) i n e =
     let b : h i ≤ DIRENTS = small i in
     omega arith
 
-first-le-from : (p : ℕ → Bool) (k i n : ℕ) → n - i ≡ k → i ≤ n → first p i n ≤ n
-first-le-from p zero i n e a =
-    let h : n ≤ i = omega arith in
-    let c : n ≡ first p i n = first_done p i n refl h in
-    omega arith
-first-le-from p (suc k) i n e a = by (p i) refl (first-le-from p k (i + 1) n (omega arith) (omega arith))
-  where
-    inside : i < n
-    inside = omega arith
-
-    by : (b : Bool) → p i ≡ b → first p (i + 1) n ≤ n → first p i n ≤ n
-    by true q rest = let c : i ≡ first p i n = first-yes p i n refl inside q refl in omega arith
-    by false q rest = let c : first p (i + 1) n ≡ first p i n = first-no p i n refl inside q refl in omega arith
-
 pub first-le : (p : ℕ → Bool) (n : ℕ) → first p 0 n ≤ n
-first-le p n = first-le-from p (n - 0) 0 n refl (omega arith)
+first-le p n = first-most p (n - 0) 0 n refl (omega arith)
 
 -- ---- passes
 

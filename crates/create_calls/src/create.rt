@@ -109,9 +109,7 @@ pub fn decide_create(
 ) -> Decision
     ensures { result ≡ decide_create t.now.policy.now (tree_seen t.now) who kind bits path.now }
 {
-    let Some(bits) = bits else {
-        return Err(Refusal::Malformed.into());
-    };
+    let bits = bits.ok_or(Refusal::Malformed)?;
     let new = NewFile {
         kind: kind,
         bits: bits,

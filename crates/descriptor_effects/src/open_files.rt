@@ -54,7 +54,7 @@ fn release_open(files: &mut [u32], contents: &mut [u8], open_files: &mut [u32], 
         Release::Gone(e) => {
             fill(
                 open_files,
-                OPEN_FILE_WIDTH * (e.0 as usize) + 0,
+                OPEN_FILE_WIDTH * (e.0 as usize),
                 OPEN_FILE_WIDTH,
                 0,
             );
@@ -62,7 +62,7 @@ fn release_open(files: &mut [u32], contents: &mut [u8], open_files: &mut [u32], 
         Release::Freed(e, s, record) => {
             fill(
                 open_files,
-                OPEN_FILE_WIDTH * (e.0 as usize) + 0,
+                OPEN_FILE_WIDTH * (e.0 as usize),
                 OPEN_FILE_WIDTH,
                 0,
             );

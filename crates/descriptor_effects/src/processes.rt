@@ -22,12 +22,7 @@ pub fn make_process(processes: &mut [u32], child: Pid, who: Subject)
 pub fn free_process(processes: &mut [u32], p: Pid)
     ensures { (F C E : List ℕ) → store F C E processes.new ≡ apply_all (proc_zero p.0 ∷ []) (store F C E processes.old) }
 {
-    fill(
-        processes,
-        PROCESS_WIDTH * (p.0 as usize) + 0,
-        PROCESS_WIDTH,
-        0,
-    );
+    fill(processes, PROCESS_WIDTH * (p.0 as usize), PROCESS_WIDTH, 0);
 }
 
 pub fn relabel_process(processes: &mut [u32], p: Pid, label: u32)

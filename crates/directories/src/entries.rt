@@ -3,7 +3,7 @@ ghost use Rattle.std.specs.Prelude.{◌≡◌, cond, length, ◌*◌, ◌<◌, �
 ghost use Rattle.rules.specs.Scan.{count, first};
 ghost use Rattle.rules.specs.Layout.{NAME, DIRENTS, ENTRIES, DIRENT_WIDTH};
 ghost use Rattle.rules.specs.Store.{entry};
-ghost use Rattle.rules.specs.Directories.{dirent_at, is_empty, free_dirent, differs_at, difference, precedes, is_before, is_ranked, dirent_ranked, is_padding, dirent_name};
+ghost use Rattle.rules.specs.Directories.{dirent_at, is_empty, free_dirent, differs_at, precedes, is_before, is_ranked, dirent_ranked, is_padding, dirent_name};
 ghost use Rattle.tables.specs.NameWords.{low_word, high_word};
 ghost use Rattle.directories.specs.ByWords.{has_words, stored_by, dirent_by};
 
@@ -140,20 +140,14 @@ fn differs_at(a: &[u8], b: &[u8], k: usize) -> bool
     get_or(a, k, 0) != get_or(b, k, 0)
 }
 
-// Where two names first differ, 14 where they do not.
-fn difference_of(a: &[u8], b: &[u8]) -> usize
-    ensures { result ≡ difference a.now b.now }
-{
-    (0..NAME).find(|k| differs_at(a, b, *k)).unwrap_or(NAME)
-}
-
 // Name a comes before name b.
-#[tactic(auto, unfolding(rules::specs::Directories::precedes, rules::specs::Choice::every))]
 fn precedes(a: &[u8], b: &[u8]) -> bool
     ensures { result ≡ precedes a.now b.now }
 {
-    let k = difference_of(a, b);
-    k < NAME && get_or(a, k, 0) < get_or(b, k, 0)
+    match (0..NAME).find(|k| differs_at(a, b, *k)) {
+        Some(k) => get_or(a, k, 0) < get_or(b, k, 0),
+        None => false,
+    }
 }
 
 // Entry j has a name that comes before that of entry i.

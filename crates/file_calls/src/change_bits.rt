@@ -40,9 +40,7 @@ fn change_bits_at(t: &Tables, who: Subject, bits: Bits, s: Slot) -> Decision
 pub fn decide_change_bits(t: &Tables, who: Subject, bits: Option<Bits>, path: &[u8]) -> Decision
     ensures { result ≡ decide_change_bits t.now.policy.now (tree_seen t.now) who bits path.now }
 {
-    let Some(bits) = bits else {
-        return Err(Refusal::Malformed.into());
-    };
+    let bits = bits.ok_or(Refusal::Malformed)?;
     let at = follow_path(t, who, path)?;
     change_bits_at(t, who, bits, at.slot)
 }

@@ -56,7 +56,7 @@ fn put_text(files: &mut [u32], contents: &mut [u8], text: &[u8], s: Slot, link: 
     ensures { (E P : List ℕ) → store files.new contents.new E P ≡ apply_all (file_to s.0 (words link) ∷ bytes_to s.0 0 text.now ∷ []) (store files.old contents.old E P) }
 {
     put_record(files, s, link);
-    copy(contents, BLOCK * (s.0 as usize) + 0, text);
+    copy(contents, BLOCK * (s.0 as usize), text);
 }
 
 // A link and its text, under the last name of the path.

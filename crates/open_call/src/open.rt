@@ -101,10 +101,8 @@ fn open_file(t: &Tables, p: Pid, who: Subject, flags: OpenFlags, s: Slot) -> Dec
 fn open_mode(t: &Tables, p: Pid, who: Subject, flags: Option<OpenFlags>, s: Slot) -> Decision
     ensures { result ≡ open_mode t.now.policy.now (file_in t.now) (open_in t.now) (desc_in t.now) p who flags s }
 {
-    match flags {
-        Some(flags) => open_file(t, p, who, flags, s),
-        None => Err(Refusal::Malformed.into()),
-    }
+    let flags = flags.ok_or(Refusal::Malformed)?;
+    open_file(t, p, who, flags, s)
 }
 
 #[tactic(auto, using(rules::proofs::Choices::steps), unfolding(rules::specs::DecidePaths::decide_open, rules::specs::Checks::after))]

@@ -33,7 +33,8 @@ use Rattle.preservation.proofs.StoreChanges.{tables_of}
 use Rattle.preservation.proofs.Shown.{block-length}
 use Rattle.preservation.proofs.SoundStore.{AllSound, means-sound}
 use Rattle.preservation.proofs.OpenEffects.{held-open}
-use Rattle.preservation.proofs.Prompts.{count_most, bytes-in}
+use Rattle.preservation.proofs.Prompts.{bytes-in}
+use Rattle.rules.proofs.Prompts.{count_most}
 use Rattle.preservation.proofs.Granted.{in_use_lem, holds}
 use Rattle.preservation.proofs.TestedOnce.{untaken, borrow-by}
 use Rattle.preservation.proofs.Kept.{same-file, unchanged}

@@ -15,16 +15,8 @@ use Rattle.rules.specs.Rom.{next_prompt, prompt_length, rom_from, prompt_count, 
 use Rattle.rules.specs.Step.{bytes_of}
 use Rattle.rules.specs.declared.ids.Slot.{Slot}
 use Rattle.rules.proofs.Tests.{test}
+use Rattle.rules.proofs.Prompts.{count_most}
 use Rattle.rules.proofs.Seen.{seen_stored}
-
-pub count_most : (n : ℕ) (X : List ℕ) → prompt_count n X ≤ n
-unfolding prompt_count
-count_most zero X = omega arith
-count_most (suc n) X = by (eqb (length X) 0) (count_most n (next_prompt X))
-  where
-    by : (b : Bool) → prompt_count n (next_prompt X) ≤ n → cond b 0 (suc (prompt_count n (next_prompt X))) ≤ suc n
-    by true l = omega arith
-    by false l = omega arith
 
 -- ---- a prompt of a sound part has at most 512 bytes
 

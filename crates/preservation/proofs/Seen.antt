@@ -26,7 +26,7 @@ use Rattle.preservation.proofs.SoundStore.{SoundStore, agree}
 use Rattle.preservation.proofs.NameEffects.{row_of}
 use Rattle.preservation.proofs.PathNames.{GoodName}
 use Rattle.preservation.proofs.DirentRow.{dirent-length, row-name, row-slot}
-use Rattle.preservation.proofs.Prompts.{count_most}
+use Rattle.rules.proofs.Prompts.{count_most}
 
 same_at : (r t : ℕ → ℕ) → same_row r t ≡ true → (k : ℕ) → k < NAME → r k ≡ t k
 unfolding same_row

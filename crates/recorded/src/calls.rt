@@ -1,7 +1,7 @@
 // A stored call: the buffer's size, then the call as it is written down.
 ghost use Rattle.std.specs.Prelude.{◌≡◌, ltb, length};
 ghost use Rattle.rules.specs.Store.{store};
-ghost use Rattle.rules.specs.Calls.{call_of};
+ghost use Rattle.tables.specs.Tables.{asked};
 ghost use Rattle.store.specs.Lent.{lent};
 ghost use Rattle.recorded.specs.Called.{called_on, left_of, called_tables, read_of, request_in, is_cut, texts, path_length, record_called};
 
@@ -37,22 +37,15 @@ fn call_part(
     policy: &[u8; POLICY_ROOM],
     rom: &[u8],
     sizes: Sizes,
-    c: Request,
-    path: &[u8],
-    data: &[u8],
+    call: &Call,
     buffer: &mut [u8],
 ) -> Answer
-    ensures { lent result buffer.new (store files.new contents.new open_files.new processes.new) ≡ called_on sizes policy.now rom.now (store files.old contents.old open_files.old processes.old) (call_of c path.now «data».now buffer.old) }
+    ensures { lent result buffer.new (store files.new contents.new open_files.new processes.new) ≡ called_on sizes policy.now rom.now (store files.old contents.old open_files.old processes.old) (asked call.now buffer.old) }
 {
     let f = sizes.files.min(files.len());
     let n = sizes.contents.min(contents.len());
     let e = sizes.open_files.min(open_files.len());
     let p = sizes.processes.min(processes.len());
-    let call = Call {
-        request: c,
-        path: path,
-        data: data,
-    };
     store::call::call(
         &mut files[..f],
         &mut contents[..n],
@@ -60,7 +53,7 @@ fn call_part(
         &mut processes[..p],
         upto(policy, sizes.policy),
         rom,
-        &call,
+        call,
         buffer,
     )
 }
@@ -79,9 +72,9 @@ fn read_of<'a>(c: Request, buffer: &'a [u8]) -> &'a [u8]
 
 // The tables after it; its line is written.
 #[tactic(auto, unfolding(crate::specs::Called::called_tables))]
-fn make_call(mut t: Tables, c: Request, path: &[u8], data: &[u8], buffer: &mut [u8]) -> Tables
-    ensures tables { result ≡ called_tables t (call_of c path.now «data».now buffer.old) }
-    ensures buffer { buffer.new ≡ (left_of t (call_of c path.now «data».now buffer.old)).buffer }
+fn make_call(mut t: Tables, call: &Call, buffer: &mut [u8]) -> Tables
+    ensures tables { result ≡ called_tables t (asked call.now buffer.old) }
+    ensures buffer { buffer.new ≡ (left_of t (asked call.now buffer.old)).buffer }
 {
     let answer = call_part(
         &mut t.files,
@@ -91,12 +84,10 @@ fn make_call(mut t: Tables, c: Request, path: &[u8], data: &[u8], buffer: &mut [
         &t.policy,
         t.rom.bytes(),
         t.sizes,
-        c,
-        path,
-        data,
+        call,
         buffer,
     );
-    print_answer(answer, read_of(c, buffer));
+    print_answer(answer, read_of(call.request, buffer));
     print_digest(digest(&t, buffer));
     t
 }
@@ -124,15 +115,14 @@ pub(crate) fn call_record(s: Tables, body: &[u8]) -> Result<Tables, Stop>
         return Err(Stop::Broken);
     }
     let mut buffer = [170u8; 1024];
-    let call = after(body, 2);
-    let length = usize::from(get_or(call, 5, 0));
-    let rest = after(call, 6);
+    let written = after(body, 2);
+    let length = usize::from(get_or(written, 5, 0));
+    let texts = after(written, 6);
+    let call = Call {
+        request: request(written),
+        path: upto(texts, length),
+        data: after(texts, length),
+    };
     let n = usize::from(short_at(body, 0)).min(1024);
-    Ok(make_call(
-        s,
-        request(call),
-        upto(rest, length),
-        after(rest, length),
-        &mut buffer[..n],
-    ))
+    Ok(make_call(s, &call, &mut buffer[..n]))
 }

@@ -17,7 +17,7 @@ use tables::files::shown;
 use tables::layout::ROM;
 use tables::numbers::smaller;
 use tables::parts::{after, upto};
-use tables::words::{copy, get_or};
+use tables::words::copy;
 
 // An answer of numbers alone.
 #[tactic(auto, unfolding(rules::specs::Directories::padded))]
@@ -45,9 +45,7 @@ fn padded_name(name: &[u8]) -> [u8; 16]
     ensures { result ≡ padded 16 name.now }
 {
     let mut all = [0u8; 16];
-    for k in 0..16 {
-        all[k] = get_or(name, k, 0);
-    }
+    copy(&mut all, 0, upto(name, 16));
     all
 }
 
@@ -57,12 +55,9 @@ fn answer_named(value: u32, name: &[u8]) -> Answer
     ensures { result ≡ named value (min (length name.now) 16) (padded 16 name.now) }
 {
     Answer {
-        refusal: 0,
-        stop: 0,
-        value: value,
         name_length: smaller(name.len(), 16),
         name: padded_name(name),
-        fields: [0; 8],
+        ..plain_answer(0, 0, value)
     }
 }
 
@@ -115,14 +110,10 @@ fn answer_fields(value: u32, r: Record) -> Answer
 {
     let bits = r.bits;
     Answer {
-        refusal: 0,
-        stop: 0,
-        value: value,
-        name_length: 0,
-        name: [0; 16],
         fields: [
             r.kind, r.owner, r.group, bits.0, r.label, r.length, r.links, r.version,
         ],
+        ..plain_answer(0, 0, value)
     }
 }
 

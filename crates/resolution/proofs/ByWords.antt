@@ -2,7 +2,7 @@
 use Prim.Native.Nat.{ℕ, zero, suc, ◌+◌, ◌*◌}
 use mathlib.Core.Path.{◌≡◌, refl, ap, ◌∙◌}
 use mathlib.Core.Bool.{Bool, true, false, cond}
-use mathlib.Core.List.{List, [], ◌∷◌, ◌++◌}
+use mathlib.Core.List.{List, [], ◌∷◌}
 use native.Mathlib.Omega.{arith}
 use borrow.Author.Tests.{ltb-true}
 use lib.Dec.{eqb, ltb}
@@ -20,6 +20,7 @@ use Rattle.rules.specs.declared.decision.Location.{Location}
 use Rattle.rules.specs.declared.decision.Intent.{Intent}
 use Rattle.rules.specs.declared.decision.Intent.TheVariants.{Find, Follow, Create}
 use Rattle.rules.proofs.Tests.{both}
+use Rattle.rules.proofs.Written.{bytes-append}
 use Rattle.tables.specs.NameWords.{low_word, high_word}
 use Rattle.directories.specs.Seen.{found}
 use Rattle.directories.proofs.ByWords.{Bytes, same-dirent}
@@ -40,11 +41,6 @@ take-bytes (suc n) (x ∷ xs) h (suc k) = take-bytes n xs (λ j. h (suc j)) k
 shown-bytes : (F C : List ℕ) (s : ℕ) → Bytes C → Bytes (shown_of F C s)
 unfolding shown_of
 shown-bytes F C s h = drop-bytes (hidden F s) (block C s) (take-bytes 512 (drop (512 * s) C) (drop-bytes (512 * s) C h))
-
-append-bytes : (xs ys : List ℕ) → Bytes xs → Bytes ys → Bytes (xs ++ ys)
-append-bytes [] ys a b k = b k
-append-bytes (x ∷ xs) ys a b zero = a 0
-append-bytes (x ∷ xs) ys a b (suc k) = append-bytes xs ys (λ j. a (suc j)) b k
 
 padded-bytes : (n : ℕ) (xs : List ℕ) → Bytes xs → Bytes (padded n xs)
 unfolding padded
@@ -69,7 +65,7 @@ unfolding seen_dirents
 seen_bytes R dirents s h = by (eqb s 0) (eqb s ROM)
   where
     by : (a b : Bool) → Bytes (cond a (with_rom (dirents 0)) (cond b (rom_dirents R) (dirents s)))
-    by true b = unfold with_rom in append-bytes (padded 256 (dirents 0)) (dirent ROM_NAME (slot ROM)) (padded-bytes 256 (dirents 0) (h 0)) (are-bytes (dirent ROM_NAME (slot ROM)) (unfold are_bytes dirent padded in refl))
+    by true b = unfold with_rom in bytes-append (padded 256 (dirents 0)) (dirent ROM_NAME (slot ROM)) (padded-bytes 256 (dirents 0) (h 0)) (are-bytes (dirent ROM_NAME (slot ROM)) (unfold are_bytes dirent padded in refl))
     by false true = take-bytes (16 * prompt_count PROMPTS R) (prompt_dirents 0 PROMPTS) (are-bytes (prompt_dirents 0 PROMPTS) (unfold are_bytes prompt_dirents dirent padded in refl))
     by false false = h s
 

@@ -30,8 +30,8 @@ fn read_word(path: &[u8], at: usize, most: u32) -> Word
     ensures { result ≡ word_from most path.now at }
 {
     let mut word: u64 = 0;
-    let mut i = at;
     for k in 0..most {
+        let i = at + k as usize;
         if path.len() <= i {
             return Word { word: word, end: i };
         }
@@ -40,9 +40,11 @@ fn read_word(path: &[u8], at: usize, most: u32) -> Word
             return Word { word: word, end: i };
         }
         word += (b as u64) << (8 * k);
-        i += 1;
     }
-    Word { word: word, end: i }
+    Word {
+        word: word,
+        end: at + most as usize,
+    }
 }
 
 // The name that starts at `start`, up to the next slash. Of a name of more than 14 bytes the words have the first 14.

@@ -86,10 +86,8 @@ fn look_up(
     if !rom::seen::is_directory(t.files, at.slot) {
         return Err(Refusal::NotADirectory.at(k));
     }
-    match permission_over(t, who, at.slot, Rights::EXECUTE) {
-        Ok(()) => enter(at, k, intent, find_in(t, at.slot, low, high)),
-        Err(refusal) => Err(refusal.at(k)),
-    }
+    permission_over(t, who, at.slot, Rights::EXECUTE).map_err(|refusal| refusal.at(k))?;
+    enter(at, k, intent, find_in(t, at.slot, low, high))
 }
 
 // The root, where so many links may still be followed.
@@ -145,10 +143,7 @@ fn is_followed(files: &[u32], s: Slot, intent: Intent) -> bool
 fn stop_at(k: u32, w: Walk) -> Walk
     ensures { result ≡ stop_at k w }
 {
-    match w {
-        Ok(at) => Ok(at),
-        Err(stop) => Err(stop.refusal.at(k)),
-    }
+    w.map_err(|stop| stop.refusal.at(k))
 }
 
 // Where the k-th name leads: through a link that is to be followed, to where the walk along its text comes.

@@ -1,14 +1,10 @@
--- The part read by recursion: each turn takes one prompt and hands on what follows it.
-use Prim.Native.Nat.{ℕ, zero, suc, ◌+◌, ◌-◌, ◌≤◌, ◌<◌, min}
+-- The part read by loops: each turn takes one prompt and leaves what follows it.
+use Prim.Native.Nat.{ℕ, suc, ◌+◌, ◌-◌, ◌≤◌, ◌<◌, min}
 use mathlib.Core.Path.{◌≡◌, refl, sym, ◌∙◌, ap}
-use mathlib.Core.Bool.{Bool, true, false, not, cond}
-use mathlib.Core.List.{List, [], ◌∷◌}
-use native.Mathlib.Numerals.{sub-one}
+use mathlib.Core.Bool.{Bool, true, false, cond}
+use mathlib.Core.List.{List, []}
 use native.Mathlib.Nat.{min_comm}
 use native.Mathlib.Omega.{arith}
-use borrow.Author.Tests.{not-true, not-false, ne_eqb}
-use mir.Syntax.{w32}
-use mir.Val.{Fits}
 use lib.Dec.{eqb, ltb}
 use lib.ListN.{length, drop, length-take}
 use Rattle.rules.specs.Choice.{every}
@@ -16,70 +12,70 @@ use Rattle.rules.specs.Layout.{PROMPTS}
 use Rattle.rules.specs.Rom.{prompt_length, first_prompt, prompt, next_prompt, rom_from, prompt_count, prompt_sound, prompts_sound}
 use Rattle.rom.specs.Rest.{prompt_rest}
 
-pub from-here : (k : ℕ) (X : List ℕ) → k ≡ 0 → X ≡ rom_from k X
-unfolding rom_from
-from-here k X e = rw e
+-- The loops: what is asked of the whole part is asked of the rest, after as many prompts as turns.
+pub from-start : (k : ℕ) (X : List ℕ) → rom_from (k - 0) X ≡ rom_from k X
+from-start k X = let e : k - 0 ≡ k = omega arith in rw e refl
 
-pub from_next : (k : ℕ) (X Y Z : List ℕ) → (k ≡ 0 → ⊥) → Y ≡ next_prompt X → Z ≡ rom_from (k - 1) Y → Z ≡ rom_from k X
-unfolding rom_from
-from_next zero X Y Z h y z = absurd (h refl)
-from_next (suc k) X Y Z h y z = rw (← y) (rw sub-one at z)
+module _ (k i : ℕ) (X : List ℕ) {Z : List ℕ} (v : rom_from (k - i) X ≡ Z) where
+  pub from-step : {Y : List ℕ} → i < k → Y ≡ next_prompt X → rom_from (k - (i + 1)) Y ≡ Z
+  unfolding rom_from
+  from-step h y = let e : k - i ≡ suc (k - (i + 1)) = omega arith in rw y (rw e at v)
 
-most : (b : Bool) (m n : ℕ) → m ≤ n → cond b 0 (suc m) ≤ suc n
-most true m n h = omega arith
-most false m n h = omega (arith, h)
+  pub from-done : k ≤ i → X ≡ Z
+  unfolding rom_from
+  from-done h = let e : k - i ≡ 0 = omega arith in rw e at v
 
-pub count_most : (n : ℕ) (X : List ℕ) → prompt_count n X ≤ n
-unfolding prompt_count
-count_most zero X = omega arith
-count_most (suc n) X = most (eqb (length X) 0) (prompt_count n (next_prompt X)) n (count_most n (next_prompt X))
+pub count-start : (n : ℕ) (X : List ℕ) → 0 + prompt_count (n - 0) X ≡ prompt_count n X
+count-start n X = let e : n - 0 ≡ n = omega arith in rw e (omega arith)
 
--- so that one more is a word, where n is
-pub count_fits : (n z : ℕ) (Y : List ℕ) → (n ≡ 0 → ⊥) → n < 4294967296 → z ≡ prompt_count (n - 1) Y → Fits w32 (1 + z)
-count_fits n z Y h w e = record { fits = omega (arith, count_most (n - 1) Y, e, h, w) }
+module _ (n k : ℕ) (X : List ℕ) {z : ℕ} (v : k + prompt_count (n - k) X ≡ z) where
+  pub count-ended : {r : Bool} → k < n → r ≡ eqb (length X) 0 → r ≡ true → k ≡ z
+  unfolding prompt_count
+  count-ended h q t =
+      let e : n - k ≡ suc (n - (k + 1)) = omega arith in
+      let w : prompt_count (n - k) X ≡ 0 = rw (e, sym q ∙ t) refl in
+      omega arith
 
-pub count_none : (n : ℕ) (X : List ℕ) → n ≡ 0 → 0 ≡ prompt_count n X
-unfolding prompt_count
-count_none n X e = rw e
+  pub count-step : {r : Bool} {Y : List ℕ} → k < n → r ≡ eqb (length X) 0 → r ≡ false → Y ≡ next_prompt X → k + 1 + prompt_count (n - (k + 1)) Y ≡ z
+  unfolding prompt_count
+  count-step h q f y =
+      let e : n - k ≡ suc (n - (k + 1)) = omega arith in
+      let w : prompt_count (n - k) X ≡ suc (prompt_count (n - (k + 1)) (next_prompt X)) = rw (e, sym q ∙ f) refl in
+      rw y (omega arith)
 
-pub count-ended : (n : ℕ) (X : List ℕ) → length X ≡ 0 → 0 ≡ prompt_count n X
-unfolding prompt_count
-count-ended zero X e = refl
-count-ended (suc n) X e = rw e
+  pub count-done : n ≤ k → k ≤ n → n ≡ z
+  unfolding prompt_count
+  count-done h l =
+      let e : n - k ≡ 0 = omega arith in
+      let w : prompt_count (n - k) X ≡ 0 = rw e refl in
+      omega arith
 
-pub count_next : (n z : ℕ) (X Y : List ℕ) → (n ≡ 0 → ⊥) → (length X ≡ 0 → ⊥) → Y ≡ next_prompt X → z ≡ prompt_count (n - 1) Y → 1 + z ≡ prompt_count n X
-unfolding prompt_count
-count_next zero z X Y h l y e = absurd (h refl)
-count_next (suc n) z X Y h l y e =
-    let q : suc n - 1 ≡ n = omega arith in
-    rw (ne_eqb (length X) 0 l, ← y, ← q, ← e) (omega arith)
+pub sound-start : (n : ℕ) (X : List ℕ) → prompts_sound (n - 0) X ≡ prompts_sound n X
+sound-start n X = let e : n - 0 ≡ n = omega arith in rw e refl
 
-pub sound-ended : (n : ℕ) (X : List ℕ) → length X ≡ 0 → true ≡ prompts_sound n X
-unfolding prompts_sound
-sound-ended zero X e = rw e
-sound-ended (suc n) X e = rw e
+module _ (n i : ℕ) (X : List ℕ) {z : Bool} (v : prompts_sound (n - i) X ≡ z) where
+  pub sound-ended : {r : Bool} → i < n → r ≡ eqb (length X) 0 → r ≡ true → true ≡ z
+  unfolding prompts_sound
+  sound-ended h q t = let e : n - i ≡ suc (n - (i + 1)) = omega arith in rw (sym q ∙ t) at (rw e at v)
 
-pub sound-over : (n : ℕ) (X : List ℕ) → (length X ≡ 0 → ⊥) → n ≡ 0 → false ≡ prompts_sound n X
-unfolding prompts_sound
-sound-over n X l e = rw (e, ne_eqb (length X) 0 l)
+  pub sound-broken : {r b : Bool} → i < n → r ≡ eqb (length X) 0 → r ≡ false → b ≡ prompt_sound X → b ≡ false → false ≡ z
+  unfolding prompts_sound every
+  sound-broken h q f p g = let e : n - i ≡ suc (n - (i + 1)) = omega arith in rw (sym p ∙ g) at (rw (sym q ∙ f) at (rw e at v))
 
-opened : (n : ℕ) (X : List ℕ) → (length X ≡ 0 → ⊥) → (n ≡ 0 → ⊥) → prompts_sound n X ≡ every (prompt_sound X ∷ prompts_sound (n - 1) (next_prompt X) ∷ [])
-unfolding prompts_sound
-opened zero X l h = absurd (h refl)
-opened (suc n) X l h = let q : suc n - 1 ≡ n = omega arith in rw (q, ne_eqb (length X) 0 l)
-
-module _ (n : ℕ) (X : List ℕ) (l : length X ≡ 0 → ⊥) (h : n ≡ 0 → ⊥) where
-  pub sound-broken : (r : Bool) → r ≡ prompt_sound X → not r ≡ true → false ≡ prompts_sound n X
-  unfolding every
-  sound-broken r q e = rw (opened n X l h, sym q ∙ not-true r e)
-
-  pub sound-next : (r z : Bool) (Y : List ℕ) → r ≡ prompt_sound X → not r ≡ false → Y ≡ next_prompt X → z ≡ prompts_sound (n - 1) Y → z ≡ prompts_sound n X
-  unfolding every
-  sound-next r z Y q e y p = rw (opened n X l h, sym q ∙ not-false r e, ← y) (p ∙ last (prompts_sound (n - 1) Y))
+  pub sound-step : {r b : Bool} {Y : List ℕ} → i < n → r ≡ eqb (length X) 0 → r ≡ false → b ≡ prompt_sound X → b ≡ true → Y ≡ next_prompt X
+      → prompts_sound (n - (i + 1)) Y ≡ z
+  unfolding prompts_sound every
+  sound-step h q f p t y =
+      let e : n - i ≡ suc (n - (i + 1)) = omega arith in
+      rw y (last (prompts_sound (n - (i + 1)) (next_prompt X)) ∙ rw (sym p ∙ t) at (rw (sym q ∙ f) at (rw e at v)))
     where
       last : (b : Bool) → b ≡ cond b true false
       last true = refl
       last false = refl
+
+  pub sound-done : {r : Bool} → n ≤ i → r ≡ eqb (length X) 0 → r ≡ z
+  unfolding prompts_sound
+  sound-done h q = let e : n - i ≡ 0 = omega arith in q ∙ rw e at v
 
 pub first-length : (X A : List ℕ) (m z : ℕ) → A ≡ drop 2 X → m ≡ prompt_length X → z ≡ min (length A) m → z ≡ length (first_prompt X)
 first-length X A m z a e p = p ∙ rw (a, e, length-take (prompt_length X) (drop 2 X)) (min_comm (length (drop 2 X)) (prompt_length X))

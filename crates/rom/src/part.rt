@@ -13,7 +13,7 @@ use tables::words::get_or;
 fn prompt_length(part: &[u8]) -> u32
     ensures { result ≡ prompt_length part.now }
 {
-    (get_or(part, 0, 0) as u32) + 256 * (get_or(part, 1, 0) as u32)
+    u32::from(u16::from_le_bytes([get_or(part, 0, 0), get_or(part, 1, 0)]))
 }
 
 // What follows the first prompt.
@@ -27,10 +27,11 @@ fn next_prompt(part: &[u8]) -> &[u8]
 fn rom_from(k: u32, part: &[u8]) -> &[u8]
     ensures { result.now ≡ rom_from k part.now }
 {
-    if k == 0 {
-        return part;
+    let mut part = part;
+    for _ in 0..k {
+        part = next_prompt(part);
     }
-    rom_from(k - 1, next_prompt(part))
+    part
 }
 
 // The bytes of the first prompt.
@@ -84,13 +85,14 @@ pub fn prompt_size(rom: &[u8], k: u32) -> u32
 fn count_from(n: u32, part: &[u8]) -> u32
     ensures { result ≡ prompt_count n part.now }
 {
-    if n == 0 {
-        return 0;
+    let mut part = part;
+    for k in 0..n {
+        if part.is_empty() {
+            return k;
+        }
+        part = next_prompt(part);
     }
-    if part.len() == 0 {
-        return 0;
-    }
-    1 + count_from(n - 1, next_prompt(part))
+    n
 }
 
 pub fn prompt_count(rom: &[u8]) -> u32
@@ -112,16 +114,17 @@ fn prompt_sound(part: &[u8]) -> bool
 fn prompts_sound(n: u32, part: &[u8]) -> bool
     ensures { result ≡ prompts_sound n part.now }
 {
-    if part.len() == 0 {
-        return true;
+    let mut part = part;
+    for _ in 0..n {
+        if part.is_empty() {
+            return true;
+        }
+        if !prompt_sound(part) {
+            return false;
+        }
+        part = next_prompt(part);
     }
-    if n == 0 {
-        return false;
-    }
-    if !prompt_sound(part) {
-        return false;
-    }
-    prompts_sound(n - 1, next_prompt(part))
+    part.is_empty()
 }
 
 // The factory part is sound.

@@ -4,6 +4,7 @@ pub mod Tests
 pub mod Scans
 pub mod Chains
 pub mod Seen
+pub mod Prompts
 pub mod Lists
 pub mod Ranges
 pub mod Written

@@ -111,7 +111,7 @@ round_trip w h = accepts (normal w) (numbers_fit_lem (parts_of w) w) h
 
 -- ---- each part has the bytes that it is given
 
-bytes-append : (xs ys : List ℕ) → Bytes xs → Bytes ys → Bytes (xs ++ ys)
+pub bytes-append : (xs ys : List ℕ) → Bytes xs → Bytes ys → Bytes (xs ++ ys)
 bytes-append [] ys h t i = t i
 bytes-append (x ∷ xs) ys h t zero = h 0
 bytes-append (x ∷ xs) ys h t (suc i) = bytes-append xs ys (λ j. h (suc j)) t i

@@ -15,6 +15,7 @@ use Rattle.rules.proofs.Scans.{all-at}
 use Rattle.rules.proofs.Tests.{test}
 use Rattle.script_rules.specs.Computing.{computing}
 use Rattle.script_rules.specs.Text.{ZERO, is_digit, digits_from, number_of, leads, length_ok, number_ok, digits, decimal, is_letter, is_hex, hex_value, bytes_of, hex_digit, hex_of}
+use Rattle.script_rules.proofs.Digits.{grows}
 use Rattle.script_claims.proofs.Lists.{Pass}
 use Rattle.script_claims.proofs.Texts.{digits-snoc}
 
@@ -45,16 +46,11 @@ only : (d : ℕ) → Pass is_digit (d ∷ []) → is_digit d ≡ true
 unfolding Pass
 only d h = h.0
 
-digits-grow : (n : ℕ) (ds : List ℕ) → n ≤ digits_from n ds
-unfolding digits_from
-digits-grow n [] = omega arith
-digits-grow n (d ∷ ds) = omega (arith, digits-grow (n * 10 + (d - ZERO)) ds)
-
 -- digits of which the first is not 0 write no 0
 leading-some : (ds : List ℕ) → Pass is_digit ds → 1 ≤ length ds → (get_or ds 0 0 ≡ ZERO → ⊥) → 1 ≤ number_of ds
 unfolding digits_from Pass
 leading-some [] p l z = absurd (omega arith)
-leading-some (d ∷ ds) p l z = omega (arith, z, digit-range d p.0, digits-grow (0 * 10 + (d - ZERO)) ds)
+leading-some (d ∷ ds) p l z = omega (arith, z, digit-range d p.0, grows (0 * 10 + (d - ZERO)) ds)
 
 one-digit : (k d : ℕ) → 48 ≤ d → d ≤ 57 → digits (suc k) (0 * 10 + (d - ZERO)) ≡ d ∷ []
 unfolding digits

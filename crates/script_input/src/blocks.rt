@@ -1,6 +1,6 @@
 // A block: six lines.
 ghost use Rattle.std.specs.Prelude.{◌≡◌, [], ◌∷◌, length};
-ghost use Rattle.rules.specs.Choice.{every, implies};
+ghost use Rattle.rules.specs.Choice.{every};
 ghost use Rattle.rules.specs.Calls.{operation_of, uses};
 ghost use Rattle.rules.specs.Written.{numbers_fit};
 ghost use Rattle.script_rules.specs.Text.{bytes_of};
@@ -82,25 +82,18 @@ pub fn bytes_count(t: &[u8]) -> usize
 }
 
 // A part that is unused is 0.
-#[tactic(auto, unfolding(rules::specs::Choice::implies))]
-fn left_out(unused: bool, zero: bool) -> bool
-    ensures { result ≡ implies unused zero }
-{
-    !unused || zero
-}
-
-#[tactic(auto, unfolding(rules::specs::Written::numbers_fit, rules::specs::Choice::every))]
+#[tactic(auto, unfolding(rules::specs::Written::numbers_fit, rules::specs::Choice::every, rules::specs::Choice::implies))]
 fn numbers_used(u: Parts, n: Numbers) -> bool
     ensures { result ≡ numbers_fit u (numbered n [] []) }
 {
-    left_out(!u.fd, n.fd == 0) && left_out(!u.number, n.number == 0)
+    (u.fd || n.fd == 0) && (u.number || n.number == 0)
 }
 
-#[tactic(auto, unfolding(crate::specs::Read::lengths_used, rules::specs::Choice::every))]
+#[tactic(auto, unfolding(crate::specs::Read::lengths_used, rules::specs::Choice::every, rules::specs::Choice::implies))]
 fn lengths_used(u: Parts, p: usize, b: usize) -> bool
     ensures { result ≡ lengths_used u p b }
 {
-    left_out(u.path == 0, p == 0) && left_out(u.data == 0, b == 0)
+    (u.path != 0 || p == 0) && (u.data != 0 || b == 0)
 }
 
 #[tactic(auto, unfolding(rules::specs::Choice::every))]

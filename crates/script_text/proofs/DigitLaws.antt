@@ -2,7 +2,7 @@
 use Prim.Native.Nat.{ℕ, ◌+◌, ◌-◌, ◌*◌, ◌≤◌, ◌<◌}
 use mathlib.Core.Path.{◌≡◌, refl, sym, ◌∙◌}
 use mathlib.Core.Bool.{false}
-use mathlib.Core.List.{List, [], ◌∷◌}
+use mathlib.Core.List.{List}
 use native.Mathlib.Numerals.{add-one}
 use native.Mathlib.Omega.{arith}
 use lib.Dec.{leb}
@@ -11,13 +11,8 @@ use lib.ListN.{length, get_or, drop, drop_of_length-le}
 use lib.Seq.{drop-cons}
 use Rattle.std.specs.Prelude.{Some, None}
 use Rattle.script_rules.specs.Text.{digits_from}
+use Rattle.script_rules.proofs.Digits.{grows}
 use Rattle.script_text.specs.Numbers.{narrow}
-
--- more digits never make a number smaller
-pub grows : (n : ℕ) (ds : List ℕ) → n ≤ digits_from n ds
-unfolding digits_from
-grows n [] = omega arith
-grows n (d ∷ ds) = omega (arith, grows (n * 10 + (d - 48)) ds)
 
 module _ (p : List ℕ) (n i : ℕ) {z : ℕ} (inv : digits_from n (drop i p) ≡ z) where
   module _ (l : i < length p) {v : ℕ} (q : v ≡ get_or p i 0 - 48) where

@@ -21,7 +21,7 @@ use Rattle.rules.proofs.Scans.{all_same, all_of}
 use Rattle.counts.specs.Counts.{SLOTS_AND_NONE, links, parents, held}
 use Rattle.soundness.specs.Counted.{other_than, links_sound_by, climbs_by, directory_sound_by, kind_sound_by, slot_sound_by, open_sound_by, open_below}
 use Rattle.counts.proofs.Counting.{first-le}
-use Rattle.rom.proofs.Prompts.{count_most}
+use Rattle.rules.proofs.Prompts.{count_most}
 use Rattle.counts.proofs.Counts.{links-at, parents-at, held_at}
 
 climbs-by : (t : Tree) (n d : ℕ) → d < SLOTS_AND_NONE → climbs_by (parents t) n d ≡ climbs t n d

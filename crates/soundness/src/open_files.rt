@@ -2,7 +2,8 @@
 ghost use Rattle.std.specs.Prelude.{◌≡◌};
 ghost use Rattle.rules.specs.Scan.{all};
 ghost use Rattle.rules.specs.Layout.{OPEN_FILE_WIDTH, OPEN_FILES, FILE_WIDTH};
-ghost use Rattle.rules.specs.Store.{tab, desc_of};
+ghost use Rattle.rules.specs.Store.{tab};
+ghost use Rattle.tables.specs.Tables.{stored, open_in, desc_in};
 ghost use Rattle.rules.specs.Sound.{open_free, on_plain_file, open_used, open_sound, opens_within};
 ghost use Rattle.soundness.specs.Counted.{open_sound_by};
 
@@ -13,6 +14,7 @@ use rules::rights::OpenMode;
 use tables::files::is_plain;
 use tables::ids::is_slot;
 use tables::layout::{LENGTH_MAX, OPEN_FILES, SLOTS};
+use tables::lent::Tables;
 use tables::open_files::{mode, offset, references, slot_of};
 use tables::words::get_or;
 
@@ -68,12 +70,12 @@ fn all_open_files_sound(files: &[u32], open_files: &[u32], held: &[u32]) -> bool
     (0..OPEN_FILES).all(|e| open_sound(files, open_files, held, Ofd(e)))
 }
 
-pub fn open_files_sound(files: &[u32], open_files: &[u32], processes: &[u32]) -> bool
-    ensures { result ≡ all (open_sound (tab FILE_WIDTH files.now) (tab OPEN_FILE_WIDTH open_files.now) (desc_of processes.now)) 0 OPEN_FILES }
+pub fn open_files_sound(t: &Tables) -> bool
+    ensures { result ≡ all (open_sound (stored t.now) (open_in t.now) (desc_in t.now)) 0 OPEN_FILES }
 {
     let mut held = [0; HELD];
-    count_held(processes, &mut held);
-    all_open_files_sound(files, open_files, &held)
+    count_held(t.processes, &mut held);
+    all_open_files_sound(t.files, t.open_files, &held)
 }
 
 // No open file is past the last prompt, and the prompts are counted once.

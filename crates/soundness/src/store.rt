@@ -40,9 +40,7 @@ fn tree_sound(t: &Tables) -> bool
 fn tables_sound(t: &Tables) -> bool
     ensures { result ≡ tables_sound (view (store_in t.now)) }
 {
-    tree_sound(t)
-        && open_files_sound(t.files, t.open_files, t.processes)
-        && processes_sound(t.processes)
+    tree_sound(t) && open_files_sound(t) && processes_sound(t.processes)
 }
 
 #[tactic(auto, unfolding(rules::specs::Sound::store_sound, rules::specs::Choice::every))]

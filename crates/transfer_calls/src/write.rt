@@ -61,6 +61,7 @@ fn fits(at: u32, n: usize) -> bool
     n <= BLOCK && (at as usize) + n <= BLOCK
 }
 
+#[tactic(auto, using(rules::proofs::Choices::steps), unfolding(rules::specs::Decide::write_file))]
 fn write_file(files: &[u32], open_files: &[u32], e: Ofd, at: u32, n: usize) -> Decision
     ensures { result ≡ write_file (files_in files.now) (tab OPEN_FILE_WIDTH open_files.now) e at n }
 {

@@ -1,4 +1,3 @@
-use Prim.Native.Nat.{◌-◌}
 use Rattle.rules.specs.Store.{desc_of}
 use Rattle.allocation.proofs.Descriptors.{Left}
 use Rattle.allocation.proofs.used.word_of.Given as goal

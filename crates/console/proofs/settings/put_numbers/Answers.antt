@@ -1,25 +1,23 @@
-use mathlib.Core.Path.{refl}
+use Prim.Native.Nat.{◌+◌}
+use mathlib.Core.Path.{◌≡◌, refl}
+use native.Mathlib.Omega.{arith}
 use borrow.Author.Rules.{rules}
 use Rattle.console.specs.Settings.{numbers_of}
-use Rattle.console.proofs.SettingLaws.{full, done, none, more}
+use Rattle.console.proofs.SettingLaws.{ended, none, more}
 use Rattle.console.proofs.settings.put_numbers.Goals as goal
 
-pub loop-k-init : goal.loop-k-init
+pub loop-i-init : goal.loop-i-init
 unfolding numbers_of
-loop-k-init c = (refl, refl)
-
-pub returns-then-words-a : goal.returns-then-words-a
-unfolding numbers_of
-returns-then-words-a c = search full
+loop-i-init c = let e : c.args.at + 0 ≡ c.args.at = omega arith in (refl, rw e refl)
 
 pub returns-in_default : goal.returns-in_default
 unfolding numbers_of
-returns-in_default c = none _ _ _ _ c.loop-k.invariant.1 c.loop-k-test.true c.number_at.ensures c.in_default.is
+returns-in_default c = none _ _ _ _ c.loop-i.invariant.1 (omega arith) c.number_at.ensures c.in_default.is
 
-pub loop-k-preserved : goal.loop-k-preserved
+pub loop-i-preserved : goal.loop-i-preserved
 unfolding numbers_of
-loop-k-preserved c = (search rules, more _ _ _ _ c.loop-k.invariant.1 c.loop-k-test.true c.number_at.ensures c.in-Some.is)
+loop-i-preserved c = (search rules, more _ _ _ _ c.loop-i.invariant.1 (omega arith) c.number_at.ensures c.in-Some.is)
 
 pub returns : goal.returns
 unfolding numbers_of
-returns c = search done
+returns c = ended _ _ _ _ c.loop-i.invariant.1 (omega arith)

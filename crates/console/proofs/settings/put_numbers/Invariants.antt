@@ -1,4 +1,5 @@
--- The invariant: with the numbers from word k on stored, the table is as it is to be.
+-- The invariant: with the numbers from i on stored, the table is as it is to be.
+use Prim.Native.Nat.{◌+◌}
 use mathlib.Core.Path.{◌≡◌}
 use mathlib.Core.List.{[]}
 use lib.ListN.{length}
@@ -7,5 +8,5 @@ use Rattle.rules.specs.Scan.{fold}
 use Rattle.console.specs.Settings.{with_number, numbers_of}
 use Rattle.console.proofs.settings.put_numbers.Given as goal
 
-abbrev pub invariant-loop-k : goal.invariant-loop-k
-invariant-loop-k l = (length l.words ≡ length l.initial.words) × (sets l.words l.a (fold (with_number l.line) l.k (length l.line) []) ≡ sets l.initial.words l.at (numbers_of l.line))
+abbrev pub invariant-loop-i : goal.invariant-loop-i
+invariant-loop-i l = (length l.words ≡ length l.initial.words) × (sets l.words (l.at + l.i) (fold (with_number l.line) (4 + l.i) (length l.line) []) ≡ sets l.initial.words l.at (numbers_of l.line))

@@ -1,4 +1,5 @@
 -- An arm for each kind of release, each one write and so one rewriting; the last writes twice, and `after-change` puts its second write behind the first.
+use native.Mathlib.Nat.{add-zero}
 use Rattle.rules.specs.Store.{apply_all}
 use Rattle.rules.specs.Effects.{release_changes}
 use Rattle.rows.proofs.Changes.{after-change}
@@ -14,8 +15,8 @@ returns-in-Kept c = λ P. rw (c.in-Kept.is, c.put.ensures)
 
 pub returns-in-Gone : goal.returns-in-Gone
 unfolding apply_all release_changes
-returns-in-Gone c = λ P. rw (c.in-Gone.is, c.fill.ensures)
+returns-in-Gone c = λ P. rw (c.in-Gone.is, c.fill.ensures, add-zero)
 
 pub returns-in-Freed : goal.returns-in-Freed
 unfolding release_changes
-returns-in-Freed c = λ P. rw c.in-Freed.is (after-change _ _ _ (c.clear_slot.ensures _ _) (rw c.fill-in-Freed.ensures))
+returns-in-Freed c = λ P. rw c.in-Freed.is (after-change _ _ _ (c.clear_slot.ensures _ _) (rw (c.fill-in-Freed.ensures, add-zero)))

@@ -1,33 +1,20 @@
-use Prim.Native.Nat.{ℕ, ◌+◌, ◌-◌, ◌≤◌, ◌<◌}
-use mathlib.Core.Path.{◌≡◌, refl, ◌∙◌}
-use mathlib.Core.List.{List, append-nil}
-use native.Mathlib.Omega.{arith}
-use borrow.Author.Rules.{rules}
-use lib.ListN.{get_or, set, drop, replicate}
-use lib.Seq.{sets, sets-eq}
+use Prim.Native.Nat.{ℕ, zero, suc}
+use mathlib.Core.Path.{◌≡◌, refl, ap}
+use mathlib.Core.List.{List, [], ◌∷◌}
+use lib.ListN.{set, take, replicate}
+use lib.Seq.{sets, take-nil}
 use Rattle.rules.specs.Directories.{padded}
-use Rattle.rules.proofs.Lists.{length-padded, padded-step, padded-done}
 use Rattle.reply.proofs.answer.padded_name.Goals as goal
 
-whole : (Y : List ℕ) → sets (replicate 16 0) 0 (padded 16 Y) ≡ padded 16 Y
-whole Y = sets-eq (padded 16 Y) (replicate 16 0) 0 (omega (arith, length-padded 16 Y)) ∙ rw (length-padded 16 Y) (append-nil (padded 16 Y))
+sets-past : (x : ℕ) (l : List ℕ) (i : ℕ) (vs : List ℕ) → sets (x ∷ l) (suc i) vs ≡ x ∷ sets l i vs
+sets-past x l i [] = refl
+sets-past x l i (v ∷ vs) = sets-past x (set l i v) (suc i) vs
 
-again : (X Y : List ℕ) (k : ℕ) {z : List ℕ} → sets X k (padded (16 - k) (drop k Y)) ≡ z → k < 16 → sets (set X k (get_or Y k 0)) (k + 1) (padded (16 - (k + 1)) (drop (k + 1) Y)) ≡ z
-again X Y k {z} v h =
-    let a : 0 + k ≡ k = omega arith in
-    let b : 0 + (k + 1) ≡ k + 1 = omega arith in
-    rw (a, b) at (padded-step X Y 0 k 16 {z = z} (rw a v) h)
-
-done : (X Y : List ℕ) (k : ℕ) {z : List ℕ} → sets X k (padded (16 - k) (drop k Y)) ≡ z → 16 ≤ k → X ≡ z
-done X Y k {z} v h =
-    let a : 0 + k ≡ k = omega arith in
-    padded-done X Y 0 k 16 {z = z} (rw a v) h
-
-pub loop-k-init : goal.loop-k-init
-loop-k-init c = (refl, whole _)
-
-pub loop-k-preserved : goal.loop-k-preserved
-loop-k-preserved c = (search rules, rw c.get_or.ensures (again _ _ _ c.loop-k.invariant.1 c.loop-k-test.true))
+filled : (n : ℕ) (D : List ℕ) → sets (replicate n 0) 0 (take n D) ≡ padded n D
+unfolding padded
+filled zero D = refl
+filled (suc n) [] = ap (λ (l : List ℕ). 0 ∷ l) (rw (take-nil n) at (filled n []))
+filled (suc n) (x ∷ xs) = rw (sets-past x (replicate n 0) 0 (take n xs)) (ap (λ (l : List ℕ). x ∷ l) (filled n xs))
 
 pub returns : goal.returns
-returns c = done _ _ _ c.loop-k.invariant.1 c.loop-k-test.false
+returns c = rw (c.copy.ensures, c.upto.ensures) (filled 16 _)

@@ -1,5 +1,5 @@
 use Prim.Native.Nat.{ℕ, ◌≤◌, ◌<◌, ◌+◌, ◌-◌}
-use mathlib.Core.Path.{◌≡◌, refl, sym, ◌∙◌}
+use mathlib.Core.Path.{◌≡◌, sym, ◌∙◌}
 use mathlib.Core.Bool.{Bool, true, false, not}
 use mathlib.Core.List.{List}
 use native.Mathlib.Nat.{le_of_lt}
@@ -27,9 +27,6 @@ module _ (p : List ℕ) (at k : ℕ) (z : Option ℕ) (inv : words_read (9 - k) 
 
       more : not r ≡ false → words_read (9 - (k + 1)) (drop e p) (k + 1) ≡ z
       more g = rw (more-words p at s a e b (9 - k) (9 - (k + 1)) k h (omega arith), ← v, not-false r g) at inv
-
-pub loop-k-init : goal.loop-k-init
-loop-k-init c = refl
 
 pub returns-then-path-start : goal.returns-then-path-start
 returns-then-path-start c = search end

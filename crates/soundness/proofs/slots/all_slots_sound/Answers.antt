@@ -1,9 +1,5 @@
-use mathlib.Core.Path.{refl}
 use Rattle.rules.proofs.Scans.{all_yes, all-no, all_done}
 use Rattle.soundness.proofs.slots.all_slots_sound.Goals as goal
-
-pub loop-s-init : goal.loop-s-init
-loop-s-init c = refl
 
 pub loop-s-preserved : goal.loop-s-preserved
 loop-s-preserved c = search all_yes

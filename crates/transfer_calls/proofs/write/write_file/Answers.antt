@@ -8,7 +8,6 @@ use Rattle.rules.specs.Store.{Table}
 use Rattle.rules.specs.Checks.{need}
 use Rattle.rules.specs.Decide.{write_file}
 use Rattle.rules.specs.Decisions.{Decision}
-use Rattle.rules.proofs.Choices.{steps}
 use Rattle.transfer_calls.specs.Stored.{stored}
 use Rattle.rules.specs.declared.ids.Ofd.{Ofd}
 use Rattle.transfer_calls.proofs.write.write_file.Goals as goal
@@ -20,10 +19,6 @@ stores file open_files e at n r d q f g =
     let fits : leb (at + n) 512 ≡ true = sym q ∙ not-false r f in
     let w : n % 2 ^ 32 ≡ n = omega (arith, leb-true (at + n) 512 fits) in
     rw fits (rw w at g)
-
-pub returns-then-not-fits : goal.returns-then-not-fits
-unfolding write_file
-returns-then-not-fits c = search steps
 
 pub returns : goal.returns
 unfolding write_file

@@ -1,4 +1,0 @@
-use Rattle.allocation.proofs.last.freed_record.Goals as goal
-
-pub returns : goal.returns
-returns c = cc
