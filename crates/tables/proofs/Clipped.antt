@@ -1,12 +1,12 @@
 -- What is written into a slice from some place on, as far as the slice goes: the part that is written, and `sets`, which leaves out what lies past the end.
 use Rattle.std.proofs.Common.{◌≡◌, ℕ, zero, suc, ◌+◌, ◌-◌, ◌≤◌, ◌<◌, Bool, true, false, List, [], ◌∷◌, length, take, drop, min, refl, sym, ◌∙◌, arith, leb, replicate, slice_set}
 use Rattle.std.proofs.lemmas.Bool.{leb-true, leb-false}
-use Rattle.std.proofs.lemmas.List.{append_assoc, length-set, length-take, take-replicate}
-use Rattle.std.proofs.lemmas.List.Edits.{sets, sets-eq}
-use Rattle.std.proofs.Math.Seq.{take-nil, drop-drop}
+use Rattle.std.proofs.lemmas.List.{length-set, length-take, take-replicate}
+use Rattle.std.proofs.lemmas.List.Edits.{sets}
+use Rattle.std.proofs.Math.Seq.{take-nil}
+use lib.ListN.{drop_of_length-le}
 use Rattle.std.proofs.Math.Numerals.{add-one, sub-one}
 use Rattle.rules.proofs.Lists.{sets-out, take_all}
-use borrow.Rule.Slice.PartMut.{put_mid, put_same}
 
 module _ {A : Type 0} where
   clipped : (ys xs : List A) (at : ℕ) → sets xs at ys ≡ sets xs at (take (length xs - at) ys)
@@ -51,18 +51,15 @@ module _ {A : Type 0} where
           let q : m ≡ 0 = omega arith in
           rw q (sym (sets-out (replicate n v) xs at (omega arith)))
 
-  pub copied : (xs ys : List A) (at f n : ℕ) (zs : List A) → f ≡ min at (length xs) → n ≡ min (length ys) (length xs - f) → zs ≡ take n ys → put_mid f (f + n - f) xs zs ≡ sets xs at ys
-  copied xs ys at f n zs e d z = by (leb at (length xs)) refl
+  -- as far as the slice goes
+  pub copied : (xs ys : List A) (at f n : ℕ) → f ≡ min at (length xs) → n ≡ min (length ys) (length xs - f) → sets xs f (take n ys) ≡ sets xs at ys
+  copied xs ys at f n e d = by (leb at (length xs)) refl
     where
-      by : (b : Bool) → leb at (length xs) ≡ b → put_mid f (f + n - f) xs zs ≡ sets xs at ys
+      by : (b : Bool) → leb at (length xs) ≡ b → sets xs f (take n ys) ≡ sets xs at ys
       by true l =
           let i : at ≤ length xs = leb-true at (length xs) l in
           let s : f ≡ at = omega arith in
-          let t : zs ≡ take (length xs - at) ys = z ∙ go (leb (length ys) (length xs - at)) refl s in
-          let k : length (take (length xs - at) ys) ≡ min (length xs - at) (length ys) = length-take (length xs - at) ys in
-          let m : at + n - at ≡ n = omega arith in
-          let r : length (take (length xs - at) ys) ≡ n = omega arith in
-          rw (s, t, m) (sym (clipped ys xs at ∙ sets-eq (take (length xs - at) ys) xs at (omega arith) ∙ rw (r, drop-drop n at xs) (append_assoc (take at xs) (take (length xs - at) ys) (drop (at + n) xs))))
+          rw (s, go (leb (length ys) (length xs - at)) refl s) (sym (clipped ys xs at))
         where
           go : (b : Bool) → leb (length ys) (length xs - at) ≡ b → f ≡ at → take n ys ≡ take (length xs - at) ys
           go true k s =
@@ -75,5 +72,8 @@ module _ {A : Type 0} where
       by false l =
           let i : length xs < at = leb-false at (length xs) l in
           let q : n ≡ 0 = omega arith in
-          let m : f + n - f ≡ 0 = omega arith in
-          rw (m, z, q) (put_same f 0 xs ∙ sym (sets-out ys xs at (omega arith)))
+          rw q (sym (sets-out ys xs at (omega arith)))
+
+  -- the first n are copied
+  pub copy-done : (xs ys : List A) (at i n : ℕ) → n ≤ i → sets xs at (drop i (take n ys)) ≡ xs
+  copy-done xs ys at i n h = let e : length (take n ys) ≤ i = omega (arith, length-take n ys) in rw (drop_of_length-le (take n ys) e) refl

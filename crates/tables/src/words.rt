@@ -35,5 +35,7 @@ pub fn copy<T: Copy>(xs: &mut [T], at: usize, ys: &[T])
 {
     let from = at.min(xs.len());
     let n = ys.len().min(xs.len() - from);
-    xs[from..from + n].copy_from_slice(&ys[..n]);
+    for i in 0..n {
+        xs[from + i] = ys[i];
+    }
 }
