@@ -39,7 +39,8 @@ fn drop_one(files: &[u32], open_files: &[u32], e: Ofd) -> Release
     }
 }
 
-// Descriptor i is emptied.
+// Descriptor i is emptied. A close and the turns of an exit make one piece with it.
+#[inline]
 #[tactic(auto, unfolding(rules::specs::Checks::releasing))]
 pub fn release(files: &[u32], open_files: &[u32], processes: &[u32], p: Pid, i: Fd) -> Release
     ensures { result ≡ releasing (files_in files.now) (tab OPEN_FILE_WIDTH open_files.now) (desc_of processes.now) p i }
