@@ -10,6 +10,9 @@ mod printing;
 mod records;
 mod taken;
 
+ghost use Rattle.std.specs.Prelude.{◌≡◌};
+ghost use Rattle.recorded.specs.Records.{short_at};
+
 use records::{Stop, Tables, empty, short_at};
 use tables::parts::upto;
 use taken::take;
@@ -25,13 +28,20 @@ fn take_rest(s: Tables, kind: u8, size: u16) -> Result<Tables, Stop> {
     take(s, kind, size, upto(&rest, n))
 }
 
+// How many bytes follow, of the record that begins so.
+fn size_of(start: &[u8; 3]) -> u16
+    ensures { result ≡ short_at start.now 1 }
+{
+    short_at(start, 1)
+}
+
 // A record is its kind, how many bytes follow (2 bytes, little end first), and these.
 fn turn(s: Tables) -> Result<Tables, Stop> {
     let mut start = [0u8; 3];
     match io::read_full(0, &mut start) {
         0 => Err(Stop::Ended),
         1 | 2 => Err(Stop::Broken),
-        _ => take_rest(s, start[0], short_at(&start, 1)),
+        _ => take_rest(s, start[0], size_of(&start)),
     }
 }
 

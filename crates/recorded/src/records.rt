@@ -4,7 +4,7 @@ ghost use Rattle.recorded.specs.Records.{short_at, word_at, words_set, bytes_set
 
 use tables::layout::{CONTENTS_SIZE, FILES_SIZE, OPEN_FILES_SIZE, POLICY_SIZE, PROCESSES_SIZE};
 use tables::parts::{after, upto};
-use tables::words::{copy, get_or, put};
+use tables::words::{copy, get_or};
 
 // Room for one word more than the tables should have.
 const FILES_ROOM: usize = FILES_SIZE + 1;
@@ -138,8 +138,9 @@ pub(crate) fn put_words(words: &mut [u32], body: &[u8])
 {
     let at = place_at(body, 0);
     let rest = after(body, 4);
-    for i in 0..rest.len() / 4 {
-        put(words, at + i, word_at(rest, 4 * i));
+    let room = words.len().saturating_sub(at);
+    for i in 0..room.min(rest.len() / 4) {
+        words[at + i] = word_at(rest, 4 * i);
     }
 }
 
