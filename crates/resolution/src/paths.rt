@@ -10,14 +10,14 @@ use tables::layout::{NAME, NAMES, PATH};
 use tables::words::get_or;
 
 #[tactic(auto, unfolding(rules::specs::Paths::is_slash))]
-pub(crate) fn is_slash(b: u8) -> bool
+pub fn is_slash(b: u8) -> bool
     ensures { result ≡ is_slash b }
 {
     b == b'/'
 }
 
 #[tactic(auto, unfolding(rules::specs::Paths::not_slash))]
-fn not_slash(b: u8) -> bool
+pub fn not_slash(b: u8) -> bool
     ensures { result ≡ not_slash b }
 {
     b != b'/'
@@ -25,10 +25,10 @@ fn not_slash(b: u8) -> bool
 
 // A byte that may stand in a name.
 #[tactic(auto, unfolding(crate::specs::Parse::inner, rules::specs::Paths::not_slash, rules::specs::Paths::not_zero, rules::specs::Choice::every))]
-fn is_inner(b: u8) -> bool
+pub fn is_inner(b: u8) -> bool
     ensures { result ≡ inner b }
 {
-    b != b'/' && b != 0
+    not_slash(b) && b != 0
 }
 
 // Where the run of bytes that pass the test, which starts at `at`, ends.
@@ -44,19 +44,19 @@ fn span_end<F: Fn(u8) -> bool>(path: &[u8], at: usize, test: F) -> usize
     at.max(path.len())
 }
 
-pub(crate) fn slashes_end(path: &[u8], at: usize) -> usize
+pub fn slashes_end(path: &[u8], at: usize) -> usize
     ensures { result ≡ at + span is_slash (drop at path.now) }
 {
     span_end(path, at, is_slash)
 }
 
-pub(crate) fn name_end(path: &[u8], at: usize) -> usize
+pub fn name_end(path: &[u8], at: usize) -> usize
     ensures { result ≡ at + span not_slash (drop at path.now) }
 {
     span_end(path, at, not_slash)
 }
 
-fn inner_end(path: &[u8], at: usize) -> usize
+pub fn inner_end(path: &[u8], at: usize) -> usize
     ensures { result ≡ at + span inner (drop at path.now) }
 {
     span_end(path, at, is_inner)
