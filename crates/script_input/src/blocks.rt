@@ -6,7 +6,7 @@ ghost use Rattle.rules.specs.Written.{numbers_fit};
 ghost use Rattle.script_rules.specs.Text.{bytes_of};
 ghost use Rattle.script_rules.specs.Blocks.{text_of, data_line_ok, text_lines_ok, parts_ok, from_path};
 ghost use Rattle.script_rules.specs.declared.line.Line.TheVariants as line;
-ghost use Rattle.script_input.specs.Read.{number_read, numbers_read, numbered, lengths_used, read_ok};
+ghost use Rattle.script_input.specs.Read.{number_read, numbers_read, numbered, numbers_ok, lengths_used, read_ok};
 
 use crate::requests::as_byte;
 use rules::request::Parts;
@@ -15,13 +15,16 @@ use script_text::lines::{after_line, line_ok, text};
 use script_text::numbers::read_number;
 use tables::calls::{operation_of, uses};
 
-// A block's numbers.
+// A script's largest number.
+pub(crate) const NUMBER_MAX: u32 = 65535;
+
+// A block's numbers. Those of a block that is read are at most `NUMBER_MAX`.
 #[derive(Clone, Copy)]
 pub struct Numbers {
-    pub process: u16,
-    pub call: u16,
-    pub fd: u16,
-    pub number: u16,
+    pub process: u32,
+    pub call: u32,
+    pub fd: u32,
+    pub number: u32,
 }
 
 // The number of a line, none where the line is broken.
@@ -45,10 +48,10 @@ pub fn read_numbers(s: &[u8]) -> Option<Numbers>
     let from_fd = after_line(from_call, Line::Call);
     let from_arg = after_line(from_fd, Line::Fd);
     Some(Numbers {
-        process: number_in(s, Line::Proc)?,
-        call: number_in(from_call, Line::Call)?,
-        fd: number_in(from_fd, Line::Fd)?,
-        number: number_in(from_arg, Line::Arg)?,
+        process: u32::from(number_in(s, Line::Proc)?),
+        call: u32::from(number_in(from_call, Line::Call)?),
+        fd: u32::from(number_in(from_fd, Line::Fd)?),
+        number: u32::from(number_in(from_arg, Line::Arg)?),
     })
 }
 
@@ -58,6 +61,16 @@ pub fn from_path(s: &[u8]) -> &[u8]
 {
     let from_fd = after_line(after_line(s, Line::Proc), Line::Call);
     after_line(after_line(from_fd, Line::Fd), Line::Arg)
+}
+
+#[tactic(auto, unfolding(crate::specs::Read::numbers_ok, crate::specs::Read::head_ok, crate::specs::Read::operands_ok, rules::specs::Choice::every))]
+fn numbers_ok(n: Numbers) -> bool
+    ensures { result ≡ numbers_ok n }
+{
+    n.process <= NUMBER_MAX
+        && n.call <= NUMBER_MAX
+        && n.fd <= NUMBER_MAX
+        && n.number <= NUMBER_MAX
 }
 
 #[tactic(auto, unfolding(script_rules::specs::Blocks::data_line_ok, script_rules::specs::Text::hex_ok, rules::specs::Choice::every))]
@@ -106,7 +119,7 @@ fn parts_used(u: Parts, n: Numbers, p: usize, b: usize) -> bool
 fn parts_ok(n: Numbers, p: &[u8], d: &[u8]) -> bool
     ensures { result ≡ parts_ok (uses (operation_of n.call)) (numbered n (text_of line.Path p.now) (bytes_of (text_of line.Data d.now))) }
 {
-    let u = uses(operation_of(as_byte(u32::from(n.call))));
+    let u = uses(operation_of(as_byte(n.call)));
     parts_used(
         u,
         n,
@@ -115,10 +128,10 @@ fn parts_ok(n: Numbers, p: &[u8], d: &[u8]) -> bool
     )
 }
 
-// Whether a block whose numbers were read is unbroken: of its numbers, its path's line on, its data's line on.
+// Whether a block is unbroken: of its numbers, its path's line on, its data's line on.
 #[tactic(auto, unfolding(crate::specs::Read::read_ok, rules::specs::Choice::every))]
 pub fn block_ok(n: Numbers, p: &[u8], d: &[u8]) -> bool
     ensures { result ≡ read_ok n p.now d.now }
 {
-    text_lines_ok(p, d) && parts_ok(n, p, d)
+    numbers_ok(n) && text_lines_ok(p, d) && parts_ok(n, p, d)
 }

@@ -2,17 +2,18 @@
 ghost use Rattle.std.specs.Prelude.{◌≡◌, [], ◌∷◌, leb};
 ghost use Rattle.rules.specs.Choice.{every};
 ghost use Rattle.rules.specs.Layout.{BLOCK};
+ghost use Rattle.rules.specs.Written.{capped};
 ghost use Rattle.script_rules.specs.Replay.{as_byte, reads, reads_too_much, call_for, room_for};
 ghost use Rattle.script_input.specs.Read.{numbered, request_for};
 
-use crate::blocks::Numbers;
+use crate::blocks::{NUMBER_MAX, Numbers};
 use rules::ids::{Fd, Pid};
 use rules::request::Request;
 use tables::calls::{operation_of, uses};
 use tables::layout::BLOCK;
 
 // The most that a read may ask for in a script.
-const READ_MAX: u16 = BLOCK as u16;
+const READ_MAX: u32 = BLOCK as u32;
 
 // No process, call or descriptor has a number over 255: all such are as 255.
 #[tactic(auto, unfolding(script_rules::specs::Replay::as_byte))]
@@ -22,10 +23,18 @@ pub fn as_byte(n: u32) -> u8
     n.min(255) as u8
 }
 
+// No number of a call is over 65,535: all such are as 65,535.
+#[tactic(auto, unfolding(rules::specs::Written::capped))]
+fn as_number(n: u32) -> u16
+    ensures { result ≡ capped n }
+{
+    n.min(NUMBER_MAX) as u16
+}
+
 fn is_read(n: Numbers) -> bool
     ensures { result ≡ reads (numbered n [] []) }
 {
-    uses(operation_of(as_byte(u32::from(n.call)))).reads
+    uses(operation_of(as_byte(n.call))).reads
 }
 
 #[tactic(auto, unfolding(script_rules::specs::Replay::reads_too_much, rules::specs::Choice::every))]
@@ -43,7 +52,7 @@ fn call_for(n: Numbers) -> u8
     if reads_too_much(n) {
         0
     } else {
-        as_byte(u32::from(n.call))
+        as_byte(n.call)
     }
 }
 
@@ -67,9 +76,9 @@ pub fn request_for(n: Numbers) -> Request
     ensures { result ≡ request_for n }
 {
     Request {
-        process: Pid(as_byte(u32::from(n.process))),
+        process: Pid(as_byte(n.process)),
         call: call_for(n),
-        fd: Fd(as_byte(u32::from(n.fd))),
-        number: n.number,
+        fd: Fd(as_byte(n.fd)),
+        number: as_number(n.number),
     }
 }

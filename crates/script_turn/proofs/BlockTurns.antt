@@ -18,9 +18,9 @@ use Rattle.script_rules.specs.Replay.{next_call}
 use Rattle.script_rules.specs.declared.line.Line.TheVariants as line
 use Rattle.script_rules.specs.declared.replayed.Reason.{Reason}
 use Rattle.script_rules.specs.declared.replayed.Reason.TheVariants as reason
-use Rattle.script_input.specs.Read.{numbers_in, numbers_read, read_ok}
+use Rattle.script_input.specs.Read.{numbers_in, numbers_read, read_ok, block_read_ok}
 use Rattle.script_input.specs.declared.blocks.Numbers.{Numbers}
-use Rattle.script_input.proofs.BlockLaws.{block-unread, numbers-block, call-asked}
+use Rattle.script_input.proofs.BlockLaws.{block_read, call-asked}
 use Rattle.script_turn.specs.Turns.{Served, served, served_by, block_served, Turned, turned, text_if, turn_of, answered_of, block_turn}
 
 -- what a result that was made of an Option says of it
@@ -63,13 +63,22 @@ module _ (fit : Bool) (K : Fixed) (S out : List ℕ) (at : ℕ) (s : Store) wher
   by-room true e = rw e
   by-room false e = rw e
 
+  -- what was read of the numbers, and the block
+  read-block : number_lines_ok S ≡ true → read_ok (numbers_in S) (from_path S) (from_data S) ≡ block_ok S
+  unfolding block_read_ok
+  read-block g = let b = block_read S in rw g at b
+
+  unread-block : number_lines_ok S ≡ false → false ≡ block_ok S
+  unfolding block_read_ok
+  unread-block g = let b = block_read S in rw g at b
+
   block-turn : number_lines_ok S ≡ true → block_turn fit K S (numbers_in S) (from_path S) (from_data S) out at s ≡ block (block_ok S)
   unfolding block_turn
   block-turn g = by (block_ok S) refl
     where
       by : (t : Bool) → block_ok S ≡ t → cond (read_ok (numbers_in S) (from_path S) (from_data S)) (as_served (block_served fit K (numbers_in S) (from_path S) (from_data S) out at s)) (turned (Err reason.Broken) out s) ≡ block (block_ok S)
-      by true e = rw (numbers-block S g, e, call-asked S) (by-room (leb (length (text_if fit K S s)) (length out - at)) refl)
-      by false e = rw (numbers-block S g, e)
+      by true e = rw (read-block g, e, call-asked S g) (by-room (leb (length (text_if fit K S s)) (length out - at)) refl)
+      by false e = rw (read-block g, e)
 
   module _ (n : ℕ) where
     pub ended : eqb (length S) 0 ≡ true → turned (Err reason.End) out s ≡ turn_of fit n K S out at s
@@ -89,7 +98,7 @@ module _ (fit : Bool) (K : Fixed) (S out : List ℕ) (at : ℕ) (s : Store) wher
             by : (t : Bool) → number_lines_ok S ≡ t → None ≡ cond t (Some (numbers_in S)) None
                 → turned (Err reason.Broken) out s ≡ cond (eqb (length S) 0) (turned (Err reason.End) out s) (cond (eqb n 0) (turned (Err reason.Allowance) out s) (block (block_ok S)))
             by true g q = absurd (none-some (numbers_in S) q)
-            by false g q = rw (more, ne_eqb n 0 some, block-unread S g)
+            by false g q = rw (more, ne_eqb n 0 some, ← unread-block g)
 
         pub goes : (x : Turned) (m : Numbers) (P D : List ℕ) → r ≡ Some m → P ≡ from_path S → D ≡ after_line line.Path P → x ≡ block_turn fit K S m P D out at s → x ≡ turn_of fit n K S out at s
         unfolding turn_of
