@@ -1,9 +1,10 @@
 -- The lines of a script and the words of a line.
-use Rattle.std.specs.Prelude.{ℕ, Bool, not, List, [], eqb, length, Option}
+use Rattle.std.specs.Prelude.{ℕ, ◌+◌, Bool, cond, not, List, [], eqb, ltb, length, take, drop, Option}
 use Rattle.std.specs.List.{slice_split, slice_get, filter, take_while, position}
 use Rattle.std.specs.Option.{unwrap_or}
 use Rattle.std.specs.Str.{bytes_eq}
-use Rattle.script_rules.specs.Text.{NEWLINE}
+use Rattle.rules.specs.Paths.{span}
+use Rattle.script_rules.specs.Text.{NEWLINE, not_newline}
 
 abbrev pub SPACE : ℕ
 SPACE = 32
@@ -11,9 +12,28 @@ SPACE = 32
 abbrev pub has_bytes : List ℕ → Bool
 has_bytes l = not (eqb (length l) 0)
 
+-- ---- lines
+
+-- how long the line is that has the place `at` of the script, from there on
+abbrev pub line_length : List ℕ → (at : ℕ) → ℕ
+line_length script at = span not_newline (drop at script)
+
+abbrev pub line_at : List ℕ → (at : ℕ) → List ℕ
+line_at script at = take (line_length script at) (drop at script)
+
+-- where that line ends
+abbrev pub line_end : List ℕ → (at : ℕ) → ℕ
+line_end script at = at + line_length script at
+
+-- and the next begins
+unfoldable pub next_line : List ℕ → (at : ℕ) → ℕ
+next_line script at = cond (ltb (line_end script at) (length script)) (line_end script at + 1) (line_end script at)
+
 -- the lines of a script's head: an empty one ends it
 unfoldable pub head_of : List ℕ → List (List ℕ)
 head_of script = take_while has_bytes (slice_split (λ b. eqb b NEWLINE) script)
+
+-- ---- words
 
 -- what stands between spaces
 abbrev pub between : List ℕ → List (List ℕ)

@@ -15,7 +15,7 @@ ghost use Rattle.console.specs.Lines.{is_silent, kind_of, kind_taken, kind_known
 use borrows::asked_line;
 use settings::{Console, empty, fresh, set_line, show_line};
 use tables::words::get_or;
-use words::{index_of, word};
+use words::{index_of, line_at, next_line, word};
 
 // What a line begins with that is no call and no borrowing read.
 #[derive(Clone, Copy)]
@@ -76,13 +76,19 @@ fn end_line(known: bool, n: usize) {
     io::write_all(1, b"\n");
 }
 
+// A script has at most as many lines as bytes.
 fn run(script: &[u8]) {
     let mut s = empty();
-    for (n, whole) in script.split_inclusive(|b| *b == b'\n').enumerate() {
-        let line = whole.strip_suffix(b"\n").unwrap_or(whole);
+    let mut at = 0;
+    for n in 1..=script.len() {
+        if script.len() <= at {
+            return;
+        }
+        let line = line_at(script, at);
         io::write_all(1, line);
         let known = take(&mut s, script, line);
-        end_line(known, n + 1);
+        end_line(known, n);
+        at = next_line(script, at);
     }
 }
 

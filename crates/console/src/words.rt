@@ -1,6 +1,40 @@
-// The words of a line.
+// The lines of a script and the words of a line.
 ghost use Rattle.std.specs.Prelude.{◌≡◌, length, ◌≤◌, IfSome};
-ghost use Rattle.console.specs.Words.{word_of, index_of};
+ghost use Rattle.console.specs.Words.{line_length, line_at, line_end, next_line, word_of, index_of};
+
+use tables::parts::{after, upto};
+
+// How long the line is that has the place `at` of the script, from there on.
+fn line_length(script: &[u8], at: usize) -> usize
+    ensures { result ≡ line_length script.now at }
+{
+    after(script, at)
+        .iter()
+        .take_while(|b| **b != b'\n')
+        .count()
+}
+
+// That line.
+pub(crate) fn line_at(script: &[u8], at: usize) -> &[u8]
+    ensures { result.now ≡ line_at script.now at }
+{
+    upto(after(script, at), line_length(script, at))
+}
+
+fn line_end(script: &[u8], at: usize) -> usize
+    ensures { result ≡ line_end script.now at }
+{
+    at + line_length(script, at)
+}
+
+// Where the next line begins.
+#[tactic(auto, unfolding(crate::specs::Words::next_line))]
+pub(crate) fn next_line(script: &[u8], at: usize) -> usize
+    ensures { result ≡ next_line script.now at }
+{
+    let end = line_end(script, at);
+    if end < script.len() { end + 1 } else { end }
+}
 
 // Word k of a line, counted from 0; empty past the last.
 pub(crate) fn word(line: &[u8], k: usize) -> &[u8]
