@@ -213,10 +213,13 @@ pub(crate) fn set_line(s: &mut Console, line: &[u8]) -> bool
     ensures known { result ≡ set_known line.now }
     ensures tables { s.new ≡ line_set line.now s.old }
 {
-    match (number_at(line, 2), number_at(line, 3)) {
-        (Some(i), Some(k)) => set_table(s, table_of(line), i, k, line),
-        _ => false,
-    }
+    let Some(i) = number_at(line, 2) else {
+        return false;
+    };
+    let Some(k) = number_at(line, 3) else {
+        return false;
+    };
+    set_table(s, table_of(line), i, k, line)
 }
 
 // Writes record i of a table of words; of no other.
