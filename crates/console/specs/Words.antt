@@ -39,6 +39,22 @@ head_of script = take_while has_bytes (slice_split (λ b. eqb b NEWLINE) script)
 abbrev pub between : List ℕ → List (List ℕ)
 between l = slice_split (λ b. eqb b SPACE) l
 
+abbrev pub is_space : ℕ → Bool
+is_space b = eqb b SPACE
+
+abbrev pub not_space : ℕ → Bool
+not_space b = not (eqb b SPACE)
+
+-- a line from its first word on, that word, and what follows it
+abbrev pub from_word : List ℕ → List ℕ
+from_word l = drop (span is_space l) l
+
+abbrev pub first_word : List ℕ → List ℕ
+first_word l = take (span not_space (from_word l)) (from_word l)
+
+abbrev pub after_word : List ℕ → List ℕ
+after_word l = drop (span not_space (from_word l)) (from_word l)
+
 -- word k of a line, counted from 0; empty past the last
 unfoldable pub word_of : List ℕ → ℕ → List ℕ
 word_of l k = unwrap_or (slice_get (filter has_bytes (between l)) k) []

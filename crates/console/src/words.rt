@@ -1,6 +1,7 @@
 // The lines of a script and the words of a line.
 ghost use Rattle.std.specs.Prelude.{◌≡◌, length, ◌≤◌, IfSome};
-ghost use Rattle.console.specs.Words.{line_length, line_at, line_end, next_line, word_of, index_of};
+ghost use Rattle.rules.specs.Paths.{span};
+ghost use Rattle.console.specs.Words.{line_length, line_at, line_end, next_line, is_space, not_space, from_word, first_word, after_word, word_of, index_of};
 
 use tables::parts::{after, upto};
 
@@ -36,14 +37,53 @@ pub(crate) fn next_line(script: &[u8], at: usize) -> usize
     if end < script.len() { end + 1 } else { end }
 }
 
-// Word k of a line, counted from 0; empty past the last.
+// How many spaces a line begins with.
+fn spaces(line: &[u8]) -> usize
+    ensures { result ≡ span is_space line.now }
+{
+    line.iter().take_while(|b| **b == b' ').count()
+}
+
+// How many bytes stand before a line's first space.
+fn word_length(line: &[u8]) -> usize
+    ensures { result ≡ span not_space line.now }
+{
+    line.iter().take_while(|b| **b != b' ').count()
+}
+
+// A line from its first word on.
+fn from_word(line: &[u8]) -> &[u8]
+    ensures { result.now ≡ from_word line.now }
+{
+    after(line, spaces(line))
+}
+
+// The first word; empty where there is none.
+fn first_word(line: &[u8]) -> &[u8]
+    ensures { result.now ≡ first_word line.now }
+{
+    let rest = from_word(line);
+    upto(rest, word_length(rest))
+}
+
+// What follows the first word.
+fn after_word(line: &[u8]) -> &[u8]
+    ensures { result.now ≡ after_word line.now }
+{
+    let rest = from_word(line);
+    after(rest, word_length(rest))
+}
+
+// Word k of a line, counted from 0; empty past the last. A scan of the bytes, since a split at spaces makes a part for
+// each of them.
 pub(crate) fn word(line: &[u8], k: usize) -> &[u8]
     ensures { result.now ≡ word_of line.now k }
 {
-    line.split(|b| *b == b' ')
-        .filter(|w| !w.is_empty())
-        .nth(k)
-        .unwrap_or(&[])
+    let mut rest = line;
+    for _ in 0..k {
+        rest = after_word(rest);
+    }
+    first_word(rest)
 }
 
 // Which word of a list is this one. The list has one space between words.
