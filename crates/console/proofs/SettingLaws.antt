@@ -1,6 +1,6 @@
 -- Laws of the lines that set tables.
 use Prim.Native.Nat.{ℕ, ◌+◌, ◌-◌, min, ◌≤◌, ◌<◌}
-use mathlib.Core.Path.{◌≡◌, refl, sym, ◌∙◌}
+use mathlib.Core.Path.{◌≡◌, refl, sym, ◌∙◌, ap}
 use mathlib.Core.Bool.{Bool, true, false}
 use mathlib.Core.List.{List, []}
 use native.Mathlib.Numerals.{add-one}
@@ -13,9 +13,15 @@ use Rattle.std.specs.Prelude.{Option, Some, None}
 use Rattle.rules.specs.Scan.{fold}
 use Rattle.rules.proofs.Scans.{fold_step, fold_done}
 use Rattle.rules.proofs.Lists.{sets-out}
-use Rattle.console.specs.Numbers.{number_at}
+use Rattle.console.specs.Words.{first_word, past_words}
+use Rattle.console.specs.Numbers.{number_in, number_at}
 use Rattle.console.specs.Settings.{before, with_number}
 use Rattle.console.specs.declared.settings.Rom.{Rom}
+use Rattle.console.proofs.WordLaws.{word_past}
+
+-- word k as a number, of a line that is taken word by word
+pub number_past : (l : List ℕ) (k : ℕ) {r w : List ℕ} {o : Option ℕ} → r ≡ past_words k l → w ≡ first_word r → o ≡ number_in w → o ≡ number_at l k
+number_past l k p q e = e ∙ ap number_in (q ∙ ap first_word p ∙ sym (word_past k l))
 
 -- ---- the numbers of a line: those before word k are stored, the next comes to a
 

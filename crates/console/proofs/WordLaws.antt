@@ -1,5 +1,5 @@
 -- Laws of the words of a line: the parts between its spaces that have bytes, taken from the front.
-use Prim.Native.Nat.{ℕ, suc, ◌+◌, ◌-◌, ◌≤◌, ◌<◌}
+use Prim.Native.Nat.{ℕ, zero, suc, ◌+◌, ◌-◌, ◌≤◌, ◌<◌}
 use mathlib.Core.Path.{◌≡◌, refl, sym, ◌∙◌, ap}
 use mathlib.Core.Bool.{Bool, true, false, cond, not}
 use mathlib.Core.List.{List, [], ◌∷◌}
@@ -10,7 +10,7 @@ use lib.ListN.{length, take, drop}
 use Rattle.std.specs.List.{slice_split, slice_get, onto_first, filter}
 use Rattle.std.specs.Option.{unwrap_or}
 use Rattle.rules.specs.Paths.{span}
-use Rattle.console.specs.Words.{has_bytes, is_space, first_word, after_word, word_of}
+use Rattle.console.specs.Words.{has_bytes, is_space, first_word, after_word, past_words, word_of}
 
 has : (x : ℕ) (l : List ℕ) → has_bytes (x ∷ l) ≡ true
 has x l = let e : eqb (suc (length l)) 0 ≡ false = ne_eqb (suc (length l)) 0 (λ q. omega arith) in rw e refl
@@ -111,11 +111,6 @@ module _ (p : ℕ → Bool) where
   pub next : (l : List ℕ) (k : ℕ) → slice_get (words l) (suc k) ≡ slice_get (words (back (from l))) k
   next l k = sym (ap (λ w. slice_get w (suc k)) (words-from l)) ∙ word-suc (from l) k (none_left l)
 
--- ---- the loop: word k of the line is word k - i of what follows i words
-
-pub word-start : (k : ℕ) (l : List ℕ) → word_of l (k - 0) ≡ word_of l k
-word-start k l = let e : k - 0 ≡ k = omega arith in rw e refl
-
 word-next : (l : List ℕ) (k : ℕ) → word_of l (suc k) ≡ word_of (after_word l) k
 unfolding word_of
 word-next l k = ap (λ w. unwrap_or w []) (next is_space l k)
@@ -124,9 +119,30 @@ word-first : (l : List ℕ) → word_of l 0 ≡ first_word l
 unfolding word_of
 word-first l = zeroth is_space l
 
-module _ (k i : ℕ) (l : List ℕ) {z : List ℕ} (v : word_of l (k - i) ≡ z) where
-  pub word-step : {m : List ℕ} → i < k → m ≡ after_word l → word_of m (k - (i + 1)) ≡ z
-  word-step h q = let e : k - i ≡ suc (k - (i + 1)) = omega arith in rw q (sym (word-next l (k - (i + 1))) ∙ rw e at v)
+-- ---- a line past its first k words
 
-  pub word-done : {w : List ℕ} → k ≤ i → w ≡ first_word l → w ≡ z
-  word-done h q = let e : k - i ≡ 0 = omega arith in q ∙ sym (word-first l) ∙ rw e at v
+pub word_past : (k : ℕ) (l : List ℕ) → word_of l k ≡ first_word (past_words k l)
+unfolding past_words
+word_past zero l = word-first l
+word_past (suc k) l = word-next l k ∙ word_past k (after_word l)
+
+past-suc : (k : ℕ) (l : List ℕ) → past_words (suc k) l ≡ after_word (past_words k l)
+unfolding past_words
+past-suc zero l = refl
+past-suc (suc k) l = past-suc k (after_word l)
+
+pub past-more : (k : ℕ) (l : List ℕ) {r s : List ℕ} → r ≡ past_words k l → s ≡ after_word r → s ≡ past_words (k + 1) l
+past-more k l p q = let e : k + 1 ≡ suc k = omega arith in rw e (q ∙ ap after_word p ∙ sym (past-suc k l))
+
+-- taken word by word: what the whole line is to leave is left of the rest, after as many words as turns
+pub past-start : (k : ℕ) (l : List ℕ) → past_words (k - 0) l ≡ past_words k l
+past-start k l = let e : k - 0 ≡ k = omega arith in rw e refl
+
+module _ (k i : ℕ) (l : List ℕ) {z : List ℕ} (v : past_words (k - i) l ≡ z) where
+  pub past-step : {m : List ℕ} → i < k → m ≡ after_word l → past_words (k - (i + 1)) m ≡ z
+  unfolding past_words
+  past-step h q = let e : k - i ≡ suc (k - (i + 1)) = omega arith in rw q (rw e at v)
+
+  pub past-done : k ≤ i → l ≡ z
+  unfolding past_words
+  past-done h = let e : k - i ≡ 0 = omega arith in rw e at v

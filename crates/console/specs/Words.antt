@@ -1,5 +1,5 @@
 -- The lines of a script and the words of a line.
-use Rattle.std.specs.Prelude.{ℕ, ◌+◌, Bool, cond, not, List, [], eqb, ltb, length, take, drop, Option}
+use Rattle.std.specs.Prelude.{ℕ, zero, suc, ◌+◌, Bool, cond, not, List, [], eqb, ltb, length, take, drop, Option}
 use Rattle.std.specs.List.{slice_split, slice_get, filter, take_while, position}
 use Rattle.std.specs.Option.{unwrap_or}
 use Rattle.std.specs.Str.{bytes_eq}
@@ -54,6 +54,11 @@ first_word l = take (span not_space (from_word l)) (from_word l)
 
 abbrev pub after_word : List ℕ → List ℕ
 after_word l = drop (span not_space (from_word l)) (from_word l)
+
+-- what follows its first k words
+unfoldable pub past_words : ℕ → List ℕ → List ℕ
+past_words zero l = l
+past_words (suc k) l = past_words k (after_word l)
 
 -- word k of a line, counted from 0; empty past the last
 unfoldable pub word_of : List ℕ → ℕ → List ℕ

@@ -3,10 +3,10 @@ ghost use Rattle.std.specs.Prelude.{◌≡◌, ◌+◌, ◌≤◌, ◌<◌, min}
 ghost use Rattle.std.proofs.lemmas.List.Edits.{sets};
 ghost use Rattle.console.specs.Settings.{empty_tables, place_in, numbers_of, numbers_end, ends_well, text_fits, words_set, bytes_set, ROM_ROOM, rom_of, rom_put, rom_set, table_of, is_shown, line_shown, table_set, table_known, line_set, set_known, fresh_tables};
 
-use crate::numbers::number_at;
+use crate::numbers::{number, number_at};
 use crate::printing::print_record;
 use crate::texts::text_of;
-use crate::words::{index_of, word};
+use crate::words::{after_word, first_word, index_of, past_words, word};
 use tables::layout::{
     BLOCK, CONTENTS_SIZE, FILE_WIDTH, FILES_SIZE, LABELS, OPEN_FILE_WIDTH, OPEN_FILES_SIZE,
     POLICY_SIZE, PROCESS_WIDTH, PROCESSES_SIZE, RIGHTS_SIZE,
@@ -81,13 +81,19 @@ pub(crate) fn empty() -> Console
     }
 }
 
-// The first word from word 4 on that is no number.
+// The first word from word 4 on that is no number. The line is taken word by word: to find each word from the line's
+// start would scan it once for each number.
 fn numbers_end(line: &[u8]) -> usize
     ensures { result ≡ numbers_end line.now }
 {
-    (4..line.len())
-        .find(|k| number_at(line, *k).is_none())
-        .unwrap_or(line.len())
+    let mut rest = past_words(line, 4);
+    for k in 4..line.len() {
+        if number(first_word(rest)).is_none() {
+            return k;
+        }
+        rest = after_word(rest);
+    }
+    line.len()
 }
 
 // The values of a line, from word 4 on, are numbers.
@@ -103,11 +109,13 @@ fn put_numbers(words: &mut [u32], at: usize, line: &[u8])
     ensures { words.new ≡ sets words.old at (numbers_of line.now) }
 {
     let room = words.len().saturating_sub(at);
+    let mut rest = past_words(line, 4);
     for i in 0..room.min(line.len().saturating_sub(4)) {
-        let Some(n) = number_at(line, 4 + i) else {
+        let Some(n) = number(first_word(rest)) else {
             return;
         };
         words[at + i] = n;
+        rest = after_word(rest);
     }
 }
 

@@ -1,7 +1,7 @@
 // The lines of a script and the words of a line.
 ghost use Rattle.std.specs.Prelude.{◌≡◌, length, ◌≤◌, IfSome};
 ghost use Rattle.rules.specs.Paths.{span};
-ghost use Rattle.console.specs.Words.{line_length, line_at, line_end, next_line, is_space, not_space, from_word, first_word, after_word, word_of, index_of};
+ghost use Rattle.console.specs.Words.{line_length, line_at, line_end, next_line, is_space, not_space, from_word, first_word, after_word, past_words, word_of, index_of};
 
 use tables::parts::{after, upto};
 
@@ -59,7 +59,7 @@ fn from_word(line: &[u8]) -> &[u8]
 }
 
 // The first word; empty where there is none.
-fn first_word(line: &[u8]) -> &[u8]
+pub(crate) fn first_word(line: &[u8]) -> &[u8]
     ensures { result.now ≡ first_word line.now }
 {
     let rest = from_word(line);
@@ -67,23 +67,29 @@ fn first_word(line: &[u8]) -> &[u8]
 }
 
 // What follows the first word.
-fn after_word(line: &[u8]) -> &[u8]
+pub(crate) fn after_word(line: &[u8]) -> &[u8]
     ensures { result.now ≡ after_word line.now }
 {
     let rest = from_word(line);
     after(rest, word_length(rest))
 }
 
-// Word k of a line, counted from 0; empty past the last. A scan of the bytes, since a split at spaces makes a part for
-// each of them.
-pub(crate) fn word(line: &[u8], k: usize) -> &[u8]
-    ensures { result.now ≡ word_of line.now k }
+// What follows the first k words. A scan of the bytes, since a split at spaces makes a part for each of them.
+pub(crate) fn past_words(line: &[u8], k: usize) -> &[u8]
+    ensures { result.now ≡ past_words k line.now }
 {
     let mut rest = line;
     for _ in 0..k {
         rest = after_word(rest);
     }
-    first_word(rest)
+    rest
+}
+
+// Word k of a line, counted from 0; empty past the last.
+pub(crate) fn word(line: &[u8], k: usize) -> &[u8]
+    ensures { result.now ≡ word_of line.now k }
+{
+    first_word(past_words(line, k))
 }
 
 // Which word of a list is this one. The list has one space between words.

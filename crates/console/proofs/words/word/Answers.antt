@@ -1,11 +1,7 @@
-use Rattle.console.proofs.WordLaws.{word-start, word-step, word-done}
+use mathlib.Core.Path.{◌∙◌, sym, ap}
+use Rattle.console.specs.Words.{first_word}
+use Rattle.console.proofs.WordLaws.{word_past}
 use Rattle.console.proofs.words.word.Goals as goal
 
-pub loop-init : goal.loop-init
-loop-init c = word-start _ _
-
-pub loop-preserved : goal.loop-preserved
-loop-preserved c = word-step _ _ _ c.loop.invariant c.loop-test.true c.after_word-rest.ensures
-
 pub returns : goal.returns
-returns c = word-done _ _ _ c.loop.invariant c.loop-test.false c.first_word.ensures
+returns c = c.first_word.ensures ∙ ap first_word c.past_words.ensures ∙ sym (word_past c.args.k c.args.line.now)
