@@ -67,10 +67,7 @@ pub fn from_path(s: &[u8]) -> &[u8]
 fn numbers_ok(n: Numbers) -> bool
     ensures { result ≡ numbers_ok n }
 {
-    n.process <= NUMBER_MAX
-        && n.call <= NUMBER_MAX
-        && n.fd <= NUMBER_MAX
-        && n.number <= NUMBER_MAX
+    n.process <= NUMBER_MAX && n.call <= NUMBER_MAX && n.fd <= NUMBER_MAX && n.number <= NUMBER_MAX
 }
 
 #[tactic(auto, unfolding(script_rules::specs::Blocks::data_line_ok, script_rules::specs::Text::hex_ok, rules::specs::Choice::every))]

@@ -10,5 +10,5 @@ use Rattle.allocation.proofs.free.free_pid.Goals as goal
 pub returns : goal.returns
 returns c =
     let e : c.unwrap_or.result ≡ first (pid_free (proc_of c.args.processes.now)) 0 PROCESSES =
-        c.unwrap_or.ensures ∙ first_in_range _ _ _ (λ x t q k. search (rules, tests)) _ _ c.find.ensures.ran refl in
+    c.unwrap_or.ensures ∙ first_in_range _ _ _ (λ x t q k. search (rules, tests)) _ _ c.find.ensures.ran refl in
     ap pid_of (omega (arith, e))
